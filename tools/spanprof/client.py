@@ -82,7 +82,7 @@ def ask(words, text):
         raise Fault("%s: %s: %s; README.md tells how it is built" % (
             where, spanprof()[0], error.strerror)) from error
     if done.returncode:
-        raise Refused(words, text, done.stdout.strip())
+        raise Refused(words, text, done.stdout.strip() or "it ended with status %d" % done.returncode)
     return done.stdout
 
 
@@ -113,7 +113,9 @@ def read(path):
     except OSError as error:
         raise Fault("%s: %s" % (path, error.strerror)) from error
     try:
-        ask(["span"], text)
+        told = ask(["span"], text)
     except Refused as refused:
         raise Fault(refused.of(path)) from refused
+    if not told.startswith("segments "):
+        raise Fault("%s does not answer as spanprof does" % " ".join(spanprof()))
     return text

@@ -3,6 +3,7 @@ import subprocess
 import tempfile
 
 from spanprof.answers import named_numbers
+from spanprof.command import naming
 from spanprof.errors import Fault
 from spanprof.folders import places_of, words_for
 from spanprof.refusal import in_file, of_event
@@ -22,6 +23,17 @@ def spanprof_large():
     return words_for("spanprof_large", PLACES)
 
 
+def not_started(program, wrong):
+    return Fault("spanprof_large: %s: %s" % (program[0], wrong.strerror))
+
+
+def run(words, **files):
+    try:
+        return subprocess.run(words, check=False, **files)
+    except OSError as wrong:
+        raise not_started(words, wrong) from wrong
+
+
 def event_in(path, answer):
     """The event of a replay document that is refused, and why; empty for another answer."""
     with open(path, encoding="utf-8", errors="replace", newline="\n") as document:
@@ -30,13 +42,10 @@ def event_in(path, answer):
 
 def replay(program, path):
     """Ends with a fault where the run of a replay document is refused; what else is told of it is not kept."""
-    try:
-        with open(path, "rb") as document, tempfile.TemporaryFile("w+") as told:
-            done = subprocess.run(program + ["replay"], stdin=document, stdout=told, check=False)
-            told.seek(0)
-            answer = told.readline().strip() or "it ended with status %d" % done.returncode
-    except OSError as wrong:
-        raise Fault("spanprof_large: %s" % wrong) from wrong
+    with naming(path), open(path, "rb") as document, tempfile.TemporaryFile("w+") as told:
+        done = run(program + ["replay"], stdin=document, stdout=told)
+        told.seek(0)
+        answer = told.readline().strip() or "it ended with status %d" % done.returncode
     if done.returncode:
         event = event_in(path, answer)
         raise Fault("spanprof_large replay: %s%s" % (answer, "; " + event if event else ""))
@@ -49,11 +58,8 @@ def asked(program, text):
 
 def measure(program, path):
     """Tasks, segments, work and span of the text in a file."""
-    try:
-        with open(path, "rb") as text:
-            done = subprocess.run(program, stdin=text, capture_output=True, text=True, errors="replace", check=False)
-    except OSError as wrong:
-        raise Fault("spanprof_large: %s" % wrong) from wrong
+    with naming(path), open(path, "rb") as text:
+        done = run(program, stdin=text, capture_output=True, text=True, errors="replace")
     if done.returncode:
         answer = done.stdout.strip() or "it ended with status %d" % done.returncode
         more = in_file(path, answer, lambda shorter: asked(program, shorter), LIMITS)

@@ -8,7 +8,7 @@ import os
 import re
 from itertools import dropwhile, islice
 
-TOKEN = re.compile(r"[A-Za-z0-9_]+|[^\sA-Za-z0-9_]")
+TOKEN = re.compile(r"[A-Za-z0-9_]+|[^ \t\r\nA-Za-z0-9_]")
 STATEMENTS = ("work", "task", "taskwait", "taskgroup", "for", "if", "final", "depend", "in", "out", "inout", "inoutset")
 AT_LINE = re.compile(r"error: line (\d+): (\w+)")
 DIVIDER = re.compile(r"---\r?\n?")
@@ -19,7 +19,7 @@ MOST_ASKED = 1 << 22    # bytes of a text in which the wrong token is looked for
 KINDS = {
     "TooLong": "the text has too many bytes: 4,194,304 at most, and 1,048,576 outside blanks and comments",
     "BadHeader": "a text begins with `omptasks 1`, or `omptasks 2` where it has loops",
-    "BadByte": "this character begins no word; `[ ] + -` belong to version 2",
+    "BadByte": "this byte begins no word",
     "BadWord": "this cannot stand here",
     "BadNumber": "a cost is a whole number up to 1,000,000,000,000, an `if` or `final` 0 or 1, a bound at most "
                  "1,000,000",
@@ -32,6 +32,13 @@ KINDS = {
     "TooManyItems": "a task has at most 32 depend items",
     "WorkTooLarge": "all costs together are at most 1,000,000,000,000,000; a larger unit of time helps",
     "TooManyTurns": "all loops together have at most 65,536 turns"}
+COST = "a cost is a whole number up to 1,000,000,000,000"
+NUMBERS = (  # what stands before a number, and which there may be
+    (re.compile(r"\bwork\s*$"), COST),
+    (re.compile(r"\b(if|final)\s*\(\s*$"), "an `if` or `final` has 0 or 1"),
+    (re.compile(r"\bfor\s+\w+\s+(\w+\s+)?$"), "a bound is a whole number up to 1,000,000"),
+    (re.compile(r"\[[^]]*$"), "an index is from -1,000,000 to 1,000,000"))
+OF_VERSION_2 = "[]+-"
 EVENTS = {
     "UnknownWorker": "workers are 0 to 63",
     "UnknownSegment": "the program has no such segment",
@@ -98,22 +105,60 @@ def picture(line, number, token):
     begin, end = token.span() if token else (len(line) - len(line.lstrip()),) * 2
     left = max(0, begin - LONGEST_SHOWN // 2)
     shown = line[left:left + LONGEST_SHOWN].replace("\t", " ")
+    shown = "".join(sign if sign.isprintable() else "?" for sign in shown)
     head = "%5d | " % number
     mark = "^" + "~" * max(0, min(end, left + LONGEST_SHOWN) - begin - 1)
     return ["%s%s" % (head, shown), " " * (len(head) - 2) + "| " + " " * (begin - left) + mark]
+
+
+def of_byte(line, place):
+    """What is wrong with a character that begins no word."""
+    sign, before = line[place], line[:place]
+    if re.search("[\0\ufffd]", line.partition("#")[0]):
+        return "this is no text: it has bytes that no text has"
+    if sign == "\ufeff":
+        return "a text begins without a byte order mark"
+    if re.search(r"\bwork\s+[0-9]*$", before) and sign in ".-+":
+        return COST + ", without a sign or a point"
+    if sign in OF_VERSION_2:
+        return "`%s` belongs to version 2 of the texts, `omptasks 2`" % sign
+    shown = "`%s`" % sign if sign.isascii() and sign.isprintable() else "U+%04X" % ord(sign)
+    return "%s begins no word; blanks are space, tab, CR and LF" % shown
+
+
+def of_number(line, token):
+    """Which numbers there may be in this place; none where that is not known."""
+    if not token.group().isdigit():
+        return "`%s` is no number, and no word begins with a digit" % token.group()
+    return next((range_allowed for before, range_allowed in NUMBERS if before.search(line[:token.start()])), None)
+
+
+def words_at(kind, line, token, general):
+    """What is wrong at a token that was found."""
+    if kind == "BadWord":
+        return "`%s` cannot stand here%s" % (token.group(), meant(token.group()))
+    if kind == "BadByte":
+        return of_byte(line, token.start())
+    if kind == "BadNumber":
+        return of_number(line, token) or general
+    if kind == "BadHeader" and token.group().isdigit():
+        return "there are versions 1 and 2: " + general
+    return general
 
 
 def at_line(name, text, answer, ask, kinds):
     number, kind = AT_LINE.match(answer).groups()
     lines, number = text.split("\n"), int(number)
     words = kinds.get(kind, "")
+    if kind == "BadHeader" and not any(tokens(line) for line in lines):
+        return "%s: the text is empty; %s" % (name, words.replace("a text", "one", 1))
     if not 1 <= number <= len(lines):
         return "%s: %s" % (name, words or answer)
     token = open_brace(lines, number) if kind == "Unclosed" else wrong_token(lines, number, answer, ask)
-    if token is None and kind in ("BadWord", "BadHeader"):
-        words = "the text ends too early" if number >= len(lines) - 1 else words
-    elif token and kind == "BadWord":
-        words = "`%s` cannot stand here%s" % (token.group(), meant(token.group()))
+    if token:
+        words = words_at(kind, lines[number - 1], token, words)
+    elif kind in ("BadWord", "BadHeader") and number >= len(lines) - 1:
+        words = "the text ends too early"
     return "\n".join(["%s:%d: %s: %s" % (name, number, kind, words)] + picture(lines[number - 1], number, token))
 
 

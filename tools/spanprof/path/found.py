@@ -32,7 +32,7 @@ def places_in(statements):
         elif word in BLOCKS:
             naming.begin(word, comment)
         else:
-            raise Fault("`%s` is no statement of version 1, and other texts have no rows here" % word)
+            raise Fault("`%s` is of version 2, and spanprof-path takes texts of version 1" % word)
         if word != "taskgroup":
             yield naming.place
 

@@ -2,6 +2,7 @@
 import subprocess
 
 from spanprof.errors import Fault
+from spanprof.measure import not_started
 
 HEADS = b"segment,task,cost,start,slack,chain\n"
 COLUMNS = 6
@@ -20,7 +21,7 @@ def started(program, text):
     try:
         return subprocess.Popen(program + ["slack"], stdin=text, stdout=subprocess.PIPE, stderr=subprocess.DEVNULL)
     except OSError as wrong:
-        raise Fault("spanprof_large: %s" % wrong) from wrong
+        raise not_started(program, wrong) from wrong
 
 
 def costs_and_chain(lines):

@@ -2,7 +2,7 @@
 import argparse
 import json
 
-from spanprof.command import Console, check_files, count, end_with
+from spanprof.command import Console, check_files, count, end_with, naming
 from spanprof.predict.burden import burdened_text
 from spanprof.predict.estimate import LLVM, RUNTIMES
 from spanprof.predict.machine import machine_file, read_machine
@@ -12,9 +12,9 @@ from spanprof.predict.words import as_json, burden_words, lines
 from spanprof.remarks import in_json
 from spanprof.version import Version
 
-DESCRIPTION = """Tells how long the recorded region would take on some threads, and from which to which time, by a model
-of the runtime's scheduling. Several texts are recordings of one program: of those on one number of threads the median is told,
-and from different numbers it takes how code gets dearer."""
+DESCRIPTION = """Estimates by a model of the runtime's scheduling how long the recorded region would take on some
+threads, as a time and an interval. Several texts are recordings of one program: of those on one number of threads the
+median is told, and those on different numbers show how costs grow with threads."""
 AFTER = """What the runtime takes for a task is that of this machine, which spanprof-record measures once. A
 MINE.scale.json of spanprof-record stands for the recordings that it names.
 Exit status 1: a file is missing, or a text tells no time; 2: wrong words."""
@@ -27,7 +27,8 @@ def numbers(word):
 
 
 def parse(words):
-    parser = argparse.ArgumentParser(prog="spanprof-predict", description=DESCRIPTION, epilog=AFTER, allow_abbrev=False)
+    parser = argparse.ArgumentParser(prog="spanprof-predict", usage="%(prog)s [options] MINE.tasks ..",
+                                     description=DESCRIPTION, epilog=AFTER, allow_abbrev=False)
     add = parser.add_argument
     add("texts", nargs="+", metavar="MINE.tasks", help="the recordings")
     add("--threads", type=numbers, metavar="P,..", help="without it as many as were recorded, and twice as many")
@@ -48,12 +49,12 @@ def answer(chosen):
     several = [texts(word) for word in chosen.texts]
     paths = [path for one in several for path in one.paths]
     for path in paths:
-        check_files(path, chosen.output, "burdened")
-    machine, recordings = read_machine(chosen.machine or machine_file()), by_threads(paths)
+        check_files(path, chosen.output, "burdened text")
+    recordings, machine = by_threads(paths), read_machine(chosen.machine or machine_file())
     found = predictions(recordings, machine, chosen.threads, chosen.runtime)
     if chosen.output:
         one = found[-1][0]
-        with open(chosen.output, "w", encoding="utf-8") as file:
+        with naming(chosen.output), open(chosen.output, "w", encoding="utf-8") as file:
             file.write(burdened_text(one.base.text, one.costs, remark(one)))
     told = recordings[max(recordings)], machine, found, [note for one in several for note in one.notes]
     print(json.dumps(as_json(*told), indent=2) if chosen.json else "\n".join(lines(*told)))

@@ -55,8 +55,8 @@ def as_json(machine):
 
 
 def from_json(told):
-    if told["spanprof machine"] != 1:
-        raise ValueError("its form is of another version")
+    if told.get("spanprof machine") != 1:
+        raise ValueError("`spanprof machine` is not 1 in it")
     threads = {int(number): {name: Measured(**one) for name, one in costs.items()}
                for number, costs in told["threads"].items()}
     about = {name: told[name] for name in ("date", "processor", "runtime") if name in told}
@@ -71,6 +71,8 @@ def read_machine(path):
         return machine
     except OSError as wrong:
         raise Fault("%s: %s; %s" % (path, wrong.strerror, HOW)) from wrong
+    except json.JSONDecodeError as wrong:
+        raise Fault("%s is no model of a machine, as it is no JSON; %s" % (path, HOW)) from wrong
     except (ValueError, KeyError, TypeError, AttributeError) as wrong:
         raise Fault("%s is no model of a machine: %s; %s" % (path, wrong, HOW)) from wrong
 

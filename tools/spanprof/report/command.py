@@ -4,7 +4,7 @@ import json
 import os
 import sys
 
-from spanprof.command import Console, check_files, end_with
+from spanprof.command import Console, check_files, end_with, naming
 from spanprof.errors import Fault
 from spanprof.head import said
 from spanprof.regions import program_of, table_beside
@@ -25,6 +25,7 @@ DESCRIPTION = "Writes one page (HTML that needs no other file and no network) on
 ANSWER = ("work", "span", "was")
 LONGEST_WORDS = 100
 OF_ONE_TEXT = ("other", "trace", "speedscope", "factor", "json", "replay", "live")
+OPTIONS = {"other": "with"}
 
 
 def beside(text):
@@ -34,7 +35,8 @@ def beside(text):
 
 
 def arguments(words):
-    parser = argparse.ArgumentParser(prog="spanprof-report", description=DESCRIPTION)
+    parser = argparse.ArgumentParser(prog="spanprof-report", usage="%(prog)s [options] MINE.tasks",
+                                     description=DESCRIPTION)
     add = parser.add_argument
     add("program", metavar="MINE.tasks", help="the program text")
     add("-o", "--output", metavar="MINE.html",
@@ -64,7 +66,7 @@ def arguments(words):
 
 
 def write(path, text):
-    with open(path, "w", encoding="utf-8", errors="replace") as file:   # a file's name may be no UTF-8
+    with naming(path), open(path, "w", encoding="utf-8", errors="replace") as file:   # a file's name may be no UTF-8
         file.write(text)
 
 
@@ -116,8 +118,10 @@ def write_all(chosen, views, factors):
 
 def write_large_page(chosen, progress):
     """Of a text beyond the limits of spanprof: what needs no table of its segments."""
-    if any(getattr(chosen, option) for option in OF_ONE_TEXT):
-        raise Fault("%s: beyond the limits of spanprof, where there is only a page (-o)" % chosen.program)
+    asked = ["--" + OPTIONS.get(option, option) for option in OF_ONE_TEXT if getattr(chosen, option)]
+    if asked:
+        raise Fault("%s: the text is beyond the limits of spanprof, and has a page (-o), but no %s" % (
+            chosen.program, " or ".join(asked)))
     write(chosen.output, page_of_any_size(LargeView(chosen.program, chosen.threads, chosen.source, progress)))
     progress.end([chosen.output])
 
@@ -148,9 +152,18 @@ def write_program_page(chosen, progress):
     return True
 
 
-def answer(chosen):
+def check(chosen):
+    """Whether all files and folders are there, and none of the files would be lost."""
     for path in filter(None, (chosen.program, chosen.replay, chosen.other)):
-        check_files(path)
+        for output, what in ((chosen.output, "page"), (chosen.trace, "trace"), (chosen.speedscope, "speedscope file")):
+            check_files(path, output, what)
+    for folder in chosen.source or []:
+        if not os.path.isdir(folder):
+            raise Fault("--source %s: no such folder" % folder)
+
+
+def answer(chosen):
+    check(chosen)
     progress = Progress(sys.stderr)
     if not write_program_page(chosen, progress):
         (write_large_page if is_large(chosen.program) else write_the_rest)(chosen, progress)

@@ -1,7 +1,6 @@
 """Other costs for the segments of a place, and what spanprof's `whatif` makes of them."""
 from spanprof.client import at_once
-from spanprof.errors import Fault
-from spanprof.whatif.requests import find
+from spanprof.whatif.requests import factor_of, find, place_and_number
 
 FACTORS = (0.5, 0.0)
 MOST_PLACES = 30
@@ -60,15 +59,8 @@ def read_factors(words, places):
     """`PLACE=0.3` each; a place is named whole, or by a part that no other has."""
     names, out = [place.name for place in places], []
     for word in words:
-        name, _, value = word.rpartition("=")
-        found = places[names.index(find(name, names, "place"))]
-        try:
-            factor = float(value)
-        except ValueError as wrong:
-            raise Fault("%s: the factor is not a number" % word) from wrong
-        if not 0 <= factor <= 1e6:
-            raise Fault("%s: a factor is from 0 to 1,000,000" % word)
-        out.append((found, factor))
+        name, number = place_and_number(word)
+        out.append((places[names.index(find(name, names, "place"))], factor_of(number)))
     return out
 
 

@@ -6,6 +6,7 @@ import unittest
 from unittest import mock
 
 from spanprof import client
+from spanprof.errors import Fault
 
 
 class Asking(unittest.TestCase):
@@ -31,6 +32,14 @@ class Asking(unittest.TestCase):
         self.assertEqual(str(ended.exception),
                          "spanprof span: error: input too long: standard input has at most 8,388,608 bytes")
         self.assertEqual(signal.getsignal(signal.SIGPIPE), before)
+
+
+    def test_a_program_that_is_not_spanprof(self):
+        with tempfile.NamedTemporaryFile("w", suffix=".tasks") as text:
+            for script, why in (("exit 7\n", "%s: spanprof span: it ended with status 7" % text.name),
+                                ("cat > /dev/null\n", ".*/answers does not answer as spanprof does")):
+                with self.answers(script), self.assertRaisesRegex(Fault, "^%s$" % why):
+                    client.read(text.name)
 
 
 if __name__ == "__main__":

@@ -31,8 +31,12 @@ class Replay(InFolder):
             replay(answering("error: BadForm", 1), self.path)
 
     def test_no_program(self):
-        with self.assertRaisesRegex(Fault, "^spanprof_large: "):
+        with self.assertRaisesRegex(Fault, "^spanprof_large: /none: No such file or directory$"):
             replay(["/none"], self.path)
+
+    def test_no_document(self):
+        with self.assertRaisesRegex(Fault, "^/none: No such file or directory$"):
+            replay(answering("events 2", 0), "/none")
 
     def test_no_answer(self):
         with self.assertRaisesRegex(Fault, "^spanprof_large replay: it ended with status 7$"):

@@ -35,7 +35,6 @@ class OfALine(unittest.TestCase):
 
     def test_the_last_token_of_a_line(self):
         self.assertTrue(told("error: line 3: BadNumber", "3").endswith("^"))
-        self.assertIn("an `if` or `final` 0 or 1", told("error: line 3: BadNumber", "3"))
 
     def test_a_token_that_is_not_found(self):
         self.assertIn("mine.tasks:2: BadWord: this cannot stand here\n    2 | work 5",
@@ -47,6 +46,42 @@ class OfALine(unittest.TestCase):
     def test_every_kind_of_a_line_has_words(self):
         for kind in ("TooLong", "BadByte", "TooDeep", "TooManyTasks", "WorkTooLarge", "TooManyTurns", "Unopened"):
             self.assertRegex(told("error: line 3: " + kind, "}"), "^mine.tasks:3: %s: .{10}" % kind)
+
+
+    def test_an_empty_text(self):
+        for text in ("", "# nothing\n"):
+            self.assertEqual(told("error: line 1: BadHeader", "x", text=text),
+                             "mine.tasks: the text is empty; one begins with `omptasks 1`, or `omptasks 2` where it has "
+                             "loops")
+
+    def test_a_version_that_there_is_not(self):
+        self.assertIn("there are versions 1 and 2", told("error: line 1: BadHeader", "3", text="omptasks 3\n"))
+        self.assertNotIn("there are versions", told("error: line 1: BadHeader", "tasks", text="tasks 1\n"))
+
+
+class NumbersAndBytes(unittest.TestCase):
+    def of(self, kind, line, wrong):
+        return told("error: line 2: " + kind, wrong, text="omptasks 2\n%s\n" % line).partition("\n")[0]
+
+    def test_which_numbers_there_may_be(self):
+        for line, wrong, words in (("work 9000000000000", "9000000000000", "a cost is a whole number up to 1,0"),
+                                   ("task if(7) {", "7", "an `if` or `final` has 0 or 1"),
+                                   ("task final( 7", "7", "an `if` or `final` has 0 or 1"),
+                                   ("for i 1 7000000", "7000000", "a bound is a whole number up to 1,000,000"),
+                                   ("for i n 7000000", "7000000", "a bound is a whole number up to 1,000,000"),
+                                   ("task depend(in: a[i+7000000])", "7000000", "an index is from -1,000,000 to"),
+                                   ("work 5ms", "5ms", "`5ms` is no number, and no word begins with a digit"),
+                                   ("  7000000", "7000000", "a cost is a whole number up to 1,000,000,000,000, an")):
+            self.assertIn("mine.tasks:2: BadNumber: " + words, self.of("BadNumber", line, wrong))
+
+    def test_which_bytes_begin_no_word(self):
+        for line, wrong, words in (("work -5", "-", "without a sign or a point"), ("work 1.5", ".", "without a sign or"),
+                                   ("task depend(in: a[1])", "[", "`[` belongs to version 2"),
+                                   ("work 5;", ";", "`;` begins no word"), ("work\xa05", "\xa0", "U+00A0 begins no word"),
+                                   ("\ufeffwork", "\ufeff", "without a byte order mark"),
+                                   ("\\\0", "\\", "this is no text"), ("PNG\ufffd", "\ufffd", "this is no text"),
+                                   ("work 5; # \ufffd", ";", "`;` begins no word")):
+            self.assertIn(words, self.of("BadByte", line, wrong))
 
 
 class Braces(unittest.TestCase):
@@ -110,6 +145,9 @@ class Parts(unittest.TestCase):
         shown, mark = picture(line, 7, tokens(line)[-1])
         self.assertLess(len(shown), 120)
         self.assertEqual(shown[mark.index("^"):], "bad")
+
+    def test_nothing_reaches_a_terminal_but_what_can_be_printed(self):
+        self.assertEqual(picture("\x1b[2J bad", 7, None)[0], "    7 | ?[2J bad")
 
 
 if __name__ == "__main__":

@@ -27,7 +27,8 @@ def find(word, names, what):
     if len(found) == 1:
         return found[0]
     near = found or get_close_matches(word, names, 3, 0.4)
-    hint = "; %s: %s" % ("say which" if found else "there are", ", ".join(sorted(near)[:3])) if near else ""
+    hint = "; %s: %s" % ("say which" if found else "there are", ", ".join(sorted(near)[:3])) if near else \
+        "; spanprof-whatif --places lists what there is"
     raise Fault("%s: %s %s of this name%s" % (word, "more than one" if found else "no", what, hint))
 
 
@@ -52,12 +53,20 @@ def factor_of(word):
     return factor
 
 
+def place_and_number(word):
+    """Of `PLACE=NUMBER`; a place may have a `=` too."""
+    place, sign, number = word.rpartition("=")
+    if not sign:
+        raise Fault("%s: a place, `=` and a number are wanted" % word)
+    return place, number
+
+
 def change(request, seen, costs):
     """Of a request, in a text that has been surveyed."""
     option, word = request
-    place, _, number = word.rpartition("=") if option in WITH_A_NUMBER else (word, "", "")
+    place, number = place_and_number(word) if option in WITH_A_NUMBER else (word, "")
     if option == "factor":
-        return Factor(find(place, seen.costs, "code"), factor_of(number))
+        return Factor(find(place, seen.costs, "piece of code"), factor_of(number))
     if option == "drop-wait":
         return DropWait(find_wait(place, seen.waits))
     if option == "drop-depend":
@@ -66,14 +75,14 @@ def change(request, seen, costs):
         return DropName(find(place, seen.items, "depend item"))
     if option == "split":
         parts = whole(number, 2, MOST_TOGETHER)
-        return Split(find(place, seen.costs, "code"), parts, costs.creating, costs.for_parts(parts))
+        return Split(find(place, seen.costs, "piece of code"), parts, costs.creating, costs.for_parts(parts))
     if option == "grain":
-        return Grain(find(place, seen.costs, "code"), whole(number, 1, MOST_COST), costs.creating, costs.for_parts(2))
+        return Grain(find(place, seen.costs, "piece of code"), whole(number, 1, MOST_COST), costs.creating, costs.for_parts(2))
     if option == "join":
         return Join(find(place, seen.tasks, "task"), whole(number, 2, MOST_TOGETHER), costs.creating)
     if option == "cutoff":
         return Cutoff(whole(place, 1, MOST_TOGETHER), costs.creating)
-    return OwnTask(find(place, seen.costs, "code"), costs.creating, costs.for_parts(1))
+    return OwnTask(find(place, seen.costs, "piece of code"), costs.creating, costs.for_parts(1))
 
 
 def changes(requests, seen, costs):

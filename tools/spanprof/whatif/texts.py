@@ -3,6 +3,7 @@ import os
 from itertools import islice
 
 from spanprof import client
+from spanprof.command import naming
 from spanprof.head import head_text, read_head
 from spanprof.remarks import in_json
 from spanprof.text import has_loops, statements, text_lines
@@ -51,9 +52,9 @@ def write(path, text, stream, made):
     """The changed text. What was changed is counted while it is written, so its head is written last."""
     body = path + ".body"
     try:
-        with open(body, "w", **ENCODING) as file:
+        with naming(path), open(body, "w", **ENCODING) as file:
             file.writelines(text_lines(stream, text.version))
-        with open(path, "w", **ENCODING) as file, open(body, **ENCODING) as lines:
+        with naming(path), open(path, "w", **ENCODING) as file, open(body, **ENCODING) as lines:
             file.writelines("# %s\n" % words for words in changed_head(text, made))
             file.writelines(lines)
     finally:

@@ -127,7 +127,7 @@ class Command(InAFolder):
         self.assertEqual(note, "1 of 1 recordings on 2 threads took 50 % longer than the unrecorded runs, or more: the "
                                "times may be told too long")
         self.assertIn("not proved", last)
-        for wrong, why in (("{", "is none of spanprof-record --scale"), ("{}", "names no recording that is there"),
+        for wrong, why in (("{", "is no file of spanprof-record --scale"), ("{}", "names no recording that is there"),
                            ('{"threads": 3}', "names no recording"), ("[]", "names no recording")):
             with self.assertRaisesRegex(Fault, "b.scale.json.* " + why):
                 self.answer(self.write("b.scale.json", wrong))

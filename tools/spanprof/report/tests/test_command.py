@@ -90,6 +90,13 @@ class Command(unittest.TestCase):
         self.assertEqual(self.refused("no.tasks", "-o", "x"), "spanprof-report: no.tasks: no such file\n")
         self.assertIn("no place of this name", self.refused(mesh, "--factor", "nowhere=2"))
         self.assertIn("No such file or directory", self.refused(mesh, "-o", self.out("none/x.html")))
+        self.assertIn("--source /none: no such folder", self.refused(mesh, "-o", "x", "--source", "/none"))
+
+    def test_no_file_is_written_over_the_text(self):
+        text = self.copied()
+        for option, what in (("-o", "page"), ("--trace", "trace"), ("--speedscope", "speedscope file")):
+            self.assertEqual(self.refused(text, option, text),
+                             "spanprof-report: %s: the %s would be written over the text\n" % (text, what))
 
 
 class Words(io.StringIO):

@@ -16,7 +16,7 @@ class Factors(unittest.TestCase):
         for word, told in (("a.c:3=1", "more than one place"), ("b.c=1", "no place of this name"),
                            ("task at a.c:4=1", "no place of this name; there are: .*task at a.c:3"),
                            ("begin=x", "not a number"), ("begin=-1", "from 0 to 1,000,000"),
-                           ("begin=nan", "from 0 to"), ("begin", "no place")):
+                           ("begin=nan", "from 0 to"), ("begin", "begin: a place, `=` and a number are wanted")):
             with self.assertRaisesRegex(Fault, told):
                 read_factors([word], PLACES)
 

@@ -107,7 +107,7 @@ proved of the text, and of the changed text: spanprof has read both
         for words, told in ((["--drop-wait", "x"], "--drop-wait x: no taskwait or taskgroup of this name"),
                             (["--cutoff", "7"], "nothing is changed by it: 0 tasks left out"),
                             (["--cutoff", "1", "-o", self.text], "would be written over the text"),
-                            (["--cutoff", "1", "-o", "/nowhere/x"], "/nowhere/x.body: No such file")):
+                            (["--cutoff", "1", "-o", "/nowhere/x"], "spanprof-whatif: /nowhere/x: No such file")):
             status, out, errors = self.told(*words)
             self.assertEqual((status, out), (1, ""))
             self.assertIn(told, errors)

@@ -23,7 +23,8 @@ class Places(unittest.TestCase):
 
     def test_refusals_name_what_there_is(self):
         for word, told in (("a", "a: more than one code of this name; say which: ab, abc"),
-                           ("abd", "abd: no code of this name; there are: ab, abc"), ("", ": no code of this name")):
+                           ("abd", "abd: no code of this name; there are: ab, abc"),
+                           ("", ": no code of this name; spanprof-whatif --places lists what there is")):
             with self.assertRaisesRegex(Fault, told):
                 find(word, ["ab", "abc"], "code")
 
@@ -46,8 +47,8 @@ class Made(unittest.TestCase):
 
     def test_refusals(self):
         for option, word, told in (("factor", "begin=x", "--factor x: the factor is not a number"),
-                                   ("factor", "begin=-1", "a factor is from 0"), ("factor", "begin", "no code"),
-                                   ("factor", "x=1", "no code"),
+                                   ("factor", "begin=-1", "a factor is from 0"), ("factor", "begin", "--factor begin: a place, `=` and a number"),
+                                   ("factor", "x=1", "no piece of code"),
                                    ("split", "begin=1", "--split 1 is no whole number from 2"),
                                    ("join", "sort.c:9=", "--join nothing is no whole number"),
                                    ("cutoff", "0", "no whole number from 1"),
