@@ -38,6 +38,12 @@ expect_recording() { # NAME: that spanprof accepts its text and its run
     "$spanprof" span < "$1.tasks" > counted || fail "$1.tasks is refused"
     "$spanprof" replay < "$1.replay" > replayed || fail "$1.replay is refused"
 }
+titles() { # what the summaries are of, in their order
+    grep -o '^[^ ]*\.tasks, [a-z]*' err | tr '\n' ' '
+}
+expect_titles() { # WHAT TITLES
+    [ "$(titles)" = "$2 " ] || { fail "$1: the summaries are of '$(titles)', and not of '$2'"; cat err; }
+}
 expect_summary() { # WHAT: lines with their names
     for name in covers tasks runs work span parallelism elapsed threads 'span by place' remarks; do
         grep -q "^$name  *[0-9a-z]" err || fail "$1: no line '$name'"
@@ -124,11 +130,30 @@ expect "five runs" 0 spanprof-record --runs 5 --out five -- ./llvm
 [ "$(wc -l < out)" = 25 ] || fail "not every run reads standard input"
 expect_recording five
 expect_word "five runs" 'each cost is the median of 5 recordings'
-[ "$(grep -c '^ *remarks\|^              five' err)" = 1 ] || fail "five runs: the single runs stand in the summary"
+! grep -q 'run[0-9].*: [0-9]* tasks' err || fail "five runs: the single runs stand in the summary"
 [ -e five.runs/run5.tasks ] || fail "the fifth run is not kept"
+expect_word "five runs" 'five.whole.tasks: the runs have no median, and this is the one with the median work: five.runs/run'
 expect "a run that fails" 3 spanprof-record --runs 2 --out failing -- ./llvm 3
 expect_word "a run that fails" 'run 1 of 2 is the last, and there is no median: the program ended with status 3'
 echo "several runs"
+
+expect "the whole program" 0 spanprof-record --out outside --json outside.json -- ./llvm outside
+expect_titles "the whole program" 'outside.whole.tasks, the outside.tasks, region'
+expect_summary "the whole program"
+[ "$(grep -c '^program  *[0-9]' err)" = 1 ] || fail "the whole program: how its time divides is told more than once"
+grep -q '"whole program": {' outside.json || fail "no JSON of the whole program"
+"$spanprof" span < outside.whole.tasks > counted || fail "outside.whole.tasks is refused"
+expect_recording outside
+expect "the region alone" 0 spanprof-record --no-whole --out outside -- ./llvm outside
+expect_titles "the region alone" 'outside.tasks, region'
+[ ! -e outside.whole.tasks ] || fail "the region alone: the whole program's text of the run before is left"
+expect "the whole program alone" 0 spanprof-record --whole --out outside -- ./llvm outside
+expect_titles "the whole program alone" 'outside.tasks, the'
+[ ! -e outside.whole.tasks ] || fail "the whole program alone has two texts"
+expect "a region that is all" 0 spanprof-record --out all -- ./llvm long
+expect_titles "a region that is all" 'all.tasks, region'
+[ ! -e all.whole.tasks ] || fail "a region that is all has a text of the whole program beside it"
+echo "the whole program"
 
 expect "a scale" 0 spanprof-record --scale 1,2 --runs 3 --json scale.json --out scaled -- ./llvm
 [ "$(wc -l < out)" = 60 ] || fail "a scale: not every run reads standard input"
@@ -195,7 +220,7 @@ if command -v mpicc > /dev/null && command -v mpirun > /dev/null; then
     mpicc -g -O1 -fopenmp "$top/checks/recorders/record/ranks.c" -o ranks
     expect "a launcher" 0 spanprof-record --unit us -- mpirun --oversubscribe -n 3 ./ranks
     expect_word "a launcher" 'other ranks   ranks.rank'
-    [ "$(grep -c 'ranks.rank[0-2].tasks, region at\|^ranks.rank' err)" = 3 ] || fail "a launcher: not a line for each rank"
+    [ "$(grep -c 'ranks.rank[0-2].tasks, region at' err)" = 3 ] || fail "a launcher: not a line for each rank"
     for rank in 0 1 2; do expect_recording ranks.rank$rank; done
     rm -r ranks.rank*
     expect "ranks" 0 mpirun --oversubscribe -n 3 spanprof-record --unit us -- ./ranks

@@ -46,13 +46,14 @@ weight_of() {
 
 keep() { # NAME WHAT: the recording, if it weighs less than the one that is kept
     local text weight
-    text=$(echo out*.tasks)
+    text=$(find . -name 'out*.tasks' ! -name out.whole.tasks -printf '%f')
     weight=$(weight_of "$2" "$text")
     if [ "$weight" -lt "$least" ]; then
         least=$weight
         cp "$text" "$kept/$1${text#out}"
         [ ! -e out.replay ] || cp out.replay "$kept/$1.replay"
-        [ ! -e out.said ] || sed "s/\bout\.tasks/$1.tasks/" out.said > "$kept/$1.said"
+        [ ! -e out.whole.tasks ] || cp out.whole.tasks "$kept/$1.whole.tasks"
+        [ ! -e out.said ] || sed "s/\bout\.\(whole\.\)\?tasks/$1.\1tasks/" out.said > "$kept/$1.said"
     fi
     rm -rf out.*
 }

@@ -78,7 +78,8 @@ std::string name_of_rank(const std::string &name) {
   return name;
 }
 
-// NAME, or NAME.2 of a later region, or NAME.4711 of a child process and NAME.4711.2 of its later regions.
+// NAME, or NAME.2 of a later region, or NAME.4711 of a child process and NAME.4711.2 of its later regions; NAME.whole
+// and NAME.4711.whole of the whole program beside them.
 bool is_of_run(const std::string &file, const std::string &name) {
   std::string rest = file;
   if (!take(rest, ".tasks") && !take(rest, ".replay") && !take(rest, ".times") && !take(rest, ".timed") &&
@@ -86,6 +87,7 @@ bool is_of_run(const std::string &file, const std::string &name) {
     return false;
   take(rest, ".inout");
   take(rest, ".large");
+  if (rest != name) take(rest, ".whole");
   for (int numbers = 0; numbers < 2 && rest != name; numbers++) take_number(rest);
   return rest == name;
 }

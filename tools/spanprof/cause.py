@@ -7,7 +7,7 @@ was kept by the runtime or the machine.
 from dataclasses import dataclass
 from typing import Tuple
 
-from spanprof.claims import lock_binds
+from spanprof.claims import lock_binds, time_of_program
 
 MUCH = 0.25             # of the threads' time, from which on it is a cause
 SOME = 0.1              # of the greedy run's, from which on another shape may help
@@ -69,9 +69,8 @@ def percent(share):
 
 def outside_regions(head):
     """Of the program's time by the clock, that outside of all regions."""
-    outside, others = (head.division.get(name, 0) for name in ("outside regions", "in other regions"))
-    whole = outside + others + head.elapsed
-    share = outside / whole if whole else 0
+    whole = time_of_program(head)
+    share = head.division.get("outside regions", 0) / whole if whole else 0
     return share >= MOST and Cause(
         "outside", "%s of the program's time passed outside of regions, where no team runs (measured)" %
         percent(share), instead="none in this text: what runs outside of regions is not in it")
@@ -122,6 +121,23 @@ def most_of_it(parts, words):
     return ", %s of it %s" % (percent(part / sum(parts.values())), words % code) if part else ""
 
 
+def serial_places(answers):
+    """Of the whole program's text the places of code outside of regions: the root runs that, and no task."""
+    code = getattr(answers, "code", ()) if answers.head.whole else ()
+    return {segment.place() for segment in code if not segment.task} - \
+        {segment.place() for segment in code if segment.task}
+
+
+def serial_code(answers, shares, account):
+    """Where the threads idled with nothing ready mostly because one ran code outside of regions."""
+    places, parts = serial_places(answers), account.starved_by if account else {}
+    part = sum(parts[place] for place in places if place in parts)
+    return 0 < MOST * sum(parts.values()) <= part and Cause(
+        "serial", "serial code: for %s of the threads' time they idled with nothing ready, %s of it while one of them "
+                  "ran code outside of regions (%s)" % (percent(shares.starved), percent(part / sum(parts.values())),
+                                                        shares.how), ALL)
+
+
 def of_idle_threads(answers, shares, account):
     """By the largest part of the time in which the threads were not in code; None where that is not much."""
     largest = max(("starved", "delayed", "outside"), key=lambda name: getattr(shares, name))
@@ -131,9 +147,10 @@ def of_idle_threads(answers, shares, account):
         return Cause("ends", "%s of the threads' time was before the region's code began or after it ended (%s)" %
                      (percent(shares.outside), shares.how), instead="none in this text")
     if largest == "starved":
-        return Cause("shape", "too few tasks: for %s of the threads' time they idled with nothing ready%s (%s)" %
-                     (percent(shares.starved), most_of_it(account.starved_by if account else {}, "while %s ran"),
-                      shares.how), ALL)
+        return serial_code(answers, shares, account) or Cause(
+            "shape", "too few tasks: for %s of the threads' time they idled with nothing ready%s (%s)" %
+            (percent(shares.starved), most_of_it(account.starved_by if account else {}, "while %s ran"), shares.how),
+            ALL)
     if is_small(answers):
         return Cause("small", "tasks too small: %.1f us of code each on average, and for %s of the threads' time they "
                               "%s (%s)" % (answers.head.nanoseconds * answers.work / answers.tasks / 1000,

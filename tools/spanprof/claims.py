@@ -1,7 +1,7 @@
 """What a text lets one say of its program, as its head tells it. What is proved is proved of the text alone."""
 from spanprof.remarks import FOLDS
 
-COVERS_ENOUGH = 95  # per cent of the program's thread-time
+COVERS_ENOUGH = 95  # per cent of the program
 OTHERWISE = "the program's may be %s (remarks)"
 
 
@@ -28,6 +28,20 @@ def is_partial(head):
     """Whether the head says that the text has less of the program than would do for all of it."""
     return bool(share_covered(head)) and (
         head.covers_at_most or 100 * head.covered < COVERS_ENOUGH * head.thread_time)
+
+
+def time_of_program(head):
+    """By the clock, in the text's unit, as the head of a region's text divides it."""
+    return sum(head.division.get(name, 0) for name in ("outside regions", "in other regions")) + (head.elapsed or 0)
+
+
+def stands_for_program(head):
+    """Whether a text has enough of the program, of its time by the clock and of its threads' time in code, that
+    nothing need be told beside it. Of a text that does not tell it nothing is known."""
+    if head.whole or not share_covered(head):
+        return True
+    return 100 * head.covered >= COVERS_ENOUGH * head.thread_time and \
+        100 * (head.elapsed or 0) >= COVERS_ENOUGH * time_of_program(head)
 
 
 def is_folded(head):

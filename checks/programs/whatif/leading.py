@@ -10,7 +10,9 @@ EXPECTED = {
     "machine": ("the machine: ", "none of the program"),
     "dear": ("the work: ", "half the cost of task at causes.c:66"),
     "balanced": ("the work: ", "half the cost of task at causes.c:73"),
+    "outside": ("serial code: .* while one of them ran code outside of regions", "the beginning in 4 tasks"),
 }
+OF_THE_PROGRAM = ("outside",)
 
 
 def lead_of(lines):

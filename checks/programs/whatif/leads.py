@@ -2,6 +2,8 @@
 """Records programs that are slow for a known cause, and holds the lead of the summary against it.
 
     leads.py CAUSES [NAME ..]      the program of causes.c
+Where a cause lies outside of regions, that of the whole program's summary; else that of the region's.
+
 Where the machine has more to do than it has processors, a lead may say that the machine or the runtime is the cause.
 That is then so, and the program is not judged. The status is 0 where no lead is wrong.
 """
@@ -10,7 +12,7 @@ import subprocess
 import sys
 import tempfile
 
-from leading import EXPECTED, judged, lead_of
+from leading import EXPECTED, OF_THE_PROGRAM, judged, lead_of
 
 TOP = os.path.dirname(os.path.dirname(os.path.dirname(os.path.dirname(os.path.abspath(__file__)))))
 RECORD = os.path.join(TOP, "tools", "spanprof-record")
@@ -18,7 +20,9 @@ TRIES = 3
 
 
 def summary(program, name, folder):
-    words = [RECORD, "--out", os.path.join(folder, name), "--unit", "us", "--threads", "4", "--", program, name]
+    options = ["--out", os.path.join(folder, name), "--unit", "us", "--threads", "4"]
+    options += [] if name in OF_THE_PROGRAM else ["--no-whole"]
+    words = [RECORD, *options, "--", program, name]
     done = subprocess.run(words, capture_output=True, text=True, errors="replace", check=False)
     if done.returncode:
         sys.exit("%s: status %d\n%s" % (name, done.returncode, done.stderr))

@@ -1,7 +1,7 @@
 // Files of an earlier run with more regions go, and other files stay.
-// old: out.tasks out.2.tasks out.2.replay out.3.inout.tasks out.notes
+// old: out.tasks out.2.tasks out.2.replay out.3.inout.tasks out.whole.tasks out.whole.regions out.notes
 // file: out.tasks out.notes
-// no file: out.2.tasks out.2.replay out.3.inout.tasks
+// no file: out.2.tasks out.2.replay out.3.inout.tasks out.whole.tasks out.whole.regions
 #include "spend.h"
 
 int main(void) {

@@ -1,5 +1,6 @@
-// A program to record: tasks in one region, or in two with `two`; its standard input goes to its output, a line to its
-// standard error. Then it ends as the first word says: with a status, by `abort`, or only when it is killed (`wait`).
+// A program to record: tasks in one region, in two with `two`, after half a second outside of it with `outside`, or for
+// three seconds with `long`; its standard input goes to its output, a line to its standard error. Then it ends as the
+// first word says: with a status, by `abort`, or only when it is killed (`wait`).
 #include <stdio.h>
 #include <stdlib.h>
 #include <string.h>
@@ -36,6 +37,15 @@ static void light_region(void) {
     }
 }
 
+static void long_region(void) {
+#pragma omp parallel
+#pragma omp single
+    {
+#pragma omp task
+        sleep(3);
+    }
+}
+
 static void no_tasks(void) {
 #pragma omp parallel
     work(1000);
@@ -49,7 +59,9 @@ int main(int count, char **words) {
     fprintf(stderr, "a line of the program\n");
     if (!strcmp(first, "none")) return no_tasks(), 0;
     if (!strcmp(first, "two")) light_region();
-    heavy_region();
+    if (!strcmp(first, "outside")) usleep(500000);
+    if (!strcmp(first, "long")) long_region();
+    else heavy_region();
     if (!strcmp(first, "abort")) abort();
     if (!strcmp(first, "wait")) {
         puts("waiting");

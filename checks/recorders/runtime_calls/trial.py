@@ -101,8 +101,8 @@ def recorded(setting, folder):
     """The regions, the remarks, the exit status, and what was said."""
     for path in glob.glob(os.path.join(folder, "out*")):
         shutil.rmtree(path) if os.path.isdir(path) else os.remove(path)
-    status, said = run([setting.recorder, "--out", "out", "--runtime", setting.library, "--", "./program"], folder,
-                       setting.seconds)
+    options = ["--no-whole", "--out", "out", "--runtime", setting.library]
+    status, said = run([setting.recorder, *options, "--", "./program"], folder, setting.seconds)
     return texts(folder) + (status, said)
 
 

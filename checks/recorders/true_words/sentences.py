@@ -24,6 +24,16 @@ class Summary:
     at_least: Dict[int, float] = field(default_factory=dict)
 
 
+def blocks(lines):
+    """The summaries, one for each text, without what is printed before the first."""
+    starts = [i for i, line in enumerate(lines) if re.match(r"\S+\.tasks, (the whole program|region at )", line)]
+    return [lines[i:j] for i, j in zip(starts, starts[1:] + [None])]
+
+
+def is_of_whole(lines):
+    return ", the whole program" in lines[0]
+
+
 def number(words):
     return float(words.replace(",", ""))
 

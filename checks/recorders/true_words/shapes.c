@@ -110,12 +110,24 @@ static void serial(void) { // more code outside of the region than in it
     spin(80);
 }
 
+static void half(void) { // on four threads half of the time before the region
+    spin(20);
+    independent();
+}
+
+static void two_regions(void) { // with code between them; the second one is the heavier
+    fork_join();
+    spin(40);
+    independent();
+}
+
 int main(int count, char **words) {
     static const struct {
         const char *name;
         void (*run)(void);
     } shapes[] = {{"chain", chain}, {"independent", independent}, {"fork_join", fork_join}, {"loop", loop},
-                  {"lock", lock}, {"doacross", doacross}, {"steps", steps}, {"serial", serial}};
+                  {"lock", lock}, {"doacross", doacross}, {"steps", steps}, {"serial", serial},
+                  {"half", half}, {"two_regions", two_regions}};
     for (size_t i = 0; i < sizeof shapes / sizeof *shapes; i++)
         if (count == 2 && !strcmp(words[1], shapes[i].name)) {
             double begin = omp_get_wtime();

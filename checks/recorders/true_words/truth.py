@@ -1,7 +1,7 @@
 """What is true of the programs of shapes.c, by how they are made; all times in milliseconds."""
-from dataclasses import dataclass
+from dataclasses import dataclass, replace
 from math import ceil
-from typing import Callable
+from typing import Callable, Optional
 
 MANY = 1024
 
@@ -12,8 +12,9 @@ class Shape:
     name: str
     work: float
     least: Callable[[int], float]
-    outside: float = 0.0    # code of the program outside of the region
+    serial: float = 0.0     # code of the program outside of all regions
     is_plain: bool = False  # tasks alone, so that a text on several threads is the program
+    other: Optional["Shape"] = None     # the program's other region, which has less work
 
     def most(self, threads=MANY):
         """How many times as fast as its work in a row no run on so many threads is."""
@@ -22,7 +23,13 @@ class Shape:
     @property
     def share(self):
         """Of the program's code, the region's."""
-        return self.work / (self.work + self.outside)
+        return self.work / (self.work + self.serial + (self.other.work if self.other else 0))
+
+    def whole(self, beginning):
+        """The whole program, with so much code beside what is built in: its loading, the runtime's begin and end."""
+        regions, serial = [self] + [self.other] * bool(self.other), self.serial + beginning
+        return replace(self, work=serial + sum(region.work for region in regions), serial=0.0, other=None,
+                       least=lambda threads: serial + sum(region.least(threads) for region in regions))
 
 
 def in_rounds(count, length):
@@ -35,13 +42,16 @@ def least_of_lock(threads):
     return 32 if threads == 1 else max(32 / threads, 1 + 24)
 
 
+FORK_JOIN = Shape("fork_join", 64, lambda threads: 4 * in_rounds(4, 4)(threads), is_plain=True)
 SHAPES = (
     Shape("chain", 40, lambda threads: 40, is_plain=True),
     Shape("independent", 80, in_rounds(16, 5), is_plain=True),
-    Shape("fork_join", 64, lambda threads: 4 * in_rounds(4, 4)(threads), is_plain=True),
+    FORK_JOIN,
     Shape("loop", 66, lambda threads: in_rounds(32, 2)(threads) + 2),
     Shape("lock", 32, least_of_lock),
     Shape("doacross", 65, lambda threads: 65 if threads == 1 else 64),
     Shape("steps", 123, lambda threads: 30 * (in_rounds(8, 0.5)(threads) + 0.1)),
-    Shape("serial", 80, in_rounds(16, 5), outside=120),
+    Shape("serial", 80, in_rounds(16, 5), serial=120, is_plain=True),
+    Shape("half", 80, in_rounds(16, 5), serial=20, is_plain=True),
+    Shape("two_regions", 80, in_rounds(16, 5), serial=40, is_plain=True, other=FORK_JOIN),
 )

@@ -246,8 +246,10 @@ TEST(lengths_are_limited) {
 TEST(files_of_a_run_are_known_by_their_names) {
   for (const char *name : {"out.tasks", "out.replay", "out.times", "out.timed", "out.2.tasks", "out.inout.tasks",
                            "out.2.inout.tasks", "out.4711.tasks", "out.4711.2.replay", "out.regions", "out.large.tasks",
-                           "out.2.large.tasks", "out.2.large.inout.tasks"})
+                           "out.2.large.tasks", "out.2.large.inout.tasks", "out.whole.tasks", "out.whole.regions",
+                           "out.whole.large.tasks", "out.4711.whole.timed"})
     EXPECT(is_of_run(name, "out"), true);
+  EXPECT(is_of_run("out.whole.tasks", "out.whole"), true);
   for (const char *name : {"out", "other.tasks", "out.csv", "out2.tasks", "out.x.tasks", "about.tasks"})
     EXPECT(is_of_run(name, "out"), false);
 }

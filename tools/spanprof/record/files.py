@@ -7,7 +7,7 @@ from dataclasses import dataclass
 from spanprof.errors import Fault
 
 USUAL_REGIONS = 10
-OF_A_RECORDING = re.compile(r"(\.rank[0-9]+)?(\.[0-9]+)?((\.large)?(\.inout)?\.(tasks|replay|times|timed)|"
+OF_A_RECORDING = re.compile(r"(\.rank[0-9]+)?(\.[0-9]+)?(\.whole)?((\.large)?(\.inout)?\.(tasks|replay|times|timed)|"
                             r"\.scale\.json|\.online\.json|\.regions)")
 IN_A_LOG = re.compile(r"head|modules|online(\.new)?|thread\.[0-9]+(\.last)?")
 
@@ -49,6 +49,22 @@ def large_recordings(out):
     found = [Recording(stem + ".large.tasks", beside(stem, ".large.replay"), number=number, is_large=True)
              for stem, number in stems]
     return [one for one in found if os.path.exists(one.text)]
+
+
+def whole_name(out):
+    """The first name of the files of the whole program, beside those of its regions."""
+    return out + ".whole"
+
+
+def whole_recording(out):
+    """That of the whole program, beside those of its regions; None where there is none."""
+    return next(iter(recordings(whole_name(out)) + large_recordings(whole_name(out))), None)
+
+
+def name_of(one):
+    """The first name of the files that this recording is among."""
+    stem = re.sub(r"(\.large)?\.tasks$", "", one.text)
+    return stem[:-len(".%d" % one.number)] if one.number > 1 else stem
 
 
 def stem_of(out, number):

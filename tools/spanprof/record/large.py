@@ -9,8 +9,8 @@ from spanprof.head import Head, head_text, read_head, with_function
 from spanprof.measure import HOW, measure
 from spanprof.path.found import find_path
 from spanprof.path.table import share
-from spanprof.record.summary import (MOST_PLACES, first_lines, grouped, lead_lines, lock_lines, named, remark_lines,
-                                     title)
+from spanprof.record.summary import (MOST_PLACES, first_lines, grouped, lead_lines, lock_lines, named, program_lines,
+                                     remark_lines, title)
 from spanprof.whatif.large_lead import Bounded, large_lead
 
 ASK = "spanprof-whatif tells what a change brings, and --places what can be changed"
@@ -55,12 +55,12 @@ def place_lines(answered):
         with_function(answered.head, place.name)) for place in answered.places]
 
 
-def large_summary(answered, news=(), verdict=""):
+def large_summary(answered, news=(), verdict="", program=None):
     tasks = "%s, in %s segments (recorded)%s" % (
         grouped(answered.tasks), grouped(answered.segments), "; " + verdict if verdict else "")
     heading, *lines = first_lines(answered, tasks, takes_several=False)
     bounded = Bounded(answered.head, answered.work, answered.span, answered.tasks)
-    return [heading] + lead_lines(large_lead(bounded, ASK)) + lines \
+    return [heading] + lead_lines(large_lead(bounded, ASK)) + program_lines(program) + lines \
         + named("account", lines_of(*account_beside(answered, sums_of))) \
         + named("locks", lock_lines(answered, answered.span)) \
         + named("span by place", place_lines(answered)) \

@@ -77,7 +77,10 @@ def parser():
         "threads, and then N times recorded; and of the last what keeps it from more, as a sum")
     add("--calibrate", action="store_true",
         help="without a program: measure what the runtime takes for tasks on this machine, for spanprof-predict")
-    add("--whole", action="store_true", help="the whole program as one text: serial code, regions, chunks of loops")
+    add("--whole", action="store_true",
+        help="the whole program as one text alone: serial code, regions, chunks of loops; without this option it is "
+        "NAME.whole.tasks, where the region that is summarised has less than 95 %% of the program")
+    add("--no-whole", action="store_true", help="the texts of the regions alone")
     add("--online", action="store_true",
         help="measure work and span by place while it runs, in the memory of what is open at a time, and keep no text")
     add("--fold", type=fold, action="append", default=[], metavar=FOLD_WORDS,
@@ -115,6 +118,8 @@ def parse(words):
         chosen.out = os.path.basename(named_after(chosen.command))
     if not os.path.basename(chosen.out):
         reader.error("--out %s: the first name of files, and no folder" % chosen.out)
+    if chosen.whole and chosen.no_whole:
+        reader.error("--whole and --no-whole exclude each other")
     if chosen.scale and chosen.threads:
         reader.error("--scale has the numbers of threads already, without --threads")
     kept = [name for name in NEEDS_A_TEXT if getattr(chosen, name)] if chosen.online else []

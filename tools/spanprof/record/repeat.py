@@ -10,7 +10,7 @@ from spanprof import client
 from spanprof.account import timed_beside
 from spanprof.errors import Fault
 from spanprof.head import head_text, read_head
-from spanprof.record.files import recordings, stem_of
+from spanprof.record.files import recordings, stem_of, whole_name
 from spanprof.record.median import write_median
 from spanprof.regions import read_regions
 
@@ -30,7 +30,7 @@ def make_folder(out, runs):
     except OSError as wrong:
         raise Fault("%s: %s" % (folder, wrong.strerror)) from wrong
     for entry in os.listdir(folder):
-        if re.fullmatch(r"run\d+(\.\d+)?(\.large)?(\.inout)?\.(tasks|replay|times|timed|regions)", entry):
+        if re.fullmatch(r"run\d+(\.\d+)?(\.whole)?(\.large)?(\.inout)?\.(tasks|replay|times|timed|regions)", entry):
             os.remove(os.path.join(folder, entry))
     return names(out, runs)
 
@@ -119,7 +119,8 @@ def combine(out, same_region):
         for path in filter(os.path.exists, (out + ".tasks", out + ".replay")):
             add_to_head(path, spread_lines(works, spans, False))
         why = str(differ).replace(os.path.dirname(out) + os.sep, "")
-        return ["the runs have no median, and this is the one with the median work: " + why]
+        return ["%s.tasks: the runs have no median, and this is the one with the median work: %s" % (
+            os.path.basename(out), why)]
     add_to_head(out + ".tasks", spread_lines(works, spans, True))
     if middle_run.replay:
         replay_of(out + ".tasks", middle_run.replay, out + ".replay")
@@ -136,13 +137,23 @@ def take_table(out, run_names):
         shutil.copyfile(middle(paths, [program.elapsed for program in programs]), out + ".regions")
 
 
+def combine_wholes(out, run_names):
+    """Of the whole program, where all runs have a text of it."""
+    found = [one for name in run_names for one in recordings(whole_name(name))]
+    if len(found) < len(run_names):
+        return []
+    works = [work_and_span(recording.text)[0] for recording in found]
+    shutil.copyfile(re.sub(r"\.tasks$", ".regions", middle(found, works).text), whole_name(out) + ".regions")
+    return combine(whole_name(out), found)
+
+
 def combine_all(out, run_names):
     """The same for each region that all runs have written."""
     by_run = [{one.number: one for one in recordings(name)} for name in run_names]
     every = set().union(*by_run)
     common = sorted(number for number in every if all(number in found for found in by_run))
     take_table(out, run_names)
-    remarks = []
+    remarks = combine_wholes(out, run_names)
     for number in common:
         remarks += combine(stem_of(out, number), [found[number] for found in by_run])
     if len(common) < len(every):

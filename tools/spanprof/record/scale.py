@@ -126,7 +126,7 @@ def record_each(session, numbers):
         for threads in numbers if turn < runs else numbers[:-1]:
             prepare(session, threads, turn)
             names[threads].append(name_of(folder, threads, turn))
-            status, _ = session.run(names[threads][-1])
+            status, _ = session.run(names[threads][-1], may_be_whole=False)
             if status:
                 raise Failed(status, "recorded run %d of %d %s" % (turn, runs, on_threads(threads)))
     return names

@@ -7,7 +7,7 @@ from spanprof.folders import builds_in
 from spanprof.measure import spanprof_large
 from spanprof.record.console import say, tell
 from spanprof.record.convert import convert_all, converter
-from spanprof.record.files import check_folder, large_recordings, recordings, remove_old
+from spanprof.record.files import check_folder, large_recordings, recordings, remove_old, whole_name
 from spanprof.record.linkage import linkage
 from spanprof.record.online import online_files
 from spanprof.record.ranks import is_launcher, names_of_ranks, of_rank, rank_of
@@ -16,6 +16,7 @@ from spanprof.record.repeat import FIRST_PARTS, combine_all, make_folder, parts_
 from spanprof.record.run import environment, rewind, run, signal_name
 from spanprof.record.runtime import refuse_targets, to_preload, what_it_lacks
 from spanprof.record.target import find, launched
+from spanprof.record.whole import convert_wholes
 
 RECORDERS = builds_in("openmp_recorder")
 
@@ -66,8 +67,9 @@ class Session:
         self.converter = converter(RECORDERS, tell)
         self.notes = notes_on(self.preload, linked.called, bool(options.runtime))
 
-    def run(self, out, others=None):
-        """One run, with other variables too: how the program ended, and what is told of its logs."""
+    def run(self, out, others=None, may_be_whole=True):
+        """One run, with other variables too: how the program ended, and what is told of its logs. The whole program
+        has a text too where that is not ruled out."""
         remove_old(out)
         asked = dict(os.environ, **others or {})
         if spanprof_large():
@@ -75,7 +77,10 @@ class Session:
         variables = environment(asked, self.options, self.library, self.preload, out)
         status = run(self.path, self.options.command, variables)
         tell("converting " + os.path.basename(out) + ".log")
-        return status, convert_all(self.converter, out, variables)
+        said = convert_all(self.converter, out, variables)
+        if may_be_whole and not (self.options.whole or self.options.no_whole or self.options.online):
+            said = said.and_also(convert_wholes(self.converter, out, variables))
+        return status, said
 
     def record_once(self):
         """The program's end, the recordings, and what was said."""
@@ -105,7 +110,8 @@ class Session:
             parts = parts_of_the_next([one.text for one in recordings(name)]) if parts == FIRST_PARTS else parts
         tell("taking medians")
         self.notes += combine_all(self.out, names)
-        return 0, recordings(self.out), said.without([recording.text for recording in recordings(names[-1])])
+        last = recordings(names[-1]) + recordings(whole_name(names[-1]))
+        return 0, recordings(self.out), said.without([one.text for one in last])
 
     def record_online(self):
         """The program's end, the files of what was measured, and what was said."""

@@ -4,8 +4,8 @@ A person reads it to decide about a program, and what is proved is proved of the
 says of what, and where the head tells that the text is not the program the line says that in its place.
 """
 from spanprof.claims import (OTHERWISE, against_parallelism, against_span, gain_may_be_less, gain_may_be_more,
-                             is_divided, is_of_one_thread, is_partial, least_end, lock_binds, share_covered, tenths,
-                             why_not_of_more_threads)
+                             is_divided, is_folded, is_of_one_thread, is_partial, least_end, lock_binds, share_covered,
+                             tenths, why_not_of_more_threads)
 from spanprof.head import part_of_program, with_function
 from spanprof.record.program_lines import program_line
 from spanprof.report.figures import rounded_down, rounded_up
@@ -48,10 +48,13 @@ def covers_line(head):
 
 
 def tasks_line(answers, verdict):
-    parts = ", and %s parts of the region's own code" % grouped(answers.parts) if answers.parts else ""
-    return "%s%s, in %s segments (recorded)%s" % (
-        grouped(answers.tasks - answers.parts), parts, grouped(answers.span_numbers["segments"]),
-        "; " + verdict if verdict else "")
+    head, whose = answers.head, "regions'" if answers.head.whole else "region's"
+    pieces = 0 if is_folded(head) else head.pieces
+    parts = [(pieces, "pieces of loops"), (answers.parts, "parts of the %s own code" % whose)]
+    told = ["%s %s" % (grouped(count), what) for count, what in parts if count]
+    return "%s, in %s segments (recorded)%s" % (
+        ", and ".join([grouped(answers.tasks - answers.parts - pieces)] + told),
+        grouped(answers.span_numbers["segments"]), "; " + verdict if verdict else "")
 
 
 def runs_line(head, takes_several=True):
@@ -200,11 +203,13 @@ def lead_lines(lead):
     return named("cause", [lead.cause]) + named("first change", filter(None, lead[1:])) if lead else []
 
 
+def program_lines(program):
+    return named("program", [program_line(program)] if program and program.regions else [])
+
+
 def summary(answers, verdict="", news=(), others=(), of_what="regions", account=(), lead=None, program=None):
     heading, *lines = first_lines(answers, tasks_line(answers, verdict))
-    return [heading] + lead_lines(lead) \
-        + named("program", [program_line(program)] if program and program.regions else []) \
-        + lines \
+    return [heading] + lead_lines(lead) + program_lines(program) + lines \
         + named("account", account) \
         + named("threads", threads_lines(answers)) \
         + named("locks", lock_lines(answers, answers.curve[max(THREADS)]["least"])) \
@@ -215,5 +220,5 @@ def summary(answers, verdict="", news=(), others=(), of_what="regions", account=
 
 def other_region(answers):
     head = answers.head
-    return "%s%s: work %s, span %s" % (answers.name, ", region at %s" % head.region if head.region else "",
-                                       costs(answers.work, head), costs(answers.span, head))
+    return "%s: work %s, span %s" % (", ".join(filter(None, (answers.name, part_of_program(head)))),
+                                     costs(answers.work, head), costs(answers.span, head))

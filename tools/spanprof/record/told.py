@@ -105,13 +105,16 @@ class Told:
     loaded: bool
     things: list
 
+    def and_also(self, things):
+        return Told(self.loaded, self.things + things)
+
     def without(self, texts):
         """All but that these were written."""
         return Told(self.loaded, [one for one in self.things
                                   if not (one["told"] in ("text", "online") and one["file"] in texts)])
 
     def news(self, out, texts=(), remarks=()):
-        """What the summary would not show, without the path of the files."""
+        """What the summary would not show, without the path of the files; two conversions may tell the same."""
         rest = [one for one in self.without(texts).things
                 if not (one["told"] == "remark" and remark_of(one["remark"]) in remarks)]
-        return [in_words(one).replace(os.path.dirname(out) + os.sep, "") for one in rest]
+        return list(dict.fromkeys(in_words(one).replace(os.path.dirname(out) + os.sep, "") for one in rest))

@@ -38,6 +38,20 @@ class ByTheAccount(unittest.TestCase):
         self.assertEqual(cause(answers(), told).words, "too few tasks: for 40 % of the threads' time they idled with "
                                                        "nothing ready, 75 % of it while task at a.c:3 ran (measured)")
 
+    def test_serial_code(self):
+        told, made = account(40, 20, 40), answers(whole="1 region")
+        told.idle = ({}, {"the beginning": 30, "task at sort.c:9": 10})
+        made.code[1].task = 1
+        found = cause(made, told)
+        self.assertEqual(found.words, "serial code: for 40 % of the threads' time they idled with nothing ready, 75 % "
+                                      "of it while one of them ran code outside of regions (measured)")
+        self.assertEqual((found.kind, "split" in found.changes), ("serial", True))
+        told.idle = ({}, {"the beginning": 10, "task at sort.c:9": 30})
+        self.assertEqual(cause(made, told).kind, "shape")
+        made.head.whole = ""
+        told.idle = ({}, {"the beginning": 30})
+        self.assertEqual(cause(made, told).kind, "shape")
+
     def test_beside_what_they_idled(self):
         told = account(20, 76, 4)
         told.idle = ({"task at a.c:3": 76}, {})

@@ -1,7 +1,7 @@
 import unittest
 
-from judging import doubts_of, faults, refuted
-from sentences import read
+from judging import doubts_of, faults, of_the_order, refuted
+from sentences import blocks, is_of_whole, read
 from truth import SHAPES
 
 BY_NAME = {shape.name: shape for shape in SHAPES}
@@ -26,6 +26,17 @@ span          34,010 us: no run ends sooner (proved, of measured costs)
 parallelism   1.95: work / span; no number of threads gives more (proved)
 elapsed       34,500 us on 2 threads: it was 1.91 times as fast as one (measured)
 threads       2: 1.48 to 1.95, 4: 1.67 to 1.95, 8: 1.80 to 1.95, 16: 1.87 to 1.95 times as fast as one (proved)
+remarks       none
+"""
+
+
+PART = GOOD.replace("c:45,", "c:45, only 40.1 % of the program's thread-time,").replace("99.8", "40.1")
+WHOLE = """\
+shapes.whole.tasks, the whole program, 4 threads, costs in us of processor time
+covers        99.9 % of the program's thread-time in code; not covered: 3 us of the program (measured)
+work          205 ms: code on 4 threads, added up (measured)
+span          130 ms: it ends no sooner on any number of threads (proved of the recorded text)
+parallelism   1.58: work / span; it gains no more on any number of threads (proved of the recorded text)
 remarks       none
 """
 
@@ -110,6 +121,31 @@ class Judgements(unittest.TestCase):
         self.assertEqual(judged(GOOD.replace("3.83 of", "4.83 of"), "independent"), ["4.83 threads were busy, of 4"])
 
 
+class Wholes(unittest.TestCase):
+    def told(self, text):
+        return blocks(("a line of the program\n" + text).splitlines())
+
+    def test_each_summary_by_itself(self):
+        found = self.told(WHOLE + PART)
+        self.assertEqual([is_of_whole(lines) for lines in found], [True, False])
+        self.assertEqual(["%.3f" % read(lines).share for lines in found], ["0.999", "0.401"])
+        self.assertEqual(list(of_the_order(found)), [])
+        self.assertEqual(list(of_the_order(self.told(GOOD))), [])
+
+    def test_what_is_missing(self):
+        self.assertEqual(list(of_the_order(self.told(PART))),
+                         ["nothing is told of the whole program, of which the region's text has 0.401"])
+        self.assertEqual(list(of_the_order(self.told(PART + WHOLE))),
+                         ["there are one of a region and one of the program"])
+        self.assertEqual(list(of_the_order([])), ["there are no summaries"])
+
+    def test_against_the_program(self):
+        whole = BY_NAME["serial"].whole(5)
+        self.assertEqual(faults(read(self.told(WHOLE)[0]), whole, 4), [])
+        self.assertEqual(faults(read(self.told(WHOLE.replace("130 ms", "150 ms"))[0]), whole, 4),
+                         ["no number of threads ends before 150.0, and 130.0 is true"])
+
+
 class Refutations(unittest.TestCase):
     def test_by_a_run(self):
         summary, loop = read(OLD_LOOP.splitlines()), BY_NAME["loop"]
@@ -133,6 +169,8 @@ class Truth(unittest.TestCase):
             self.assertEqual((least(1), least(4), least(1024)), (one, four, many), name)
         self.assertAlmostEqual(BY_NAME["steps"].least(4), 33)
         self.assertEqual(BY_NAME["serial"].share, 0.4)
+        whole = BY_NAME["two_regions"].whole(6)
+        self.assertEqual((whole.work, whole.least(4), whole.share), (190, 46 + 16 + 20, 1))
 
 
 if __name__ == "__main__":

@@ -30,6 +30,7 @@ Symbol table '.dynsym' contains 6 entries:
 @dataclass
 class Segment:
     name: str
+    task: int = 0
 
     def place(self):
         return self.name
@@ -65,6 +66,7 @@ class Head:
     remarks: list = field(default_factory=list)
     locks: list = field(default_factory=list)
     whole: str = ""
+    pieces: int = 0
     functions: dict = field(default_factory=dict)
 
     @property

@@ -45,10 +45,23 @@ class Recordings(OfARecording):
     def test_how_many_there_may_be(self):
         self.assertEqual([files.most_regions({"SPANPROF_REGIONS": word}) for word in ("", "x", "3")], [10, 10, 3])
 
+    def test_the_whole_program_beside_them(self):
+        for name in ("mine.tasks", "mine.2.tasks", "mine.3.large.tasks", "mine.whole.tasks", "other.tasks",
+                     "other.whole.large.tasks"):
+            self.write(name)
+        self.assertEqual([os.path.basename(one.text) for one in files.recordings(self.out)],
+                         ["mine.tasks", "mine.2.tasks"])
+        for one in files.recordings(self.out) + files.large_recordings(self.out):
+            self.assertEqual(files.name_of(one), self.out)
+        self.assertEqual(os.path.basename(files.whole_recording(self.out).text), "mine.whole.tasks")
+        self.assertTrue(files.whole_recording(os.path.join(self.folder, "other")).is_large)
+        self.assertIsNone(files.whole_recording(os.path.join(self.folder, "none")))
+
     def test_old_files_go_and_others_stay(self):
         for name in ("mine.tasks", "mine.3.replay", "mine.12.inout.tasks", "mine.large.tasks", "mine.2.large.tasks",
                      "mine.2.large.inout.tasks", "mine.scale.json",
-                     "mine.regions", "mine.2.scale.json", "mine.c", "mine.html", "mine.x.tasks", "mine"):
+                     "mine.regions", "mine.2.scale.json", "mine.whole.tasks", "mine.whole.regions",
+                     "mine.4711.whole.large.tasks", "mine.c", "mine.html", "mine.x.tasks", "mine"):
             self.write(name)
         files.remove_old(self.out)
         self.assertEqual(self.names(), ["mine", "mine.c", "mine.html", "mine.x.tasks"])
@@ -151,6 +164,19 @@ class Repeated(OfARecording):
     def test_of_an_even_number_the_lower_median(self):
         self.assertIn('# work of the runs: {"least": 1, "median": 2, "most": 4}\n',
                       repeat.spread_lines((4, 1, 3, 2), (1,) * 4, True))
+
+    def test_whole_programs_of_several_runs(self):
+        names = [os.path.join(self.folder, "run%d" % run) for run in (1, 2)]
+        for name in ("run1.whole.tasks", "run1.whole.regions", "run2.whole.regions"):
+            self.write(name, name)
+        with mock.patch("spanprof.record.repeat.combine", return_value=["no median"]) as combine, \
+                mock.patch("spanprof.record.repeat.work_and_span", side_effect=[(5, 1), (9, 1)]):
+            self.assertEqual(repeat.combine_wholes(self.out, names), [])
+            self.write("run2.whole.tasks")
+            self.assertEqual(repeat.combine_wholes(self.out, names), ["no median"])
+        self.assertEqual(combine.call_args.args[0], self.out + ".whole")
+        with open(self.out + ".whole.regions", encoding="utf-8") as table:
+            self.assertEqual(table.read(), "run2.whole.regions")
 
     def test_regions_that_all_runs_wrote(self):
         for name in ("run1.tasks", "run1.2.tasks", "run2.2.tasks"):

@@ -3,7 +3,7 @@ import os
 import tempfile
 import unittest
 
-from spanprof.record import command
+from spanprof.record import command, summaries
 from spanprof.record.files import Recording
 from spanprof.record.program_lines import program_line
 from spanprof.record.repeat import take_table
@@ -55,14 +55,14 @@ class Choice(unittest.TestCase):
         self.answered = [Answers(name=one.text, work=work) for one, work in zip(self.found, (90, 900, 300, 800))]
 
     def test_the_median_of_the_place_with_the_most_code(self):
-        self.assertEqual(command.chosen_first(self.found, self.answered, STEPS), 2)
-        self.assertEqual(command.chosen_first(self.found, self.answered, None), 1)
-        self.assertEqual(command.chosen_first(self.found[:2], self.answered[:2], STEPS), 1)
+        self.assertEqual(summaries.chosen_first(self.found, self.answered, STEPS), 2)
+        self.assertEqual(summaries.chosen_first(self.found, self.answered, None), 1)
+        self.assertEqual(summaries.chosen_first(self.found[:2], self.answered[:2], STEPS), 1)
 
     def test_a_line_for_each_other_place(self):
-        lines = command.other_regions(self.found, self.answered, 2, STEPS)
+        lines = summaries.other_regions(self.found, self.answered, 2, STEPS)
         self.assertEqual([line.partition(",")[0] for line in lines], ["mine.4.tasks", "2 more texts of these places"])
-        self.assertEqual(len(command.other_regions(self.found, self.answered, 1, None)), 3)
+        self.assertEqual(len(summaries.other_regions(self.found, self.answered, 1, None)), 3)
 
 
 class Files(unittest.TestCase):

@@ -1,4 +1,6 @@
 import argparse
+import contextlib
+import io
 import os
 import signal
 import sys
@@ -22,6 +24,12 @@ class Environment(unittest.TestCase):
         new = environment({"OMP_NUM_THREADS": "3", "SPANPROF_UNIT": "ms"}, options(), "/r.so", "", "/out")
         self.assertEqual(new, {"OMP_NUM_THREADS": "3", "SPANPROF_UNIT": "ms", "OMP_TOOL": "enabled",
                                "OMP_TOOL_LIBRARIES": "/r.so", "SPANPROF_OUT": "/out", "SPANPROF_QUIET": "1"})
+
+    def test_the_whole_program_alone_or_not_at_all(self):
+        self.assertTrue(parse(["--no-whole", "--", "./mine"]).no_whole)
+        with self.assertRaises(SystemExit), contextlib.redirect_stderr(io.StringIO()) as told:
+            parse(["--whole", "--no-whole", "--", "./mine"])
+        self.assertIn("--whole and --no-whole exclude each other", told.getvalue())
 
     def test_what_is_asked_for(self):
         asked = options(unit="us", clock="cpu", threads=8, fold=[("depth", 2), ("chunk", 5)])

@@ -100,7 +100,7 @@ class Recorded(unittest.TestCase):
         options = argparse.Namespace(scale=[1, 2, 4], runs=runs, threads=None)
         made = mock.Mock(out=self.out, preload="/lib/libomp.so.5", options=options)
 
-        def run(*_):
+        def run(*_, may_be_whole=True):
             threads.append(options.threads)
             return next(left), Told(True, [])
         made.run.side_effect = run

@@ -65,6 +65,13 @@ class Lines(unittest.TestCase):
                                       "              mine.2 is not written"])
         self.assertIn("elapsed       not told", lines)
 
+    def test_pieces_of_loops_are_no_tasks_of_the_program(self):
+        head = Head(region="", whole="1 region, 2 loops in 80 pieces", pieces=80)
+        self.assertIn("tasks         8, and 80 pieces of loops, and 8 parts of the regions' own code, in 3 segments "
+                      "(recorded)", summary(Answers(tasks=96, parts=8, head=head)))
+        head.remarks = [remark_of({"remark": "folded", "span": "high"})]
+        self.assertIn("tasks         96, in 3 segments (recorded)", summary(Answers(tasks=96, head=head)))
+
     def test_parts_are_no_tasks_of_the_program(self):
         answers = Answers(tasks=179, parts=149)
         self.assertIn("tasks         30, and 149 parts of the region's own code, in 3 segments (recorded)",

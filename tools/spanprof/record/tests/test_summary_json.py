@@ -5,7 +5,7 @@ import unittest
 
 from spanprof.account import Account, Row
 from spanprof.errors import Fault
-from spanprof.record.summary_json import led_json, write_json
+from spanprof.record.summary_json import led_json, summary_json, write_json
 from spanprof.record.tests.made_up import Answers
 from spanprof.whatif.lead import Lead
 
@@ -24,6 +24,10 @@ class Told(unittest.TestCase):
     def test_without_both(self):
         told = led_json(Answers(), None, "tasks are folded", None)
         self.assertEqual((told["account"], told["no account"], told["cause"]), (None, "tasks are folded", None))
+
+    def test_the_whole_program_stands_beside_the_region(self):
+        told = summary_json(led_json(Answers(), None, "", None), {"work": 9}, None, None)
+        self.assertEqual((told["text"], told["scale"], told["whole program"]), ("sort.tasks", None, {"work": 9}))
 
     def test_a_file(self):
         with tempfile.TemporaryDirectory() as folder:

@@ -65,6 +65,10 @@ class News(unittest.TestCase):
         self.assertEqual(said.news("/tmp/mine", [TEXT["file"], second["file"]]),
                          ["mine: " + IN_WORDS, large])
 
+    def test_what_two_conversions_tell_is_told_once(self):
+        killed = {"told": "killed", "recorded": 1500000, "inside": True}
+        self.assertEqual(len(Told(True, [killed]).and_also([LARGE, killed]).news("/tmp/mine")), 2)
+
     def test_a_text_that_is_one_of_several_runs(self):
         self.assertEqual(Told(True, [REMARK, TEXT]).without([TEXT["file"]]).things, [REMARK])
 
