@@ -3,7 +3,7 @@ ghost use Rattle.std.specs.Prelude.{Some, ◌≡◌, ◌<◌, ◌%◌, ◌^◌, 
 ghost use Rattle.std.specs.Prelude.{sum_by, unwrap_or};
 ghost use Rattle.open_segments.specs.Entry.{entry};
 ghost use Rattle.task_segments.specs.Table.{costs_of};
-ghost use Rattle.std.specs.Prelude.{IfOk};
+ghost use Rattle.std.specs.Prelude.{IfOk, replicate};
 ghost use Rattle.dispatch_core.specs.First.{AreFirst};
 
 use crate::event::{Event, MOST_WORKERS};
@@ -60,12 +60,23 @@ pub fn first_state<const SEGMENTS: u32, const TASKS: u32>(
     let segments = table.len();
     Ok(RunState {
         history: Vec::with_capacity(alloc, 2 * segments as usize)?,
-        started: vec![in alloc; false; segments as usize]?,
-        running: vec![in alloc; None; MOST_WORKERS as usize]?,
-        values: vec![in alloc; None; segments as usize]?,
+        started: copies_of(alloc, false, segments)?,
+        running: copies_of(alloc, None, MOST_WORKERS)?,
+        values: copies_of(alloc, None, segments)?,
         counters: Counters::new(alloc, table)?,
         costs: costs(alloc, table)?,
     })
+}
+
+/// A list of so many copies of one thing.
+fn copies_of<T: Copy + Drop>(alloc: Global, one: T, count: u32) -> Result<Vec<T>, AllocFault>
+    ensures { IfOk result (λ list. list.items ≡ replicate count one) }
+{
+    let mut list = Vec::with_capacity(alloc, count as usize)?;
+    for _ in 0..count {
+        list.push(one)?;
+    }
+    Ok(list)
 }
 
 /// The costs of a program's segments.
