@@ -27,7 +27,7 @@ runs() {
     inside() { env -i HOME="$folder" PATH="$1/bin:/usr/bin:/bin" "${@:2}"; }
     [ "$(inside "$1" spanprof span < examples/worked.tasks | sed -n 1p)" = "segments 4" ] || fail "$2: spanprof"
     [ "$(inside "$1" spanprof_large < examples/worked.tasks | sed -n 1p)" = "tasks 1" ] || fail "$2: spanprof_large"
-    for tool in spanprof-record spanprof-report spanprof-path spanprof-conformance; do
+    for tool in spanprof-{record,convert,report,path,predict,whatif,conformance}; do
         inside "$1" "$tool" --version | grep -q "^$tool $version (logic " || fail "$2: $tool --version"
         inside "$1" "$tool" --help > /dev/null || fail "$2: $tool --help"
     done

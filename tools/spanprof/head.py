@@ -225,7 +225,8 @@ def read_line(head, line):
         LINES[name](head, json.loads(value))
     except (ValueError, KeyError, TypeError, AttributeError):
         if name == "recorded" or head.is_measured:     # else it is somebody's own
-            head.remarks.append(read_remark(OLDER if name == "recorded" else UNREAD + name))
+            is_older = name == "recorded" and not value.startswith("{")
+            head.remarks.append(read_remark(OLDER if is_older else UNREAD + name))
 
 
 def read_head(text):

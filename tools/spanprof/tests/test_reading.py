@@ -6,7 +6,7 @@ from unittest import mock
 
 from spanprof import client
 from spanprof.errors import Fault
-from spanprof.head import OLDER, Head, read_head, said, with_function
+from spanprof.head import OLDER, UNREAD, Head, read_head, said, with_function
 from spanprof.text import has_loops
 
 TEXT = """\
@@ -101,6 +101,8 @@ class Heads(unittest.TestCase):
                                                 line.split(":")[0]])
             self.assertEqual((head.remarks[1].work, head.remarks[1].span), ("either", "either"))
         self.assertEqual(read_head("# runs: every day\nomptasks 1\n").remarks, [])     # somebody's own
+        self.assertEqual(read_head("# recorded: sort, 4 threads\n").remarks, [OLDER])
+        self.assertEqual(read_head('# recorded: {"program": \n').remarks, [UNREAD + "recorded"])
         odd = read_head('# remark: {"remark": "held lock", "span": "sideways"}\n').remarks
         self.assertEqual((odd[0].work, odd[0].span), ("either", "either"))
 
