@@ -6,6 +6,7 @@ import tempfile
 import unittest
 
 from spanprof.conformance.cases import Bench, Plan
+from spanprof.conformance.exclusion import first_overlap
 from spanprof.conformance.judge import Record, Verdict
 from spanprof.conformance.toolchain import BuildFailed
 from spanprof.conformance.tests.helpers import PLAN, case_of
@@ -40,7 +41,7 @@ class StubJudge:
     """Refuses logs that are EARLY, and counts what it is asked."""
 
     def __init__(self):
-        self.asked = 0
+        self.asked, self.search = 0, first_overlap
 
     def record(self, _text):
         return Record([[], [0], [0], [1, 2]], "1", "")
