@@ -96,6 +96,7 @@ one 900 quick.sh checks/quick.sh
 one 600 examples.sh checks/agree/examples.sh
 one 600 documents.py checks/agree/documents.py
 one 600 'accounts.py 300' checks/agree/accounts.py 300
+one 300 exclusion.py checks/agree/exclusion.py
 timed 1800 openmp_cases.sh checks/recorders/openmp_cases.sh
 timed 900 record.sh checks/recorders/record.sh
 timed 900 recorded_accounts.sh checks/recorders/recorded_accounts.sh

@@ -2,7 +2,7 @@
 # Proves a program alone, without tests and without edits that must be refused: crates/PROGRAM/out/PROGRAM. It is the gate
 # over a copy that has the program's crates and nothing else, every proof from nothing.
 #
-#     tools/prove_program.sh [PROGRAM]      spanprof, if none is named, or spanprof_large
+#     tools/prove_program.sh [PROGRAM]      spanprof, if none is named, spanprof_large or spanprof_exclusion
 set -euo pipefail
 top=$(cd "$(dirname "$0")/.." && pwd)
 program=${1:-spanprof}
@@ -25,7 +25,7 @@ awk -F: -v program="$program" '
 cp "$top/HANDLES" "$copy/"
 for crate in $(cut -d: -f1 "$copy/crates.txt" | cut -d' ' -f1); do
     mkdir -p "$copy/crates/$crate"
-    for part in src specs proofs args stdin stdout; do
+    for part in src specs proofs args stdin stdout status; do
         [ ! -e "$top/crates/$crate/$part" ] || cp -R "$top/crates/$crate/$part" "$copy/crates/$crate/"
     done
 done

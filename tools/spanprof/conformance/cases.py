@@ -126,7 +126,8 @@ class Examined:
             return verdict
         told = {"chunks": wrong_chunks(self.table, log)}
         if not log.unlogged:
-            tests = {"moved": moved, "overlapping": overlapping}
+            search = functools.partial(overlapping, search=self.judge.search)
+            tests = {"moved": moved, "overlapping": search}
             if constrained:
                 tests["unconstrained"] = unconstrained
             told.update((kind, test(self.table, without_discarded(log))) for kind, test in tests.items())

@@ -5,6 +5,7 @@ import shutil
 import subprocess
 from dataclasses import dataclass
 
+from spanprof.conformance.exclusion import first_overlap
 from spanprof.errors import Fault
 
 BUILT = pathlib.Path(__file__).resolve().parents[3] / "crates" / "spanprof" / "out" / "spanprof"
@@ -53,10 +54,10 @@ def find_spanprof(named, environment):
 
 
 class Judge:
-    """Asks the program at a path."""
+    """Asks the program at a path. `search` finds the first overlap of tasks that exclude one another."""
 
-    def __init__(self, spanprof):
-        self.spanprof = spanprof
+    def __init__(self, spanprof, search=first_overlap):
+        self.spanprof, self.search = spanprof, search
 
     def ask(self, words, text):
         """The exit status and the output of a command of spanprof."""

@@ -3,6 +3,7 @@ import os
 import pathlib
 
 from spanprof.conformance.cases import Bench, Plan
+from spanprof.conformance.exclusion import found_search
 from spanprof.conformance.expected import USUAL, Expectations, read_expected
 from spanprof.conformance.judge import Judge, Missing, Refused, find_spanprof
 from spanprof.conformance.mutants import build_mutants, family_of, mutants_of, mutated
@@ -13,7 +14,7 @@ from spanprof.refusal import explained
 
 
 def judge_of(options):
-    return Judge(find_spanprof(options.spanprof, os.environ))
+    return Judge(find_spanprof(options.spanprof, os.environ), found_search())
 
 
 def open_bench(options, folder):

@@ -9,6 +9,7 @@ from concurrent.futures import ThreadPoolExecutor
 from unittest import mock
 
 from spanprof.conformance.cases import Bench, Plan
+from spanprof.conformance.exclusion import first_overlap
 from spanprof.conformance.judge import Record, Verdict
 from spanprof.conformance.launch import Log
 from spanprof.conformance.toolchain import BuildFailed
@@ -44,7 +45,7 @@ class StubJudge:
     """Refuses logs that are EARLY, and counts what it is asked."""
 
     def __init__(self):
-        self.asked = 0
+        self.asked, self.search = 0, first_overlap
 
     def record(self, _text):
         return Record([[], [0], [0], [1, 2]], "1", "")

@@ -1,0 +1,3 @@
+pub mod UnderWay
+pub mod Overlaps
+pub mod LogLines

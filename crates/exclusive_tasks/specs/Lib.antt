@@ -1,0 +1,4 @@
+pub mod Exclusion
+pub mod Marking
+pub mod Lines
+pub mod Verdicts
