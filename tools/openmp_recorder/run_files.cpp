@@ -34,8 +34,8 @@ bool is_older(const std::string &file, int64_t began) {
 
 // Of what the recorder writes into the folder of a log.
 bool is_of_log(const std::string &file) {
-  return file == log_form::head_file || file == log_form::modules_file || !file.rfind(log_form::measured_file, 0) ||
-         !file.rfind(log_form::thread_file, 0);
+  return file == log_form::head_file || file == log_form::modules_file || file == log_form::paths_file ||
+         !file.rfind(log_form::measured_file, 0) || !file.rfind(log_form::thread_file, 0);
 }
 
 std::vector<std::string> files_in(const std::string &folder) {

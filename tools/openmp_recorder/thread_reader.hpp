@@ -22,7 +22,9 @@ class ThreadReader : public Records {
     Told told() const { return log_form::told_by(record.word); }
     unsigned detail() const { return static_cast<unsigned>(record.word >> (log_form::code_bits + 8)); }
     uint64_t code() const { return record.word & log_form::code_mask; }
-    uint64_t path() const { return told() == Told::Create || told() == Told::LoopBegin ? log_form::path_of(code()) : 0; }
+    uint64_t path() const {
+      return told() == Told::Create || told() == Told::LoopBegin ? log_form::path_of(code()) : 0;
+    }
     const void *place() const { return reinterpret_cast<const void *>(code()); }
     uint64_t wide() const { return record.task | uint64_t{record.other} << 32; }
   };

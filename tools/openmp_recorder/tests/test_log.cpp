@@ -175,6 +175,15 @@ TEST(a_log_without_paths_is_of_the_version_before) {
   EXPECT(log.records().size(), 1u);
 }
 
+TEST(a_log_of_an_earlier_run_goes_with_its_paths) {
+  MadeLog log;
+  log.paths("4010a0 4020b0\n");
+  log.last({raw(10, Told::Schedule, 1, 2)});
+  log.open();
+  remove_old_files(log.folder.substr(0, log.folder.rfind(".log")), INT64_MAX);
+  EXPECT(access(log.folder.c_str(), F_OK), -1);
+}
+
 TEST(full_blocks_come_before_the_last_one) {
   MadeLog log;
   log.full(schedules(1, 2 * in_block));

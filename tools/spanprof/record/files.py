@@ -9,7 +9,7 @@ from spanprof.errors import Fault
 USUAL_REGIONS = 10
 OF_A_RECORDING = re.compile(r"(\.rank[0-9]+)?(\.[0-9]+)?(\.whole)?((\.large)?(\.inout)?\.(tasks|replay|times|timed)|"
                             r"\.scale\.json|\.online\.json|\.regions)")
-IN_A_LOG = re.compile(r"head|modules|online(\.new)?|thread\.[0-9]+(\.last)?")
+IN_A_LOG = re.compile(r"head|modules|paths|online(\.new)?|thread\.[0-9]+(\.last)?")
 
 
 @dataclass

@@ -67,8 +67,9 @@ class Recordings(OfARecording):
         self.assertEqual(self.names(), ["mine", "mine.c", "mine.html", "mine.x.tasks"])
 
     def test_old_logs_go_and_what_else_is_in_them_stays(self):
-        for name in ("mine.log/head", "mine.log/modules", "mine.log/thread.12", "mine.log/thread.12.last",
-                     "mine.rank1.4711.log/head", "mine.4712-2.log/notes", "mine.4712-2.log/thread.0"):
+        for name in ("mine.log/head", "mine.log/modules", "mine.log/paths", "mine.log/thread.12",
+                     "mine.log/thread.12.last", "mine.rank1.4711.log/head", "mine.4712-2.log/notes",
+                     "mine.4712-2.log/thread.0"):
             self.write(name)
         files.remove_old(self.out)
         self.assertEqual(self.names(), ["mine.4712-2.log"])
