@@ -1,7 +1,6 @@
 """Runs many cases side by side."""
 import concurrent.futures
 import fnmatch
-import os
 import random
 import time
 
@@ -47,10 +46,9 @@ def spread(cases):
 
 
 def tried(bench, cases, plan, jobs):
-    """Each of the cases with its tallies, as it ends; each is run as the plan says. The bench has so many programs run
-    side by side, and every processor builds and judges. What may only have been slow comes last, after a second try."""
-    progress, slow = Progress(len(cases)), []
-    pool = concurrent.futures.ThreadPoolExecutor(max(jobs, os.cpu_count() or 1))
+    """Each of the cases with its tallies, as it ends; each is run as the plan says. What may only have been slow comes
+    last, after a second try."""
+    progress, pool, slow = Progress(len(cases)), concurrent.futures.ThreadPoolExecutor(jobs), []
     try:
         futures = {pool.submit(bench.try_case, case, plan.conditions(case)): case for case in spread(cases)}
         for future in concurrent.futures.as_completed(futures):

@@ -3,7 +3,6 @@ import collections
 import functools
 import itertools
 import shutil
-import threading
 import zlib
 from dataclasses import dataclass, field, replace
 
@@ -147,11 +146,11 @@ class Examined:
 
 
 class Bench:
-    """Where cases are built, run and judged. At most `at_once` programs run side by side."""
+    """Where cases are built, run and judged."""
 
-    def __init__(self, toolchain, judge, environment, expectations=Expectations("", ()), at_once=1):
+    def __init__(self, toolchain, judge, environment, expectations=Expectations("", ())):
         self.toolchain, self.judge, self.environment = toolchain, judge, environment
-        self.expectations, self.running = expectations, threading.BoundedSemaphore(at_once)
+        self.expectations = expectations
         self.programs, self.numbers = {}, itertools.count()
 
     def build(self, source):
@@ -184,17 +183,12 @@ class Bench:
         if not shutil.which("gdb"):
             return []
         program = self.build(self.examined(case).source())
-        logs = self.logs_of(program, conditions, {"CONFORMANCE_STACKS": "1"})
+        logs = launch(program, conditions, {**self.environment, "CONFORMANCE_STACKS": "1"})
         return next((log.stacks for log in logs if log.stacks), [])
-
-    def logs_of(self, program, conditions, more=None):
-        """The logs of a program's runs, with more variables in its environment, once it may run."""
-        with self.running:
-            return launch(program, conditions, {**self.environment, **(more or {})})
 
     def tally(self, examined, program, conditions):
         tally, before = Tally(conditions), examined.judged_logs
-        for log in self.logs_of(program, conditions):
+        for log in launch(program, conditions, self.environment):
             tally.runs += 1
             tally.events += len(log.events)
             tally.schedules[log.schedule] += 1

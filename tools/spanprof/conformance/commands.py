@@ -86,7 +86,7 @@ def shrink_failures(options, bench, results):
     """One small program for each kind of failure, the most frequent kinds first."""
     failures = [group.smallest for _, group in results.most_frequent()[:options.shrink]]
     limits = Limits(options.shrink_runs, options.shrink_tries, options.shrink_seconds)
-    return reproduce_all(bench, failures, limits)
+    return reproduce_all(bench, failures, limits, options.jobs)
 
 
 def command_mutants(options, folder):

@@ -23,7 +23,7 @@ def open_bench(options, folder):
     files = [USUAL] * options.known_faults + options.expected
     usual = family_of(toolchain.runtime(dict(os.environ)))
     expectations = Expectations(toolchain.runtime(environment), read_expected(files), usual)
-    return Bench(toolchain, judge_of(options), environment, expectations, options.jobs)
+    return Bench(toolchain, judge_of(options), environment, expectations)
 
 
 def entry_points(bench):

@@ -94,7 +94,7 @@ def add_bench_options(name, parser):
     add("--seed", type=natural, default=1, help="the least number of a random program, and the delays' seed (1)")
     add("--timeout", type=positive, default=10, help="seconds until a run counts as hung (10)")
     add("--jobs", type=positive, default=max(1, (os.cpu_count() or 1) // 2),
-        help="programs that run side by side (half as many as processors, all of which build and judge)")
+        help="programs that are tried side by side (half as many as processors)")
     add("--match", default="*", metavar="PATTERN", help="only the directed programs whose names fit it (*)")
     add("--keep", default="", metavar="FOLDER", help="keep the built programs there, and take those that are there")
     add("--report", default="", help=REPORT)
@@ -131,7 +131,7 @@ def add_failure_options(name, parser):
     add("--shrink", type=natural, default=8, help="how many kinds of failures are shrunk (8)")
     add("--shrink-runs", type=positive, default=20, help="runs in which a smaller program has to fail once (20)")
     add("--shrink-tries", type=natural, default=300, help="smaller programs to try at most (300)")
-    add("--shrink-seconds", type=natural, default=90, help="seconds for each of these kinds at most (90)")
+    add("--shrink-seconds", type=natural, default=60, help="seconds for each of these kinds at most (60)")
     if name == "run":
         add("--programs", type=natural, default=100, help="how many random programs (100); with --hours: of a batch")
         add("--hours", type=float, default=0, help="go on with batch after batch until so many hours are full")

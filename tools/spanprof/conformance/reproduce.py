@@ -1,6 +1,5 @@
 """Shrinks failures to programs that a person can read."""
 import concurrent.futures
-import os
 import threading
 import time
 from dataclasses import dataclass, field, replace
@@ -59,8 +58,8 @@ class Limits:
     seconds: float
 
 
-def reproduce_all(bench, failures, limits):
-    """What is found for each of the failures, which are shrunk side by side."""
+def reproduce_all(bench, failures, limits, jobs):
+    """What is found for each of the failures, of which so many are shrunk side by side."""
     interrupted = threading.Event()
 
     def reproduce(failure):
@@ -69,7 +68,7 @@ def reproduce_all(bench, failures, limits):
         say(f"made smaller: {failure.case.name}, {failure.verdict.kind}, {failure.rule}")
         return found
 
-    pool = concurrent.futures.ThreadPoolExecutor(os.cpu_count() or 1)
+    pool = concurrent.futures.ThreadPoolExecutor(jobs)
     try:
         return list(pool.map(reproduce, failures))
     finally:

@@ -3,9 +3,7 @@ import collections
 import os
 import pathlib
 import tempfile
-import time
 import unittest
-from concurrent.futures import ThreadPoolExecutor
 from unittest import mock
 
 from spanprof.conformance.cases import Bench, Plan
@@ -13,7 +11,7 @@ from spanprof.conformance.exclusion import first_overlap
 from spanprof.conformance.judge import Record, Verdict
 from spanprof.conformance.launch import Log
 from spanprof.conformance.toolchain import BuildFailed
-from spanprof.conformance.tests.helpers import PLAN, case_of, conditions
+from spanprof.conformance.tests.helpers import PLAN, case_of
 from spanprof.conformance.variants import VARIANTS
 
 LOG = "start 0 0\nfinish 0 0\nstart 1 1\nstart 0 2\nfinish 0 2\nfinish 1 1\nstart 0 3\nfinish 0 3\n"
@@ -114,19 +112,6 @@ class Cases(unittest.TestCase):
         with mock.patch("spanprof.conformance.cases.launch", lambda *_: [Log(0, unlogged=True), Log(1)]):
             (tally,) = bench.try_case(case_of(), PLAN.conditions(case_of())[:1])
         self.assertEqual((tally.runs, tally.judged), (2, 1))
-
-    def test_so_many_programs_run_side_by_side(self):
-        bench, running, seen = Bench(None, StubJudge(), {}, at_once=2), [], []
-
-        def run(*_):
-            running.append(1)
-            seen.append(len(running))
-            time.sleep(.01)
-            running.pop()
-
-        with mock.patch("spanprof.conformance.cases.launch", run), ThreadPoolExecutor(6) as pool:
-            list(pool.map(lambda _: bench.logs_of("program", conditions()), range(12)))
-        self.assertEqual((len(seen), max(seen)), (12, 2))
 
     def test_settings_that_names_ask_for(self):
         plan = Plan((1, 2, 4), 1, 1, 1, ("free", "perturbed", "priorities"))

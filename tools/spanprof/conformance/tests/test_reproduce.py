@@ -77,7 +77,7 @@ class All(unittest.TestCase):
     def reproduced(self, seconds):
         failures = [failure_of(case_of(name, "task { work 3 } taskgroup { taskwait } task { }"), rule=name)
                     for name in ("taskwait", "dependence", "order")]
-        return reproduce_all(Bench(waits), failures, Limits(5, 100, seconds))
+        return reproduce_all(Bench(waits), failures, Limits(5, 100, seconds), 2)
 
     def test_each_in_the_order_of_the_failures(self):
         found = self.reproduced(60)
