@@ -1,5 +1,5 @@
 #!/usr/bin/env python3
-"""Writes the texts that run.sh times, each near a limit of the program text: NAME.tasks, and NAME.replay, which has
+"""Writes the texts that the benches time, each near a limit of the program text: NAME.tasks, and NAME.replay, which has
 behind the text a whole run on one worker, in the order of the segments' numbers."""
 
 import argparse

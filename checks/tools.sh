@@ -93,6 +93,7 @@ timed() {
 
 install_packages
 one 900 quick.sh checks/quick.sh
+one 600 compiles.sh checks/sources/compiles.sh
 one 600 examples.sh checks/agree/examples.sh
 one 600 documents.py checks/agree/documents.py
 one 600 'accounts.py 300' checks/agree/accounts.py 300

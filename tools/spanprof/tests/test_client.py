@@ -33,7 +33,6 @@ class Asking(unittest.TestCase):
                          "spanprof span: error: input too long: standard input has at most 8,388,608 bytes")
         self.assertEqual(signal.getsignal(signal.SIGPIPE), before)
 
-
     def test_a_program_that_is_not_spanprof(self):
         with tempfile.NamedTemporaryFile("w", suffix=".tasks") as text:
             for script, why in (("exit 7\n", "%s: spanprof span: it ended with status 7" % text.name),

@@ -47,7 +47,6 @@ class OfALine(unittest.TestCase):
         for kind in ("TooLong", "BadByte", "TooDeep", "TooManyTasks", "WorkTooLarge", "TooManyTurns", "Unopened"):
             self.assertRegex(told("error: line 3: " + kind, "}"), "^mine.tasks:3: %s: .{10}" % kind)
 
-
     def test_an_empty_text(self):
         for text in ("", "# nothing\n"):
             self.assertEqual(told("error: line 1: BadHeader", "x", text=text),

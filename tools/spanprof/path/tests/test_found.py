@@ -54,7 +54,7 @@ class ByPlace(unittest.TestCase):
                 places_of("omptasks 1\ntask {\n}\n", rows)
 
     def test_other_statements_are_refused(self):
-        with self.assertRaisesRegex(Fault, "`for` is no statement of version 1"):
+        with self.assertRaisesRegex(Fault, "`for` is of version 2, and spanprof-path takes"):
             places_of("omptasks 2\nfor i 0 3 { work 2 }\n", [(0, True)] * 9)
 
     def test_random_texts(self):
