@@ -37,7 +37,7 @@ class StubToolchain:
 
 
 class StubJudge:
-    """Refuses logs that are EARLY, and counts what it is asked."""
+    """Refuses logs that are EARLY, finds others without events incomplete, and counts what it is asked."""
 
     def __init__(self):
         self.asked = 0
@@ -49,7 +49,7 @@ class StubJudge:
         self.asked += 1
         if "\n".join([*log.events, ""]) == EARLY:
             return Verdict("refused", "event 5: NotReady 1")
-        return Verdict("accepted")
+        return Verdict("accepted") if log.events else Verdict("incomplete", "finished 0 of 4 segments")
 
 
 class Plans(unittest.TestCase):
@@ -89,6 +89,11 @@ class Cases(unittest.TestCase):
         self.assertEqual(failure.signature, ("tied", "refused", "taskwait"))
         self.assertIn("the taskwait of task 0 waits for its child task 1", failure.words)
         self.assertEqual(failure.log.number, 1)
+
+    def test_nothing_is_judged_after_a_run_that_left_a_task_over(self):
+        _, tallies = self.tallies(LOG, "", EARLY)
+        self.assertEqual((tallies[0].runs, [failure.verdict.kind for failure in tallies[0].failures]),
+                         (2, ["incomplete"]))
 
     def test_tied_task_on_another_thread(self):
         _, tallies = self.tallies(LOG.replace("0 3", "1 3"))
