@@ -1,35 +1,35 @@
-/* Tasks with `mutexinoutset`: behind a barrier one of them has not run, and it may run in a later region. */
+/* Two tasks with `mutexinoutset`, whose parent has ended: the second one begins while the first runs, or never runs. */
+#include <stdatomic.h>
 #include <stdio.h>
+#include <unistd.h>
+
+static atomic_int begun, runs, ended;
 
 int main(void) {
-    static int done, x;
-    int wrong = 0;
-    for (int run = 0; run < 400 && wrong < 2; run++) {
-        int seen = 0;
-        done = 0;
-#pragma omp parallel num_threads(4) shared(seen)
-        {
-#pragma omp single
-#pragma omp taskloop num_tasks(5) nogroup
-            for (int i = 0; i < 8; i++) {
-#pragma omp task depend(mutexinoutset : x)
-                {
-#pragma omp atomic
-                    done++;
-                }
-            }
+    char x;
+    int at_once = 0, left = 0;
+    for (int run = 0; run < 20; run++) {
+        begun = runs = ended = 0;
+#pragma omp parallel num_threads(4) shared(at_once)
 #pragma omp master
+#pragma omp task shared(at_once)
+        {
+#pragma omp task depend(mutexinoutset : x)
             {
-#pragma omp atomic read
-                seen = done;
+                begun = runs = 1;
+                usleep(20000);
+                runs = 0;
+                ended++;
+            }
+            for (int i = 0; i < 10000 && !begun; i++) usleep(100);
+#pragma omp task depend(mutexinoutset : x) shared(at_once)
+            {
+                at_once += runs;
+                ended++;
             }
         }
-        if (seen != 8) {
-            printf("run %d: %d of 8 tasks behind the barrier\n", run, seen);
-            fflush(stdout);
-            wrong++;
-        }
+        left += ended < 2;
     }
-    puts(wrong ? "wrong" : "right");
-    return wrong != 0;
+    printf("at once %d times, left over %d times of 20\n", at_once, left);
+    return at_once || left;
 }

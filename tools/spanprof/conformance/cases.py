@@ -198,5 +198,7 @@ class Bench:
             if not verdict.accepted:
                 told = explain(examined.text, verdict, log, conditions.threads)
                 tally.failures.append(Failure(examined.case, conditions, verdict, told.rule, told.words, log))
+            if verdict.kind == "incomplete":  # what was left over may run in later runs
+                break
         tally.judged = examined.judged_logs - before
         return self.expectations.settled(tally)

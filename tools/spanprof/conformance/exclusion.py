@@ -9,6 +9,8 @@ from spanprof.conformance.segments import Made
 from spanprof.errors import Fault
 from spanprof.folders import places_of, words_for
 
+PARENT_ENDED = ", and the code of their parent has ended"
+
 
 @dataclass(frozen=True)
 class Claim:
@@ -90,4 +92,14 @@ def overlapping(table, events, search=first_overlap):
     begins, other = claims[found.begins], claims[found.under_way].task
     thread = events[found.event].split()[1]
     return f"event {found.event}: thread {thread} begins {table.name_of(begins.task.segments[0])} before task " \
-           f"{other.number}, `{other.head}`, is complete: both have `mutexinoutset` items on {begins.location}"
+           f"{other.number}, `{other.head}`, is complete: both have `mutexinoutset` items on {begins.location}" + \
+           PARENT_ENDED * has_finished(events[:found.event], other.parent.segments[-1])
+
+
+def has_finished(events, segment):
+    return any(what == "finish" and int(one) == segment for what, _, one in map(str.split, events))
+
+
+def rule_of(words):
+    """What tells failures apart of which `overlapping` tells."""
+    return "overlapping" + PARENT_ENDED * words.endswith(PARENT_ENDED)

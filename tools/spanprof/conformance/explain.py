@@ -1,7 +1,7 @@
 """Says in words what a failed run broke."""
 from dataclasses import dataclass
 
-from spanprof.conformance.chunks import rule_of
+from spanprof.conformance import chunks, exclusion, tied
 from spanprof.conformance.reader import read_program
 from spanprof.conformance.segments import Table, conflict
 from spanprof.conformance.standing import Standing, without_places
@@ -38,7 +38,11 @@ def explain(text, verdict, log, threads=0):
     if verdict.kind in ("hung", "incomplete", "crashed"):
         return stopped(Table(read_program(text)), verdict, log, threads)
     if verdict.kind == "chunks":
-        return Explanation(rule_of(verdict.detail), verdict.detail)
+        return Explanation(chunks.rule_of(verdict.detail), verdict.detail)
+    if verdict.kind == "overlapping":
+        return Explanation(exclusion.rule_of(verdict.detail), verdict.detail)
+    if verdict.kind == "unconstrained":
+        return Explanation(tied.rule_of(Table(read_program(text)), verdict.detail), verdict.detail)
     if log and log.unlogged and verdict.kind == "refused":
         return Explanation("twice", verdict.detail)
     return Explanation(verdict.detail if verdict.kind == "refused" else verdict.kind, verdict.detail)
@@ -99,7 +103,7 @@ def reason_of(table, need, after):
 def stopped(table, verdict, log, threads):
     """Where a run stood that did not come to its end. Hangs are told apart by where they stand, breakdowns by what the
     runtime said."""
-    standing = Standing(table, log.events, threads)
+    standing = Standing(table, log.events, threads, log.unlogged)
     detail = f" ({verdict.detail})" if verdict.detail and verdict.kind != "incomplete" else ""
     words = [f"{verdict.kind.capitalize()}{detail}, with {len(standing.finished)} of {len(table.cost)} segments "
              "finished."]

@@ -8,11 +8,11 @@ NO_WAITER = " that no thread waits for"
 
 
 class Standing:
-    """What a log says of a program, given its table of segments and the number of threads, or 0 where it is not
-    known."""
+    """What a log says of a program, given its table of segments, the number of threads, or 0 where it is not known, and
+    whether the events have neither an order nor a thread."""
 
-    def __init__(self, table, events, threads=0):
-        self.table, self.threads = table, threads
+    def __init__(self, table, events, threads=0, unlogged=False):
+        self.table, self.threads, self.unlogged = table, threads, unlogged
         pairs = [line.split() for line in events if line != "overflow"]
         self.last = {table.task_of[int(s)].number: (place, worker) for place, (_, worker, s) in enumerate(pairs)
                      if int(s) < len(table.task_of)}  # of each task, its last event's place and thread
@@ -40,9 +40,12 @@ class Standing:
         return "begin of a task with depend" if task.items else "begin of a task"
 
     def is_nothing_waited_for(self):
-        """Whether each thread of the team waits inside of a task, and none at a barrier, for tasks that cannot
-        begin."""
-        return 0 < self.threads <= sum(self.waits_in_vain(stack[-1]) for stack in self.stacks.values() if stack)
+        """Whether each thread of the team waits inside of a task, and none at a barrier, for tasks that cannot begin.
+        Where the threads are not known, so many tasks have to wait so."""
+        innermost = [stack[-1] for stack in self.stacks.values() if stack]
+        if self.unlogged:
+            innermost = [task for stack in self.stacks.values() for task in stack]
+        return 0 < self.threads <= sum(map(self.waits_in_vain, innermost))
 
     def waits_in_vain(self, task):
         """Whether a task that has begun is at a wait for tasks that cannot begin. The end of a region is no wait

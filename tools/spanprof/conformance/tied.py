@@ -1,4 +1,7 @@
 """What holds of tied tasks alone. All tasks of spanprof's text are untied, so it is looked at here."""
+import re
+
+UNDEFERRED = "undeferred task of an untied one"
 
 
 def moved(table, events):
@@ -16,7 +19,8 @@ def moved(table, events):
 def unconstrained(table, events):
     """In words, the first event in which a thread begins a tied task that is not below each tied task which has begun
     there and is not complete; None without one. This is the task scheduling constraint of the OpenMP API 5.2. Implicit
-    tasks are left out, of which one may run several parts of the text."""
+    tasks are left out, of which one may run several parts of the text, and what is below a final task, which the
+    thread that meets it has to run."""
     open_tasks = {}  # by thread, the tied tasks that have begun there and are not complete
     for place, event in enumerate(events):
         what, thread, segment = event.split()
@@ -26,13 +30,24 @@ def unconstrained(table, events):
         there = open_tasks.setdefault(thread, [])
         if what == "start" and int(segment) == task.segments[0]:
             others = [other for other in there if not is_below(task, other)]
-            if others:
+            if others and not is_included(task):
                 return f"event {place}: thread {thread} begins {table.name_of(int(segment))}, which is tied and not " \
                        f"below task {others[-1].number}, `{others[-1].head}`, which is tied and suspended there"
             there.append(task)
         elif what == "finish" and int(segment) == task.segments[-1] and task in there:
             there.remove(task)
     return None
+
+
+def rule_of(table, words):
+    """What tells failures apart of which `unconstrained` tells."""
+    task = table.task_of[int(re.search(r"begins segment (\d+) ", words)[1])]
+    return UNDEFERRED if task.undeferred and not task.parent.tied else "unconstrained"
+
+
+def is_included(task):
+    """Whether a task is below a final one."""
+    return task.parent is not None and task.parent.final_inside
 
 
 def is_below(task, other):

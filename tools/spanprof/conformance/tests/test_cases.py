@@ -40,7 +40,7 @@ class StubToolchain:
 
 
 class StubJudge:
-    """Refuses logs that are EARLY, and counts what it is asked."""
+    """Refuses logs that are EARLY, finds others without events incomplete, and counts what it is asked."""
 
     def __init__(self):
         self.asked, self.search = 0, first_overlap
@@ -52,7 +52,7 @@ class StubJudge:
         self.asked += 1
         if "\n".join([*log.events, ""]) == EARLY:
             return Verdict("refused", "event 5: NotReady 1")
-        return Verdict("accepted")
+        return Verdict("accepted") if log.events else Verdict("incomplete", "finished 0 of 4 segments")
 
 
 class Plans(unittest.TestCase):
@@ -93,6 +93,11 @@ class Cases(unittest.TestCase):
         self.assertIn("the taskwait of task 0 waits for its child task 1", failure.words)
         self.assertEqual(failure.log.number, 1)
 
+    def test_nothing_is_judged_after_a_run_that_left_a_task_over(self):
+        _, tallies = self.tallies(LOG, "", EARLY)
+        self.assertEqual((tallies[0].runs, [failure.verdict.kind for failure in tallies[0].failures]),
+                         (2, ["incomplete"]))
+
     def test_tied_task_on_another_thread(self):
         _, tallies = self.tallies(LOG.replace("0 3", "1 3"))
         self.assertEqual(tallies[0].failures[0].signature, ("tied", "moved", "moved"))
@@ -109,7 +114,8 @@ class Cases(unittest.TestCase):
 
     def test_logs_without_an_order_are_not_judged_by_spanprof(self):
         bench = Bench(StubToolchain(self.folder, [LOG]), StubJudge(), dict(os.environ))
-        with mock.patch("spanprof.conformance.cases.launch", lambda *_: [Log(0, unlogged=True), Log(1)]):
+        logs = [Log(0, events=LOG.splitlines(), unlogged=True), Log(1, events=LOG.splitlines())]
+        with mock.patch("spanprof.conformance.cases.launch", lambda *_: logs):
             (tally,) = bench.try_case(case_of(), PLAN.conditions(case_of())[:1])
         self.assertEqual((tally.runs, tally.judged), (2, 1))
 

@@ -5,7 +5,8 @@ import unittest
 from unittest import mock
 
 from spanprof.conformance import exclusion
-from spanprof.conformance.exclusion import Overlap, ProvedSearch, claims_of, first_overlap, found_search, overlapping
+from spanprof.conformance.exclusion import (PARENT_ENDED, Overlap, ProvedSearch, claims_of, first_overlap, found_search,
+                                            overlapping, rule_of)
 from spanprof.conformance.segments import Table
 from spanprof.conformance.tests.helpers import body_of
 from spanprof.errors import Fault
@@ -28,6 +29,12 @@ class Exclusion(unittest.TestCase):
         words = told(PAIR, *AT_ONCE)
         self.assertTrue(words.startswith("event 2: thread 2 begins segment 4"), words)
         self.assertTrue(words.endswith("is complete: both have `mutexinoutset` items on a"), words)
+        self.assertEqual(rule_of(words), "overlapping")
+
+    def test_after_the_end_of_their_parent(self):
+        words = told(PAIR, "start 1 1", "finish 1 1", "finish 0 5", "start 2 4")
+        self.assertTrue(words.endswith("on a, and the code of their parent has ended"), words)
+        self.assertEqual(rule_of(words), "overlapping" + PARENT_ENDED)
 
     def test_other_locations_other_kinds_and_other_parents(self):
         self.assertIsNone(told(PAIR.replace("inoutset: a", "inoutset: b", 1), *AT_ONCE))

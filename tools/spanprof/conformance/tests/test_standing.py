@@ -66,6 +66,19 @@ class Places(unittest.TestCase):
         self.assertEqual(place(2, other, [event.replace(" 0 7", " 0 9") for event in moved_on(events)]),
                          "begin of a task, begin of the child of detach")
 
+    def test_the_same_where_the_threads_are_not_known(self):
+        text = "task { task { #: detach\n task if(0) { } } taskwait } taskwait"
+        events = [f"{what} 0 {s}" for s in (0, 1, 2, 5, 7) for what in ("start", "finish")]
+
+        def place(threads, text=text, unlogged=True):
+            return Standing(Table(body_of(text)), events, threads, unlogged).places()
+
+        self.assertEqual(place(2), "begin of the child of detach that no thread waits for")
+        for threads in (0, 3):
+            self.assertEqual(place(threads), "begin of the child of detach")
+        self.assertEqual(place(2, text.removesuffix(" taskwait")), "begin of the child of detach")
+        self.assertEqual(place(2, unlogged=False), "begin of the child of detach")
+
     def test_without_anything_ready(self):
         self.assertEqual(standing("work 1", 0).places(), "end of the region")
         self.assertEqual(standing("work 1", running=[0]).places(), "inside a segment")

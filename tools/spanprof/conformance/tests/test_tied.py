@@ -3,7 +3,7 @@ import unittest
 
 from spanprof.conformance.segments import Table
 from spanprof.conformance.tests.helpers import body_of
-from spanprof.conformance.tied import moved, unconstrained
+from spanprof.conformance.tied import UNDEFERRED, moved, rule_of, unconstrained
 
 EVENTS = ["start 0 0", "finish 0 0", "start 1 1", "finish 1 1", "start 2 2", "finish 2 2", "start 0 3", "finish 0 3"]
 
@@ -55,6 +55,18 @@ class Constraint(unittest.TestCase):
         text = "taskgroup { #: parallel\n task { task { } } task { taskgroup { task { } } } }"
         events = ["start 0 1", "finish 0 1", "start 0 3", "finish 0 3", "start 0 5", "finish 0 5", "start 0 2"]
         self.assertIsNone(self.told(*events, text=text))
+
+    def test_the_undeferred_task_of_an_untied_one(self):
+        # Segments: 0 the root, 1 and 3 the first task, 2 its child, 4 its end, 5 the root, 6 the untied task, 7 its
+        # child.
+        text = "task { task { } taskwait } task { #: untied\n task if(0) { } } taskwait"
+        events = ["start 1 1", "finish 1 1", "start 1 3", "finish 1 3", "start 1 6", "finish 1 6", "start 1 7"]
+        words = self.told(*events, text=text)
+        self.assertIn("begins segment 7", words)
+        self.assertEqual(rule_of(Table(body_of(text)), words), UNDEFERRED)
+        self.assertIsNone(self.told(*events, text=text.replace("{ #: untied", "final(1) { #: untied")))
+        deferred = text.replace(" if(0)", "")
+        self.assertEqual(rule_of(Table(body_of(deferred)), self.told(*events, text=deferred)), "unconstrained")
 
     def test_what_is_below_may_begin(self):
         self.assertIsNone(self.told("start 0 0", "finish 0 0", "start 0 1", "finish 0 1", "start 0 2"))
