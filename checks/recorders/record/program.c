@@ -58,10 +58,10 @@ int main(int count, char **words) {
     while ((c = getchar()) != EOF) putchar(c);
     fprintf(stderr, "a line of the program\n");
     if (!strcmp(first, "none")) return no_tasks(), 0;
+    if (!strcmp(first, "long")) return long_region(), 0;
     if (!strcmp(first, "two")) light_region();
     if (!strcmp(first, "outside")) usleep(500000);
-    if (!strcmp(first, "long")) long_region();
-    else heavy_region();
+    heavy_region();
     if (!strcmp(first, "abort")) abort();
     if (!strcmp(first, "wait")) {
         puts("waiting");
