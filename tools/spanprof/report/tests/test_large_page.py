@@ -124,6 +124,7 @@ class OfAnySize(unittest.TestCase):
             page_file = os.path.join(folder, "m.html")
             with self.assertRaises(SystemExit):
                 main([worked.path("mesh.tasks"), "--json"])
-            self.assertIn("mesh.tasks: the text is beyond the limits of spanprof, and has a page (-o), but no --json", told.getvalue())
+            self.assertIn("mesh.tasks: the text is beyond the limits of spanprof, and has a page (-o), but no --json",
+                          told.getvalue())
             main([worked.path("mesh.tasks"), "-o", page_file])
             self.assertTrue(os.path.exists(page_file))
