@@ -50,7 +50,7 @@ _spanprof_record_program() { # the place of the program among the words; none wh
     for ((i = 1; i < COMP_CWORD; i++)); do
         case ${COMP_WORDS[i]} in
             --) echo $((i + 1)); return ;;
-            --open | --online | --whole | --no-whole | --calibrate | --version | -h | --help) ;;
+            --open | --online | --whole | --no-whole | --call-paths | --calibrate | --version | -h | --help) ;;
             -*) ((i++)) ;;
             *) echo "$i"; return ;;
         esac

@@ -6,6 +6,7 @@
 #include <exception>
 #include <memory>
 #include <new>
+#include <set>
 #include <string>
 
 #include "log_reader.hpp"
@@ -69,6 +70,15 @@ std::vector<Records *> threads_of(const LogFolder &log) {
   return out;
 }
 
+std::unique_ptr<CallPaths> paths_of(const LogFolder &log, const Options &options) {
+  if (log.paths.all().empty() || !options.lines || options.online) return nullptr;
+  std::set<const void *> calls;
+  for (const Calls &path : log.paths.all()) calls.insert(path.begin(), path.end());
+  Places places(&log.modules);
+  places.look_up({calls.begin(), calls.end()});
+  return std::make_unique<CallPaths>(log.paths.all(), places);
+}
+
 void convert(const std::string &folder, const std::string &out) {
   LogFolder log(folder);
   const Head &head = log.head;
@@ -79,6 +89,7 @@ void convert(const std::string &folder, const std::string &out) {
   std::vector<Records *> threads = threads_of(log);
   bool is_known = head.how_ended != HowEnded::Not && head.end_thread < threads.size();
   Ending ending = ending_of(log);
+  std::unique_ptr<CallPaths> paths = paths_of(log, options);
   remove_texts(out);
   Job job{options,
           threads,
@@ -95,7 +106,8 @@ void convert(const std::string &folder, const std::string &out) {
           [&] {
             second = std::make_unique<LogFolder>(folder);
             return threads_of(*second);
-          }};
+          },
+          paths.get()};
   if (options.online || !log.measured.empty()) report_online(job, ending, log.measured);
   else report(job, ending);
   if (log.measured.empty()) tell_ending(log, ending);

@@ -221,8 +221,13 @@ std::string place_in_json(const std::string &at, const std::vector<Frame> &frame
 // Of each place; a place that stands in several functions has a line for each.
 void Head::functions(const Region &region) {
   std::set<std::string> lines;
-  for (const void *code : codes_of(region))
-    if (!places.frames(code).empty()) lines.insert(place_in_json(places.at(code), places.frames(code)));
+  for (const void *code : codes_of(region)) {
+    const void *call = places.call_at(code);
+    std::vector<Frame> frames = places.frames(call);
+    if (frames.empty()) continue;
+    if (places.at(code) != places.at(call)) frames.resize(1);  // the place has its callers already
+    lines.insert(place_in_json(places.at(code), frames));
+  }
   for (const std::string &one : lines) words += "# place: " + one + "\n";
 }
 

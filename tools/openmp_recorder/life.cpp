@@ -117,6 +117,7 @@ void begin_recording(void (*call)()) {
   life->log.is_child = is_child_of_this_program();
   life->log.unseen = unseen_of_gcc();
   life->log.online = life->options.online;
+  life->log.call_paths = life->options.call_paths && !life->options.online;
   life->process = getpid();
   remove_old_files(name_of_rank(life->options.out), time_of_day() - (wall_time() - life->log.program_start));
   name_log();

@@ -17,8 +17,8 @@ std::set<std::string> lines_of(const std::set<const void *> &codes, const Places
   return lines;
 }
 
-bool is_of_gcc(const void *code, const Places &places) {
-  const ModuleOfRun *module = places.modules() ? places.modules()->of(code) : nullptr;
+bool is_of_gcc(const void *place, const Places &places) {
+  const ModuleOfRun *module = places.modules() ? places.modules()->of(places.call_at(place)) : nullptr;
   return module && module->is_optimised_by_gcc();
 }
 
@@ -51,7 +51,8 @@ void remark_lines(Region &region, const Places &places) {
   auto look_at = [&](const void *code, bool is_wait) {
     const std::string &line = places.at(code);
     bool shared = !line.empty() && (line == of_region || (is_wait && of_tasks.count(line)));
-    if (shared || (places.modules() && !places.modules()->follows_call_of_runtime(code))) seen.add(code);
+    const void *call = places.call_at(code);
+    if (shared || (places.modules() && !places.modules()->follows_call_of_runtime(call))) seen.add(code);
   };
   for (const void *code : all.tasks) look_at(code, false);
   for (const void *code : all.waits) look_at(code, true);

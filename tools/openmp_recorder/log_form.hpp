@@ -9,8 +9,9 @@
 
 namespace log_form {
 constexpr char magic[8] = {'S', 'P', 'A', 'N', 'P', 'L', 'O', 'G'};
-constexpr uint32_t version = 3;
+constexpr uint32_t version = 4, without_paths = 3;  // the same, but for call paths
 constexpr const char *head_file = "/head", *modules_file = "/modules", *thread_file = "/thread.", *last_block = ".last";
+constexpr const char *paths_file = "/paths";  // of creations, where call paths were asked for
 constexpr const char *measured_file = "/online";  // where a run was measured while it went on, in the place of records
 
 // In machine order. Kinds are those of `Told`. Where the first eight bytes are 0 no record is written yet, and the
@@ -48,6 +49,14 @@ constexpr uint64_t code_bits = 48, code_mask = (uint64_t{1} << code_bits) - 1;
 constexpr uint64_t make_word(uint64_t code, unsigned kind, unsigned detail) {
   return (code & code_mask) | uint64_t{kind} << 48 | uint64_t{detail} << 56;
 }
+// A place of a creation may be a call path: its number in the list, above the two lowest bits. No address of a program
+// has the highest bit.
+constexpr uint64_t path_bit = uint64_t{1} << 47;
+constexpr unsigned path_shift = 2;
+constexpr uint64_t place_of_path(uint64_t number) { return path_bit | number << path_shift; }
+constexpr uint64_t path_of(uint64_t place) { return place & path_bit ? (place & ~path_bit) >> path_shift : 0; }
+constexpr uint32_t most_paths = 16384, most_calls = 32;
+
 constexpr Told told_by(uint64_t word) { return static_cast<Told>(word >> code_bits & 255); }
 
 enum class Counter : uint32_t { ClockGettime, TimeStamp };

@@ -14,8 +14,10 @@
 #include <new>
 #include <utility>
 
+#include "known_stacks.hpp"
 #include "log_modules.hpp"
 #include "online_life.hpp"
+#include "path_numbers.hpp"
 #include "say.hpp"
 
 namespace {
@@ -79,6 +81,7 @@ bool make_log() {
   if (!head) return false;
   fill_head();
   tell_modules(beginning.folder);
+  if (beginning.call_paths) begin_paths(beginning.folder);
   if (measures) write_measured(beginning.folder, false);
   return true;
 }
@@ -137,6 +140,7 @@ ThreadLog *make_thread_log() {
   thread_log = new ThreadLog(next_thread++);
   thread_log->is_slow = true;
   if (measures) thread_log->online = &thread_to_measure();
+  else if (beginning.call_paths) thread_log->stacks = new KnownStacks;
   if (beginning_took) thread_log->tell_stood_still(std::exchange(beginning_took, 0));
   return thread_log;
 }
@@ -185,6 +189,7 @@ bool inside_a_region() { return open_regions > 0; }
 // The parent's files are mapped here too, and are not written any more.
 void forget_log() {
   new (&making) std::mutex;  // another thread may have held it when the process forked
+  forget_paths();
   thread_log = nullptr;
   head = nullptr;
   is_made = false;

@@ -12,6 +12,7 @@ struct Beginning {
   uint32_t unseen = 0;
   int64_t program_start = 0;
   bool online = false;  // the run is measured, and no record is made
+  bool call_paths = false;  // of what creates tasks
 };
 
 void begin_log(const Beginning &how, void (*call)());  // which makes a record, and nothing else

@@ -37,7 +37,7 @@ Head read_head(const std::string &path) {
   if (access(path.c_str(), R_OK)) throw std::runtime_error(std::strerror(errno));
   if (!file || std::memcmp(head.magic, log_form::magic, sizeof head.magic))
     throw std::runtime_error("no log of the recorder");
-  if (head.version != log_form::version)
+  if (head.version != log_form::version && head.version != log_form::without_paths)
     throw std::runtime_error("version " + std::to_string(head.version) + " of the log, and this is for version " +
                              std::to_string(log_form::version));
   head.program[sizeof head.program - 1] = 0;
@@ -89,12 +89,13 @@ TickTime::TickTime(const Head &head) : first(head.first) {
 LogFolder::LogFolder(const std::string &path) : head(read_head(path + log_form::head_file)) {
   runs = is_held(path + log_form::head_file);
   modules.read(path + log_form::modules_file, head.program);
+  paths.read(path + log_form::paths_file);
   measured = all_bytes(path + log_form::measured_file);
   unsigned long count = threads_in(path);
   for (unsigned i = 0; i < count; i++) {
     std::string thread = path + log_form::thread_file + std::to_string(i);
     look_at_last_block(thread, head);
-    threads.push_back(std::make_unique<ThreadReader>(thread, i, head));
+    threads.push_back(std::make_unique<ThreadReader>(thread, i, head, &paths));
   }
 }
 

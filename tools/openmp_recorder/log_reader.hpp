@@ -6,6 +6,7 @@
 #include <vector>
 
 #include "log_form.hpp"
+#include "logged_paths.hpp"
 #include "modules_of_run.hpp"
 #include "records.hpp"
 
@@ -16,6 +17,7 @@ class LogFolder {
   log_form::Head head{};
   std::vector<std::unique_ptr<Records>> threads;
   ModulesOfRun modules;
+  LoggedPaths paths;
   std::string measured;  // while the program ran; empty where it was recorded
   bool is_running() const { return runs; }  // the program that writes it
   int64_t wall(const log_form::Pair &pair) const;

@@ -58,6 +58,7 @@ RecordingOptions read_recording_options() {
   flag("SPANPROF_QUIET", "0", "1", chosen.quiet);
   flag("SPANPROF_TIME_STAMP", "0", "1", chosen.time_stamp);
   flag("SPANPROF_ONLINE", "0", "1", chosen.online);
+  flag("SPANPROF_CALL_PATHS", "0", "1", chosen.call_paths);
   return chosen;
 }
 

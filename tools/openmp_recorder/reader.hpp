@@ -104,6 +104,7 @@ class Reader {
   void implicit_begin();
   void leave_region(Met &met);
   void implicit_end();
+  const void *place_in(const Task &maker) const;
   void task_create();
   void loop_begin();
   void schedule();

@@ -32,8 +32,9 @@ void tell_excess(const std::string &file, const Excess &over) {
 
 class Reporter {
  public:
-  Reporter(const Options &chosen, Recording what, const ModulesOfRun &modules)
-      : options(chosen), recording(std::move(what)), places(&modules) {}
+  Reporter(const Job &job, Recording what) : options(job.options), recording(std::move(what)), places(&job.modules) {
+    if (job.paths) job.paths->name_in(places);
+  }
   void write(Region &region, const std::string &name);
   void tell_outside(const Seen &outside);
   void write_regions(const Run &run, const WholeTime &time, const std::string &name);
@@ -367,6 +368,7 @@ HowToRead how_to_read(const Job &job) {
           job.end,
           job.options.whole && job.options.fold_exact ? UINT64_MAX : most_held,
           {},
+          job.paths,
           job.out};
 }
 
@@ -403,7 +405,7 @@ void report_whole(const Job &job, Run &run, Recording recording, int64_t end) {
   recording.threads.outside -= std::min(run.whole->recorder, recording.threads.outside);
   for (Remark remark : job.unseen) run.whole->remarks[remark];
   WholeTime time{job.start, end, recording.threads.outside};
-  Reporter reporter(job.options, std::move(recording), job.modules);
+  Reporter reporter(job, std::move(recording));
   reporter.write_regions(run, time, job.out);
   reporter.write(*run.whole, job.out);
 }
@@ -418,7 +420,7 @@ void report(const Job &job, Ending &ending) {
   if (run.whole) return report_whole(job, run, {job.program, job.date, 0, time, threads}, end);
   std::vector<Region *> with_tasks = compose_all(run, job.options);
   Recording recording{job.program, job.date, with_tasks.size(), time, threads};
-  Reporter reporter(job.options, std::move(recording), job.modules);
+  Reporter reporter(job, std::move(recording));
   if (with_tasks.empty() && !job.may_be_empty) Line("no tasks").put("inside", ending.wall != 0);
   std::vector<Region *> written = held(choose(with_tasks, job.options), job, unread, run);
   for (size_t i = 0; i < written.size(); i++) {

@@ -89,6 +89,7 @@ struct Chunk {
   bool is_task = false, makes_tasks = false;
 };
 
+class CallPaths;
 class Stretches;
 
 struct Region {
@@ -179,6 +180,7 @@ struct HowToRead {
   int64_t start_wall = 0, end_wall = 0;  // of the program
   uint64_t most_held = UINT64_MAX;  // tasks of regions that are over: what comes beyond them is let go as it ends
   std::set<uint32_t> held{};  // regions by number, that never are
+  CallPaths *paths = nullptr;  // of creations, where they are told apart
   std::string beside{};  // the first name of a file for what is let go of the whole program
 };
 

@@ -36,10 +36,12 @@ std::string symbol(const void *code, const ModuleOfRun &module) {
   return (found ? std::string(found->name) : base_name(module.path)) + text;
 }
 // What a compiler makes of a construct's code: `main.omp_outlined`, `main._omp_fn.0`, `f(int) [clone .omp_outlined]`.
-std::string without_endings(std::string name) {
+Frame frame_of(std::string name, std::string at) {
+  auto has = [&](const char *part) { return name.find(part) != std::string::npos; };
+  bool is_outlined = has(".omp_outlined") || has("._omp_fn") || has(".omp_task_entry");
   for (const char *ending : {" [clone ", ".omp_outlined", "._omp_fn", ".omp_task_entry"})
-    if (size_t at = name.find(ending); at != std::string::npos) name.resize(at);
-  return name;
+    if (size_t found = name.find(ending); found != std::string::npos) name.resize(found);
+  return {name == "??" ? "" : name, std::move(at), is_outlined};
 }
 
 bool next_line(FILE *answers, std::string &line) {
@@ -61,9 +63,12 @@ bool is_address(const std::string &line) { return !line.compare(0, 2, "0x"); }
 }  // namespace
 
 void Places::take(const void *code, std::vector<Frame> frames) {
-  if (!frames.empty() && is_known(frames[0].at)) known[code] = frames[0].at;
-  auto is_unknown = [](const Frame &one) { return one.function.empty() || one.function == "??" || !is_known(one.at); };
-  frames.erase(std::remove_if(frames.begin(), frames.end(), is_unknown), frames.end());
+  bool has_line = !frames.empty() && is_known(frames[0].at);
+  if (has_line) known[code] = frames[0].at;
+  auto remove = [&](auto which) { frames.erase(std::remove_if(frames.begin(), frames.end(), which), frames.end()); };
+  remove([](const Frame &one) { return !is_known(one.at); });
+  if (has_line) all_around[code] = frames;
+  remove([](const Frame &one) { return one.function.empty(); });
   auto is_same = [](const Frame &one, const Frame &next) { return one.function == next.function; };
   frames.erase(std::unique(frames.begin(), frames.end(), is_same), frames.end());
   if (!frames.empty()) around[code] = std::move(frames);
@@ -84,7 +89,7 @@ void Places::ask(const ModuleOfRun &module, const std::vector<const void *> &cod
   for (size_t i = 0; i < codes.size() && more && is_address(line); i++) {
     std::vector<Frame> frames;
     while ((more = next_line(answers, line)) && !is_address(line) && next_line(answers, at))
-      frames.push_back({without_endings(line), place_of(at)});
+      frames.push_back(frame_of(line, place_of(at)));
     take(codes[i], std::move(frames));
   }
   pclose(answers);
@@ -92,7 +97,8 @@ void Places::ask(const ModuleOfRun &module, const std::vector<const void *> &cod
 
 void Places::look_up(const std::vector<const void *> &codes) {
   std::map<const ModuleOfRun *, std::vector<const void *>> by_module;
-  for (const void *code : codes) {
+  for (const void *place : codes) {
+    const void *code = call_at(place);
     const ModuleOfRun *module = code && of_run ? of_run->of(code) : nullptr;
     if (!module || module->is_runtime || known.count(code)) continue;
     known[code] = symbol(code, *module);
@@ -114,3 +120,17 @@ const std::vector<Frame> &Places::frames(const void *code) const {
   auto found = around.find(code);
   return found == around.end() ? none : found->second;
 }
+
+std::vector<Frame> Places::calls(const void *code) const {
+  auto found = all_around.find(code);
+  if (found != all_around.end()) return found->second;
+  const std::string &place = at(code);
+  return place.empty() ? std::vector<Frame>{} : std::vector<Frame>{{"", place}};
+}
+
+const void *Places::call_at(const void *place) const {
+  auto found = addresses.find(place);
+  return found == addresses.end() ? place : found->second;
+}
+
+void Places::put_call(const void *place, const void *code) { addresses[place] = code; }

@@ -3,7 +3,6 @@
 #include <errno.h>
 #include <fcntl.h>
 #include <sys/mman.h>
-#include <sys/resource.h>
 #include <unistd.h>
 
 #include <algorithm>
@@ -12,22 +11,10 @@
 #include <vector>
 
 #include "log_head.hpp"
+#include "system_calls.hpp"
 
 namespace {
 constexpr int64_t chunks_together = 10000;  // nanoseconds: what begins sooner after a chunk is part of it
-
-class KeepErrno {  // which the program may be about to read
- public:
-  ~KeepErrno() { errno = kept; }
-
- private:
-  int kept = errno;
-};
-
-bool is_allowed(uint64_t bytes) {  // else the program would get a signal
-  rlimit most{};
-  return getrlimit(RLIMIT_FSIZE, &most) || most.rlim_cur == RLIM_INFINITY || bytes <= most.rlim_cur;
-}
 
 // Its room is taken from the disk here, so no record can fail.
 char *map_block(const std::string &path) {

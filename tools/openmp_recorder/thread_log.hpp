@@ -60,6 +60,7 @@ class LikeRecords {
   std::array<One, log_form::slots> all;
 };
 
+class KnownStacks;
 class OnlineThread;
 
 class alignas(64) ThreadLog {
@@ -81,6 +82,7 @@ class alignas(64) ThreadLog {
   std::vector<Implicit> implicit;  // the implicit tasks that the thread is in, innermost last
   std::vector<Open> open;  // the regions that it began and that run, innermost last
   bool is_slow = false;  // more was done than to write records
+  KnownStacks *stacks = nullptr;  // where call paths are asked for
   OnlineThread *online = nullptr;  // where the run is measured while it goes on: then no record is put
   uint64_t region() const { return implicit.empty() ? 0 : implicit.back().region; }
   void begin_implicit(const Implicit &one) {

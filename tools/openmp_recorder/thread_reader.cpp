@@ -19,13 +19,15 @@ bool is_of_a_lock(Told told) { return told == Told::LockGot || told == Told::Loc
 bool divides(Told told) { return told == Told::Divided || told == Told::Chunk || told == Told::DividedEnd; }
 }  // namespace
 
-ThreadReader::ThreadReader(const std::string &path, unsigned worker, const log_form::Head &head)
+ThreadReader::ThreadReader(const std::string &path, unsigned worker, const log_form::Head &head,
+                           const LoggedPaths *listed)
     : Records(worker),
       file(fopen(path.c_str(), "re")),
       last(fopen((path + log_form::last_block).c_str(), "re")),
       by_processor(head.by_processor),
       in_a_record(head.in_a_record),
       time(head),
+      paths(listed),
       buffer(block_bytes),
       looked_at(head) {
   if (!file || fseek(file.get(), 0, SEEK_END)) return;
@@ -81,6 +83,7 @@ void ThreadReader::look_at(size_t bytes) {
   } catch (const DamagedLog &damage) {
     refuse(damage.what());
   }
+  if (uint64_t path = raw.path(); path && !(paths && paths->has(path))) refuse("its call path is not listed");
 }
 
 void ThreadReader::read_short(log_form::ShortRecord record) {
@@ -191,7 +194,8 @@ const Record &ThreadReader::tell() {
   log.told_still = log.stood_still;
   record.task = raw.record.task;
   record.other = raw.record.other;
-  record.code = raw.code();
+  record.path = static_cast<uint32_t>(raw.path());
+  record.code = record.path ? reinterpret_cast<uint64_t>(paths->creating(record.path)) : raw.code();
   record.kind = static_cast<uint8_t>(raw.told());
   record.detail = raw.detail();
   if (raw.told() == Told::Passed) {

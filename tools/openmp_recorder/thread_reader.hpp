@@ -11,7 +11,8 @@
 
 class ThreadReader : public Records {
  public:
-  ThreadReader(const std::string &path, unsigned worker, const log_form::Head &head);
+  ThreadReader(const std::string &path, unsigned worker, const log_form::Head &head,
+               const LoggedPaths *paths = nullptr);
   const Record *next() override;
 
  private:
@@ -21,6 +22,7 @@ class ThreadReader : public Records {
     Told told() const { return log_form::told_by(record.word); }
     unsigned detail() const { return static_cast<unsigned>(record.word >> (log_form::code_bits + 8)); }
     uint64_t code() const { return record.word & log_form::code_mask; }
+    uint64_t path() const { return told() == Told::Create || told() == Told::LoopBegin ? log_form::path_of(code()) : 0; }
     const void *place() const { return reinterpret_cast<const void *>(code()); }
     uint64_t wide() const { return record.task | uint64_t{record.other} << 32; }
   };
@@ -31,6 +33,7 @@ class ThreadReader : public Records {
   bool by_processor;
   int64_t in_a_record;
   TickTime time;
+  const LoggedPaths *paths;  // that are listed
   std::vector<char> buffer;
   size_t at = 0, filled = 0;
   uint64_t left = 0;  // bytes of `file`

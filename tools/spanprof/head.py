@@ -6,6 +6,7 @@ from itertools import takewhile
 from typing import Dict, List, Optional, Tuple
 
 from spanprof.remarks import Remark, read_remark, seen
+from spanprof.text import CALLED_FROM, where
 
 NANOSECONDS = {"ns": 1, "us": 1000, "ms": 1000000}
 DIVISION = ("outside regions", "in other regions", "in serial code", "in loops", "in parts without tasks", "in tasks")
@@ -238,9 +239,9 @@ def read_head(text):
 
 def with_function(head, name):
     """A place's name, such as `task at sort.c:9`, with the function that it is in."""
-    found = re.search(r"(\S+:\d+)$", name)
-    function = head.functions.get(found[1]) if found else None
-    return "%s %s" % (name, function) if function else name
+    function = head.functions.get(where(name))
+    creation, called, callers = name.partition(CALLED_FROM)
+    return "%s %s%s%s" % (creation, function, "," * bool(called) + called, callers) if function else name
 
 
 def said(text):

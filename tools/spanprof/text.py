@@ -15,6 +15,7 @@ MOST_KNOWN = 100000     # lines whose marks are kept
 LONGEST_KNOWN = 1000    # bytes of such a line
 OF_A_THREAD = "one of the region's threads"     # as the recorder names a task that stands for a thread's own code
 BARRIER = "barrier of the region"   # a group of such tasks, in whose end their threads meet; in the program it is none
+CALLED_FROM = " called from "   # behind a task's place, where several paths of calls led to its creation
 TOKEN = re.compile(r"[A-Za-z0-9_]+|[^\sA-Za-z0-9_]")
 DEPEND = re.compile(r"depend\((\w+):([^)]*)\)")
 UNDEFERRED = re.compile(r"if\(0+\)")
@@ -65,6 +66,11 @@ def has_loops(text):
     """Whether the text is of version 2; its canonical text is of version 1."""
     words = [word for word, _ in islice(words_of(text), 2)]
     return len(words) > 1 and words[1].lstrip("0") == "2"
+
+
+def where(name):
+    """The place in a name such as `task at sort.c:9`, with the calls that led there; empty where it has none."""
+    return name.partition(" at ")[2]
 
 
 class Statement(NamedTuple):

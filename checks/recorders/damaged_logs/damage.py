@@ -102,7 +102,7 @@ def damage_one(folder, name, chance):
 
 
 def damage(folder, chance):
-    """Threads' files more often than the two others, which are short."""
+    """Threads' files more often than the three others, which are short."""
     names = sorted(os.listdir(folder))
     weights = [4 if name.startswith("thread") else 1 for name in names]
     chosen = dict.fromkeys(chance.choices(names, weights, k=chance.choice((1, 1, 1, 2, 3))))

@@ -31,7 +31,7 @@ CHECKED = {"ASAN_OPTIONS": "detect_leaks=0:hard_rss_limit_mb=%d:allocator_may_re
 
 def record(program, out, clock):
     variables = dict(os.environ, OMP_NUM_THREADS="3", OMP_CANCELLATION="true", OMP_TOOL_LIBRARIES=RECORDER,
-                     SPANPROF_OUT=out, SPANPROF_QUIET="1", SPANPROF_CLOCK=clock)
+                     SPANPROF_OUT=out, SPANPROF_QUIET="1", SPANPROF_CLOCK=clock, SPANPROF_CALL_PATHS="1")
     subprocess.run([program], env=variables, stdout=subprocess.DEVNULL, check=True)
 
 

@@ -48,6 +48,11 @@ Made &Made::create(unsigned thread, uint32_t task, uint32_t child, unsigned deta
   return add(thread, Told::Create, task, child, details, place);
 }
 
+Made &Made::path(unsigned thread, uint32_t number) {
+  threads[thread]->records.back().path = number;
+  return *this;
+}
+
 Made &Made::depend(unsigned thread, uint32_t task, const std::vector<DependItem> &items) {
   Log &log = threads[thread]->log;
   add(thread, Told::Dependences, task, static_cast<uint32_t>(log.items.size()), 0, items.size());

@@ -29,6 +29,7 @@ class Made {
   Made &add(unsigned thread, Told told, uint32_t task, uint32_t other = 0, unsigned detail = 0, uint64_t code = 0);
   Made &begin_threads();
   Made &create(unsigned thread, uint32_t task, uint32_t child, unsigned details = 0, uint64_t place = 100);
+  Made &path(unsigned thread, uint32_t number);  // of the thread's last record
   Made &depend(unsigned thread, uint32_t task, const std::vector<DependItem> &items);  // task 0: of a wait
   Made &go(unsigned thread, uint32_t from, uint32_t to, ompt_task_status_t why = ompt_task_switch);
   Made &run(unsigned thread, uint32_t from, uint32_t task, int64_t nanoseconds);  // begins, costs so much, and ends

@@ -62,6 +62,7 @@ class MadeLog {
     while (const Record *record = log.threads.at(0)->next()) out.push_back(*record);
     return out;
   }
+  void paths(const std::string &lines) { write(log_form::paths_file, lines.data(), lines.size()); }
   Head head{};
   std::string folder;
 
@@ -152,6 +153,28 @@ TEST(a_block_that_is_full_ends_before_its_end) {
   EXPECT(log.records().size(), 2 * in_block - 1);
 }
 
+TEST(a_creation_has_the_path_that_is_listed) {
+  MadeLog log;
+  auto path = log_form::place_of_path(2);
+  log.paths("4010a0 4020b0\n4010c0 4020b0\n");
+  log.last({raw(10, Told::Create, 1, 2, path), raw(20, Told::LoopBegin, 1, 0, path), raw(30, Told::Create, 1, 3, 99)});
+  std::vector<Record> found = log.records();
+  EXPECT(found.size(), 3u);
+  for (size_t i : {size_t{0}, size_t{1}}) {
+    EXPECT(found[i].path, 2u);
+    EXPECT(reinterpret_cast<uint64_t>(found[i].place()), 0x4010c0u);
+  }
+  EXPECT(found[2].path, 0u);
+  EXPECT(reinterpret_cast<uint64_t>(found[2].place()), 99u);
+}
+
+TEST(a_log_without_paths_is_of_the_version_before) {
+  MadeLog log;
+  log.head.version = 3;
+  log.last({raw(10, Told::Create, 1, 2, 99)});
+  EXPECT(log.records().size(), 1u);
+}
+
 TEST(full_blocks_come_before_the_last_one) {
   MadeLog log;
   log.full(schedules(1, 2 * in_block));
@@ -227,9 +250,9 @@ TEST(what_is_no_log_is_refused) {
   };
   MadeLog other, later;
   other.head.magic[0] = 'X';
-  later.head.version = 4;
+  later.head.version = 5;
   EXPECT(why(other), "no log of the recorder");
-  EXPECT(why(later), "version 4 of the log, and this is for version 3");
+  EXPECT(why(later), "version 5 of the log, and this is for version 4");
 }
 
 // Why it is refused; empty where it is not.
@@ -257,6 +280,8 @@ TEST(what_no_recorder_writes_is_refused) {
   EXPECT(why({raw(uint64_t{1} << 60, Told::Schedule)}),
          "thread.0.last is damaged at byte 0: its time is none of this run");
   EXPECT(why({raw(now, static_cast<Told>(99))}), "thread.0.last is damaged at byte 0: it is of no kind");
+  EXPECT(why({raw(now, Told::Create, 1, 2, log_form::place_of_path(1))}),
+         "thread.0.last is damaged at byte 0: its call path is not listed");
   EXPECT(why({raw(now, Told::StoodStill, 0, UINT32_MAX)}),
          "thread.0.last is damaged at byte 0: the recorder took longer than the run");
 }

@@ -25,7 +25,7 @@ class Program : public Made {
   }
   // Of records of which nothing runs by itself later than the last.
   Run &let_go() {
-    HowToRead how{UINT64_MAX, true, began, now(), nullptr, false, began, now(), 0, {}, "/tmp/spanprof_let_go"};
+    HowToRead how{UINT64_MAX, true, began, now(), nullptr, false, began, now(), 0, {}, nullptr, "/tmp/spanprof_let_go"};
     found = read({}, how);
     if (found.whole->before && found.whole->before->are_in_vain) {
       how.most_held = UINT64_MAX;

@@ -18,7 +18,7 @@ MOST_RUNS = 99
 RUNS_OF_A_SCALE = 5
 MOST_THREADS = 1024
 FOLDS = ("depth", "cost", "chunk")
-NEEDS_A_TEXT = ("unit", "runs", "scale", "whole", "fold", "html", "open", "json")
+NEEDS_A_TEXT = ("unit", "runs", "scale", "whole", "call-paths", "fold", "html", "open", "json")
 FOLD_WORDS = "exact|depth=D|cost=C|chunk=N"
 
 
@@ -83,6 +83,8 @@ def parser():
     add("--no-whole", action="store_true", help="the texts of the regions alone")
     add("--online", action="store_true",
         help="measure work and span by place while it runs, in the memory of what is open at a time, and keep no text")
+    add("--call-paths", action="store_true",
+        help="tell the callers of a function apart that makes tasks: record which calls led to each")
     add("--fold", type=fold, action="append", default=[], metavar=FOLD_WORDS,
         help="where a recording is too large, write fewer tasks with the same work and span; or tasks at depth D with "
         "all below them as one cost; tasks cheaper than C as work of their parent; N neighbours as one task")
@@ -122,7 +124,7 @@ def parse(words):
         reader.error("--whole and --no-whole exclude each other")
     if chosen.scale and chosen.threads:
         reader.error("--scale has the numbers of threads already, without --threads")
-    kept = [name for name in NEEDS_A_TEXT if getattr(chosen, name)] if chosen.online else []
+    kept = [name for name in NEEDS_A_TEXT if getattr(chosen, name.replace("-", "_"))] if chosen.online else []
     if kept:
         reader.error("--online keeps no text, which --%s needs" % kept[0])
     chosen.runs = chosen.runs or (RUNS_OF_A_SCALE if chosen.scale else 1)

@@ -23,7 +23,7 @@ def environment(base, options, library, preload, out):
     asked = {"SPANPROF_UNIT": options.unit, "SPANPROF_CLOCK": options.clock, "OMP_NUM_THREADS": options.threads}
     asked.update(("SPANPROF_FOLD_" + name.upper(), number) for name, number in options.fold)
     new.update((name, str(value)) for name, value in asked.items() if value is not None)
-    for name in ("whole", "online"):
+    for name in ("whole", "online", "call_paths"):
         if getattr(options, name):
             new["SPANPROF_" + name.upper()] = "1"
     return new

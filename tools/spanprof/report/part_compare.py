@@ -85,7 +85,7 @@ def numbers(views):
 def kind_and_lines(view, place):
     """What a place is, whatever its file and number: the construct, and the lines of the source that stand there."""
     lines = view.snippet(place.name)
-    return (place.name.rpartition(" at ")[0], *lines) if lines else None
+    return (place.name.partition(" at ")[0], *lines) if lines else None
 
 
 def partners(views):

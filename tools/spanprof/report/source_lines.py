@@ -6,6 +6,8 @@ import re
 from collections import Counter
 from typing import NamedTuple, Optional
 
+from spanprof.text import CALLED_FROM
+
 WHERE = re.compile(r"([^\s:/]+):(\d+)(?:,.*)?$")
 STRING = re.compile(r'"(?:\\.|[^"\\])*"|\'(?:\\.|[^\'\\])*\'|//.*|/\*.*?\*/')
 WITH_A_STATEMENT = ("task at ", "after creating a task at ", "after taskgroup at ",
@@ -30,7 +32,7 @@ class Stretch(NamedTuple):
 
 def line_of(words) -> Optional[Line]:
     """Of a construct's comment, such as `sort.c:33`, or of a place that ends so."""
-    found = WHERE.search(words)
+    found = WHERE.search(words.partition(CALLED_FROM)[0])
     return Line(found[1], int(found[2])) if found else None
 
 

@@ -126,6 +126,12 @@ class Heads(unittest.TestCase):
         self.assertEqual(with_function(head, "task at sort.c:10"), "task at sort.c:10")
         self.assertEqual(with_function(head, "the beginning"), "the beginning")
 
+    def test_functions_of_places_with_callers(self):
+        head = read_head('# place: {"at": "b.c:6 called from solve at b.c:10", "in": "spawn"}\n')
+        self.assertEqual(with_function(head, "after creating a task at b.c:6 called from solve at b.c:10"),
+                         "after creating a task at b.c:6 in spawn, called from solve at b.c:10")
+        self.assertEqual(with_function(head, "task at b.c:6"), "task at b.c:6")
+
     def test_a_region_without_place(self):
         head = read_head('# region: {"number": 1, "of": 1}\nomptasks 1\n')
         self.assertEqual((head.region, head.number), ("", "1 of 1"))

@@ -51,8 +51,8 @@ class OfALine(unittest.TestCase):
     def test_an_empty_text(self):
         for text in ("", "# nothing\n"):
             self.assertEqual(told("error: line 1: BadHeader", "x", text=text),
-                             "mine.tasks: the text is empty; one begins with `omptasks 1`, or `omptasks 2` where it has "
-                             "loops")
+                             "mine.tasks: the text is empty; one begins with `omptasks 1`, or `omptasks 2` where it "
+                             "has loops")
 
     def test_a_version_that_there_is_not(self):
         self.assertIn("there are versions 1 and 2", told("error: line 1: BadHeader", "3", text="omptasks 3\n"))
@@ -75,9 +75,11 @@ class NumbersAndBytes(unittest.TestCase):
             self.assertIn("mine.tasks:2: BadNumber: " + words, self.of("BadNumber", line, wrong))
 
     def test_which_bytes_begin_no_word(self):
-        for line, wrong, words in (("work -5", "-", "without a sign or a point"), ("work 1.5", ".", "without a sign or"),
+        for line, wrong, words in (("work -5", "-", "without a sign or a point"),
+                                   ("work 1.5", ".", "without a sign or"),
                                    ("task depend(in: a[1])", "[", "`[` belongs to version 2"),
-                                   ("work 5;", ";", "`;` begins no word"), ("work\xa05", "\xa0", "U+00A0 begins no word"),
+                                   ("work 5;", ";", "`;` begins no word"),
+                                   ("work\xa05", "\xa0", "U+00A0 begins no word"),
                                    ("\ufeffwork", "\ufeff", "without a byte order mark"),
                                    ("\\\0", "\\", "this is no text"), ("PNG\ufffd", "\ufffd", "this is no text"),
                                    ("work 5; # \ufffd", ";", "`;` begins no word")):

@@ -42,8 +42,8 @@ def request(option):
 
 
 def parse(words):
-    parser = argparse.ArgumentParser(prog="spanprof-whatif", usage="%(prog)s [options] MINE.tasks", description=DESCRIPTION,
-                                     epilog=AFTER, allow_abbrev=False)
+    parser = argparse.ArgumentParser(prog="spanprof-whatif", usage="%(prog)s [options] MINE.tasks",
+                                     description=DESCRIPTION, epilog=AFTER, allow_abbrev=False)
     add = parser.add_argument
     add("text", metavar="MINE.tasks", help="the text")
     for option, metavar, words_of_help in OPTIONS:

@@ -77,7 +77,8 @@ def change(request, seen, costs):
         parts = whole(number, 2, MOST_TOGETHER)
         return Split(find(place, seen.costs, "piece of code"), parts, costs.creating, costs.for_parts(parts))
     if option == "grain":
-        return Grain(find(place, seen.costs, "piece of code"), whole(number, 1, MOST_COST), costs.creating, costs.for_parts(2))
+        most = whole(number, 1, MOST_COST)
+        return Grain(find(place, seen.costs, "piece of code"), most, costs.creating, costs.for_parts(2))
     if option == "join":
         return Join(find(place, seen.tasks, "task"), whole(number, 2, MOST_TOGETHER), costs.creating)
     if option == "cutoff":

@@ -3,7 +3,7 @@
 `creating` is what the creation of a task costs: a new task brings so much, and one less takes away as much, or all of
 the code before it where that cost less.
 """
-from spanprof.text import Statement
+from spanprof.text import Statement, where
 from spanprof.whatif.changes import Change
 
 
@@ -14,7 +14,7 @@ class Creating(Change):
 
     def task(self, name, cost):
         """A task of its own, and what creating it costs."""
-        comment = name.rpartition(" at ")[2] if " at " in name else ""
+        comment = where(name)
         yield Statement("work", name, self.creating)
         yield Statement("task", "a part of " + name, comment=comment and comment + ", a part")
         yield Statement("work", "a part of " + name, cost)

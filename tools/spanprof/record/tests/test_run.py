@@ -15,7 +15,7 @@ from spanprof.record.target import find
 
 
 def options(**given):
-    known = dict(unit=None, clock=None, threads=None, fold=(), whole=False, online=False)
+    known = dict(unit=None, clock=None, threads=None, fold=(), whole=False, online=False, call_paths=False)
     return argparse.Namespace(**dict(known, **given))
 
 
@@ -38,6 +38,7 @@ class Environment(unittest.TestCase):
                                                  "SPANPROF_FOLD_DEPTH", "SPANPROF_FOLD_CHUNK")],
                          ["us", "cpu", "8", "2", "5"])
         self.assertEqual(environment({}, options(whole=True), "/r.so", "", "o")["SPANPROF_WHOLE"], "1")
+        self.assertEqual(environment({}, options(call_paths=True), "/r.so", "", "o")["SPANPROF_CALL_PATHS"], "1")
 
     def test_other_tools_and_libraries_come_after(self):
         new = environment({"LD_PRELOAD": "/a.so", "OMP_TOOL_LIBRARIES": "/b.so", "OMP_TOOL": "disabled"}, options(),

@@ -57,11 +57,13 @@ class Bars {
 
 const escaped = (words) => words.replace(/[&<>"]/g, (sign) => `&#${sign.charCodeAt(0)};`);
 
-// As much of a place's name as there is room for: `task at sort.c:33`, `sort.c:33`, `:33`.
+// As much of a place's name as there is room for: `task at sort.c:33`, `sort.c:33`, `:33`. Which calls led to a task
+// stands behind that.
 function nameFor(name, width) {
-  const where = name.split(" at ").pop(), room = Math.floor((width - 6) / LETTER);
-  const line = /:\d+$/.exec(where);
-  return [name, where, line ? line[0] : ""].find((words) => words && words.length <= room) || "";
+  const at = name.indexOf(" at "), where = at < 0 ? name : name.slice(at + 4);
+  const creation = where.split(" called from ")[0], room = Math.floor((width - 6) / LETTER);
+  const line = /:\d+$/.exec(creation);
+  return [name, where, creation, line ? line[0] : ""].find((words) => words && words.length <= room) || "";
 }
 
 function nameIn(bar, words, colour) {

@@ -15,6 +15,7 @@ class Lines(unittest.TestCase):
     def test_of_a_construct(self):
         self.assertEqual(line_of("after taskwait at sort.c:33"), ("sort.c", 33))
         self.assertEqual(line_of("src/a.c:7, a part"), ("a.c", 7))
+        self.assertEqual(line_of("task at b.c:6 called from f(int, long) at a.c:10, a part"), ("b.c", 6))
         self.assertIsNone(line_of("the beginning"))
         self.assertIsNone(line_of(""))
 

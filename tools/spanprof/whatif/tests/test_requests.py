@@ -47,7 +47,8 @@ class Made(unittest.TestCase):
 
     def test_refusals(self):
         for option, word, told in (("factor", "begin=x", "--factor x: the factor is not a number"),
-                                   ("factor", "begin=-1", "a factor is from 0"), ("factor", "begin", "--factor begin: a place, `=` and a number"),
+                                   ("factor", "begin=-1", "a factor is from 0"),
+                                   ("factor", "begin", "--factor begin: a place, `=` and a number"),
                                    ("factor", "x=1", "no piece of code"),
                                    ("split", "begin=1", "--split 1 is no whole number from 2"),
                                    ("join", "sort.c:9=", "--join nothing is no whole number"),
