@@ -31,8 +31,9 @@ impl Model for Answer {
 
 impl Answer {
     ghost use Rattle.std.specs.Prelude.{◌≡◌, ◌≢◌, ◌+◌, ◌-◌, ◌^◌, ◌<◌, ◌≤◌, length, true};
-    ghost use Rattle.counted_io.specs.Counted.{faults_of, flushes_of, inner_of, is_flushed};
+    ghost use Rattle.counted_io.specs.Counted.{faults_of, inner_of};
     ghost use Rattle.spanprof_command.specs.Command.{HadFaults, SendsWithin};
+    ghost use Rattle.spanprof_command.specs.Flushes.{FlushesOnce};
     ghost use Rattle.spanprof_command.specs.GreedyRuns.{greedy_of};
     ghost use Rattle.spanprof_command.specs.Slacks.{slacks_of};
 
@@ -67,11 +68,7 @@ impl Answer {
         ensures sends { SendsWithin retries self
             (W.contents (inner_of writer.old)) (W.contents (inner_of writer.new))
             (HadFaults (faults_of writer.old) (faults_of writer.new)) result }
-        ensures flushed { result ≢ Status.Fault → is_flushed writer.new ≡ true }
-        // Whatever the status.
-        ensures flushed_without_fault { faults_of writer.new ≡ faults_of writer.old
-            → is_flushed writer.new ≡ true }
-        ensures flushes { flushes_of writer.new ≤ flushes_of writer.old + 1 }
+        ensures flushes { FlushesOnce (result ≢ Status.Fault) writer.old writer.new }
     {
         match self.kind {
             AnswerKind::Whole(report) => finish(writer, Ok(report), retries),

@@ -1,12 +1,13 @@
 //! Words, text, report and status, in that order.
 ghost use Rattle.std.specs.Prelude.{◌≡◌, ◌≢◌, ◌+◌, ◌-◌, ◌^◌, ◌<◌, ◌≤◌, List, ℕ, Err, map};
 ghost use Rattle.std.specs.Prelude.{string_bytes, IfOk, false, true, []};
-ghost use Rattle.counted_io.specs.Counted.{inner_of, faults_of, flushes_of, is_flushed};
+ghost use Rattle.counted_io.specs.Counted.{inner_of, faults_of};
 ghost use Rattle.counted_io.specs.Input.{ConsumesAtMost};
 ghost use Rattle.command_words.specs.LargeWords.{large_request_of};
 ghost use Rattle.command_words.specs.declared.large.LargeRequest.TheVariants.{OfDocument};
 ghost use Rattle.spanprof_command.specs.Command.{EndsWith, HadFaults};
 ghost use Rattle.spanprof_command.specs.Finished.{SpendsRetries};
+ghost use Rattle.spanprof_command.specs.Flushes.{FlushesOnce};
 ghost use Rattle.spanprof_command.specs.Report.{input_too_long};
 ghost use Rattle.spanprof_command.specs.declared.engine.TheConstants.{MOST_RETRIES};
 ghost use Rattle.large_command.specs.LargeCommand.{AnswersText, IsReport, is_in_range};
@@ -68,17 +69,13 @@ pub fn command<H: AllocGlobal + Threads + Sync, R: Read, W: Write>(
         (HadFaults (faults_of reader.old) (faults_of reader.new))
         (W.contents (inner_of writer.old)) (W.contents (inner_of writer.new))
         (HadFaults (faults_of writer.old) (faults_of writer.new)) result }
-    ensures flushed { result ≢ Status.Fault → is_flushed writer.new ≡ true }
-    // Whatever the status.
-    ensures flushed_without_fault { faults_of writer.new ≡ faults_of writer.old
-        → is_flushed writer.new ≡ true }
+    ensures flushes { FlushesOnce (result ≢ Status.Fault) writer.old writer.new }
 
     // In every case.
     ensures reads_nothing { wants_text (large_request_of (map string_bytes words.now)) ≡ false
         → reader.new ≡ reader.old }
     ensures reads_so_much { ConsumesAtMost (LARGEST_TEXT + 1) (R.remaining (inner_of reader.old))
         (R.remaining (inner_of reader.new)) }
-    ensures flushes { flushes_of writer.new ≤ flushes_of writer.old + 1 }
 {
     let mut retries = MOST_RETRIES;
     match prepare(rt, key, words, reader, &mut retries) {

@@ -6,10 +6,11 @@ ghost use Rattle.std.specs.Prelude.{◌≡◌, ◌≢◌, ◌+◌, ◌<◌, ◌�
 ghost use Rattle.std.specs.Prelude.{false, string_bytes, true};
 ghost use Rattle.std.specs.Process.{exit_status};
 ghost use Rattle.std.specs.IoError.{error_kind};
-ghost use Rattle.counted_io.specs.Counted.{faults_of, flushes_of, inner_of, is_flushed};
+ghost use Rattle.counted_io.specs.Counted.{faults_of, inner_of};
 ghost use Rattle.counted_io.specs.Input.{ConsumesAtMost};
 ghost use Rattle.command_words.specs.LargeWords.{large_request_of};
 ghost use Rattle.spanprof_command.specs.Command.{ExitsAfter, ExitsWith, HadFaults};
+ghost use Rattle.spanprof_command.specs.Flushes.{FlushesOnce};
 ghost use Rattle.spanprof_command.specs.Report.{out_of_memory, wrong_words};
 ghost use Rattle.large_command.specs.LargeCommand.{IsReport, wants_text};
 ghost use Rattle.large_text.specs.declared.limits.TheConstants.{LARGEST_TEXT};
@@ -84,10 +85,7 @@ pub fn start<H: AllocGlobal + Threads + Sync, R: Read, W: Write>(
     // In every case, as of `command`.
     ensures reads_so_much { ConsumesAtMost (LARGEST_TEXT + 1) (R.remaining (inner_of reader.old))
         (R.remaining (inner_of reader.new)) }
-    ensures flushed { exit_status result ≢ 3 → is_flushed writer.new ≡ true }
-    ensures flushed_without_fault { faults_of writer.new ≡ faults_of writer.old
-        → is_flushed writer.new ≡ true }
-    ensures flushes { flushes_of writer.new ≤ flushes_of writer.old + 1 }
+    ensures flushes { FlushesOnce (exit_status result ≢ 3) writer.old writer.new }
 {
     let status = match words {
         Ok(words) => command(rt, key, words.as_slice(), reader, writer),

@@ -1,7 +1,8 @@
 //! Reports that are tables which give their rows one by one.
 ghost use Rattle.std.specs.Prelude.{◌≡◌, ◌≢◌, ◌+◌, ◌-◌, ◌^◌, ◌<◌, ◌≤◌, true, IfOk};
-ghost use Rattle.counted_io.specs.Counted.{faults_of, flushes_of, inner_of, is_flushed};
+ghost use Rattle.counted_io.specs.Counted.{faults_of, inner_of};
 ghost use Rattle.spanprof_command.specs.Command.{HadFaults, SendsWithin};
+ghost use Rattle.spanprof_command.specs.Flushes.{FlushesOnce};
 ghost use Rattle.spanprof_command.specs.Report.{table_report};
 
 use crate::report::{Report, Status};
@@ -35,11 +36,7 @@ pub fn finish_rows<const COLUMNS: usize, R: Rows<COLUMNS>, W: Write>(
         (table_report R.names (R.fields rows.now) (R.count rows.now))
         (W.contents (inner_of writer.old)) (W.contents (inner_of writer.new))
         (HadFaults (faults_of writer.old) (faults_of writer.new)) result }
-    ensures flushed { result ≢ Status.Fault → is_flushed writer.new ≡ true }
-    // Whatever the status.
-    ensures flushed_without_fault { faults_of writer.new ≡ faults_of writer.old
-        → is_flushed writer.new ≡ true }
-    ensures flushes { flushes_of writer.new ≤ flushes_of writer.old + 1 }
+    ensures flushes { FlushesOnce (result ≢ Status.Fault) writer.old writer.new }
 {
     let mut left = retries;
     match write_rows(rows, writer, &mut left) {

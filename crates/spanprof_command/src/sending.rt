@@ -4,6 +4,7 @@ ghost use Rattle.std.specs.Io.KnownBytes.{Appends};
 ghost use Rattle.counted_io.specs.Counted.{inner_of, faults_of, flushes_of, is_flushed};
 ghost use Rattle.spanprof_command.specs.Command.{HadFaults, Sends, SendsWithin};
 ghost use Rattle.spanprof_command.specs.Finished.{told};
+ghost use Rattle.spanprof_command.specs.Flushes.{FlushesOnce};
 ghost use Rattle.spanprof_command.specs.declared.sending.NoReport.TheVariants.{OutOfMemory};
 
 use crate::report::{Report, Status};
@@ -39,15 +40,11 @@ pub fn finish<W: Write>(
     ensures sends { SendsWithin retries (told made)
         (W.contents (inner_of writer.old)) (W.contents (inner_of writer.new))
         (HadFaults (faults_of writer.old) (faults_of writer.new)) result }
-    ensures flushed { result ≢ Status.Fault → is_flushed writer.new ≡ true }
+    ensures flushes { FlushesOnce (result ≢ Status.Fault) writer.old writer.new }
     // A text that is not whole is not flushed.
     ensures flushed_last { flushes_of writer.old < flushes_of writer.new
         → Appends (W.contents (inner_of writer.old)) (W.contents (inner_of writer.new))
         (told made).text }
-    // Whatever the status.
-    ensures flushed_without_fault { faults_of writer.new ≡ faults_of writer.old
-        → is_flushed writer.new ≡ true }
-    ensures flushes { flushes_of writer.new ≤ flushes_of writer.old + 1 }
 {
     let mut left = retries;
     match made {
@@ -79,16 +76,13 @@ pub fn send<W: Write>(
         (HadFaults (faults_of writer.old) (faults_of writer.new)) (retries.old - retries.new)
         result }
     ensures retried { retries.new ≤ retries.old }
-    ensures flushed { result ≢ Status.Fault → is_flushed writer.new ≡ true }
+    ensures flushes { FlushesOnce (result ≢ Status.Fault) writer.old writer.new }
     // Whatever the status, where each fault used up one of the retries.
     ensures flushed_if_paid { faults_of writer.new + retries.new
         ≡ faults_of writer.old + retries.old → is_flushed writer.new ≡ true }
     // A text that is not whole is not flushed.
     ensures flushed_last { flushes_of writer.old < flushes_of writer.new
         → Appends (W.contents (inner_of writer.old)) (W.contents (inner_of writer.new)) text.now }
-    ensures flushed_without_fault { faults_of writer.new ≡ faults_of writer.old
-        → is_flushed writer.new ≡ true }
-    ensures flushes { flushes_of writer.new ≤ flushes_of writer.old + 1 }
 {
     match write_text(writer, text, retries) {
         Ok(()) => status,
