@@ -9,6 +9,7 @@ import os
 import sys
 import tempfile
 
+from spanprof.command import words_of
 from spanprof.conformance.commands import COMMANDS
 from spanprof.conformance.options import parse
 from spanprof.errors import Fault
@@ -30,7 +31,8 @@ def main():
             leave_the_rest()
             return 2
         except (Fault, OSError) as reason:
-            print(f"spanprof-conformance: {reason}", file=sys.stderr)
+            words = words_of(reason) if isinstance(reason, OSError) else reason
+            print(f"spanprof-conformance: {words}", file=sys.stderr)
             return 2
         except KeyboardInterrupt:
             return 130

@@ -17,9 +17,17 @@ def judge_of(options):
     return Judge(find_spanprof(options.spanprof, os.environ), found_search())
 
 
+def preloaded(libraries):
+    """An environment in which these libraries are loaded first. The system passes over one that is not there."""
+    for library in libraries.replace(":", " ").split():
+        if "/" in library and not os.path.exists(library):
+            raise Missing(f"--preload {library}: no such file")
+    return {**os.environ, "LD_PRELOAD": libraries} if libraries else dict(os.environ)
+
+
 def open_bench(options, folder):
     toolchain = Toolchain(options.cc, options.cflags.split(), folder, options.keep)
-    environment = {**os.environ, "LD_PRELOAD": options.preload} if options.preload else dict(os.environ)
+    environment = preloaded(options.preload)
     files = [USUAL] * options.known_faults + options.expected
     usual = family_of(toolchain.runtime(dict(os.environ)))
     expectations = Expectations(toolchain.runtime(environment), read_expected(files), usual)
