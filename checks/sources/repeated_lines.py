@@ -17,7 +17,7 @@ from crate_picture import LEFT_OUT
 
 TOP = pathlib.Path(__file__).resolve().parents[2]
 WINDOW = 6
-BOUNDS = {".rt": 132, ".antt": 181}  # of 10,000 lines; lower them when there are fewer
+BOUNDS = {".rt": 92, ".antt": 175}  # of 10,000 lines; lower them when there are fewer
 SLACK = 20  # a bound further off than this has to be lowered
 IMPORT = re.compile(r"(pub |ghost )*use |(pub )?mod ")
 PARAMETERS = re.compile(r"(.* )?fn \w+.*\($")
