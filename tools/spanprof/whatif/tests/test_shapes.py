@@ -22,6 +22,12 @@ class More(unittest.TestCase):
         stream = Split("after taskgroup at sort.c:7", 2, 0, 0)(statements(SORT.splitlines(True)))
         self.assertIn("task {  # sort.c:7, a part\n", list(text_lines(stream, 1)))
 
+    def test_the_parts_of_a_place_with_callers(self):
+        text = "omptasks 1\ntask {  # b.c:6 called from f at b.c:10\nwork 9\n}\n"
+        split = Split("task at b.c:6 called from f at b.c:10", 2, 0, 0)
+        self.assertIn("task {  # b.c:6 called from f at b.c:10, a part\n",
+                      list(text_lines(split(statements(text.splitlines(True))), 1)))
+
     def test_what_costs_less_stays_whole(self):
         split = Split("task at sort.c:8", 2, 0, 11)
         self.assertIn("task { work 10 } work 1 task { taskgroup { task { work 10 } task { work 10 } } task",
