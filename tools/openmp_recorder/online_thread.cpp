@@ -155,6 +155,7 @@ void OnlineThread::task_create() {
   if (!told) return;
   if (r->detail & is_target) return remark(Remark::Target, r->place());
   if (r->detail & is_taskwait) return begin_wait(*told);
+  if (!r->other_told()) return;  // in a damaged log
   OnlineTask *maker = maker_told(told);
   bool is_apart =
       maker->wait && maker->wait->code != maker->region->code && !of_one_construct(maker->wait->code, r->place());
