@@ -17,8 +17,11 @@ extern "C" char __start_made_runtime[], __stop_made_runtime[];  // by the linker
 CodeRange runtime_code;
 
 namespace {
-#define APART __attribute__((noinline, disable_tail_calls))
+#define APART __attribute__((noinline))
 #define OF_THE_RUNTIME APART __attribute__((section("made_runtime")))
+
+// At a function's end: it goes on after its call, so that no compiler makes a jump of that.
+void go_on() { asm volatile(""); }
 
 struct Asked {
   KnownStacks stacks;
@@ -32,13 +35,14 @@ APART void callback(Asked &asked, const void *code) {
   const KnownStacks::Stack *known = asked.stacks.find(code, own);
   asked.learned += !known;
   asked.last = known ? known->place : asked.stacks.learn(code, code, own);
+  go_on();
 }
 
-OF_THE_RUNTIME void make_task(Asked &asked) { callback(asked, __builtin_return_address(0)); }
-OF_THE_RUNTIME void run_code(void (*code)(Asked &), Asked &asked) { code(asked); }
+OF_THE_RUNTIME void make_task(Asked &asked) { callback(asked, __builtin_return_address(0)), go_on(); }
+OF_THE_RUNTIME void run_code(void (*code)(Asked &), Asked &asked) { code(asked), go_on(); }
 
-APART void spawn(Asked &asked) { make_task(asked); }
-APART void solve(Asked &asked) { spawn(asked); }
+APART void spawn(Asked &asked) { make_task(asked), go_on(); }
+APART void solve(Asked &asked) { spawn(asked), go_on(); }
 APART void relax(Asked &asked) {
   volatile char more[200] = {};
   spawn(asked);
@@ -47,18 +51,19 @@ APART void relax(Asked &asked) {
 APART void walk(Asked &asked, int depth) {
   if (depth) walk(asked, depth - 1);
   else spawn(asked);
+  go_on();
 }
 APART void varying(Asked &asked, size_t bytes) {
   volatile char *more = static_cast<volatile char *>(__builtin_alloca(bytes));
   make_task(asked);
   more[0] = 1;
 }
-void solving(Asked &asked) { solve(asked); }
-void relaxing(Asked &asked) { relax(asked); }
-void walking_far(Asked &asked) { walk(asked, 500); }
-void walking_farther(Asked &asked) { walk(asked, 900); }
-void varying_less(Asked &asked) { varying(asked, 16); }
-void varying_more(Asked &asked) { varying(asked, 1600); }
+APART void solving(Asked &asked) { solve(asked), go_on(); }
+APART void relaxing(Asked &asked) { relax(asked), go_on(); }
+APART void walking_far(Asked &asked) { walk(asked, 500), go_on(); }
+APART void walking_farther(Asked &asked) { walk(asked, 900), go_on(); }
+APART void varying_less(Asked &asked) { varying(asked, 16), go_on(); }
+APART void varying_more(Asked &asked) { varying(asked, 1600), go_on(); }
 
 // A list of paths in a folder of its own.
 class Recorded {
