@@ -46,6 +46,11 @@ def why_nothing(status, said, out, is_script):
     return "its OpenMP runtime did not load the recorder; it begins only where a program meets a construct of OpenMP"
 
 
+def with_whole(said, options):
+    """What else helps where nothing is recorded."""
+    return "; --whole records loops and serial code" if said.tells("no tasks") and not options.whole else ""
+
+
 class Session:
     def __init__(self, options):
         self.options = options
@@ -90,7 +95,8 @@ class Session:
         found = [one for name in [self.out] + names_of_ranks(self.out)
                  for one in recordings(name) + large_recordings(name)]
         if not found:
-            say("nothing is recorded: " + why_nothing(status, said, self.out, self.is_script))
+            say("nothing is recorded: " + why_nothing(status, said, self.out, self.is_script) +
+                with_whole(said, self.options))
         return status, found, said
 
     def record_often(self):

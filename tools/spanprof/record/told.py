@@ -108,6 +108,9 @@ class Told:
     def and_also(self, things):
         return Told(self.loaded, self.things + things)
 
+    def tells(self, name):
+        return any(one["told"] == name for one in self.things)
+
     def without(self, texts):
         """All but that these were written."""
         return Told(self.loaded, [one for one in self.things

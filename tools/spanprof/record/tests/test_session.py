@@ -51,7 +51,8 @@ class Runs(unittest.TestCase):
 
     def session(self, runs, statuses):
         made = session.Session.__new__(session.Session)
-        made.options, made.out, made.notes, made.is_script = argparse.Namespace(runs=runs), self.out, [], False
+        made.options, made.out = argparse.Namespace(runs=runs, whole=False), self.out
+        made.notes, made.is_script = [], False
         made.rank = None
         left, self.parts = iter(statuses), []
 
@@ -85,7 +86,8 @@ class Runs(unittest.TestCase):
     def test_nothing(self):
         (status, found, _), told = self.record(1, [4])
         self.assertEqual((status, found), (4, []))
-        self.assertEqual(told, "spanprof-record: nothing is recorded: no parallel region with tasks\n")
+        self.assertEqual(told, "spanprof-record: nothing is recorded: no parallel region with tasks; "
+                         "--whole records loops and serial code\n")
 
     def test_often(self):
         def combine(out, names):
