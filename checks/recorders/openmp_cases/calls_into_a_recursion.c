@@ -1,10 +1,10 @@
 // A function that recurses by tasks, most of them undeferred, is called at two lines: all its tasks have the line that
-// led into the recursion, and none has one inside it. What is called once has no callers.
+// led into the recursion (clang 16 has no function there), and none has one inside it. What is called once has none.
 // env: SPANPROF_CALL_PATHS=1
-// text: task \{  # calls_into_a_recursion.c:18 called from main at calls_into_a_recursion.c:40\n
-// text: task if\(0\) \{  # calls_into_a_recursion.c:18 called from main at calls_into_a_recursion.c:40\n
-// text: task \{  # calls_into_a_recursion.c:20 called from main at calls_into_a_recursion.c:41\n
-// text: task if\(0\) \{  # calls_into_a_recursion.c:20 called from main at calls_into_a_recursion.c:41\n
+// text: task \{  # calls_into_a_recursion.c:18 called from (main at )?calls_into_a_recursion.c:40\n
+// text: task if\(0\) \{  # calls_into_a_recursion.c:18 called from (main at )?calls_into_a_recursion.c:40\n
+// text: task \{  # calls_into_a_recursion.c:20 called from (main at )?calls_into_a_recursion.c:41\n
+// text: task if\(0\) \{  # calls_into_a_recursion.c:20 called from (main at )?calls_into_a_recursion.c:41\n
 // text: task \{  # calls_into_a_recursion.c:29\n
 // text: task if\(0\) \{  # calls_into_a_recursion.c:29\n
 // no text: called from fib
