@@ -7,7 +7,7 @@ was kept by the runtime or the machine.
 from dataclasses import dataclass
 from typing import Tuple
 
-from spanprof.claims import lock_binds, time_of_program
+from spanprof.claims import lock_binds, pieces_in, time_of_program
 
 MUCH = 0.25             # of the threads' time, from which on it is a cause
 SOME = 0.1              # of the greedy run's, from which on another shape may help
@@ -109,9 +109,10 @@ def after_that(answers):
     return ALL if answers.work < (1 - SOME) * head.threads * answers.curve[head.threads]["end"] else ("factor",)
 
 
-def is_small(answers):
-    nanoseconds = (answers.head.nanoseconds or 0) * answers.work / max(answers.tasks, 1)
-    return answers.tasks > answers.head.threads and 0 < nanoseconds < SMALL
+def nanoseconds_of_a_task(answers):
+    """On average; 0 where there are no more tasks than threads, or none of them has a time."""
+    tasks = answers.tasks - pieces_in(answers.head)
+    return (answers.head.nanoseconds or 0) * answers.work / tasks if tasks > answers.head.threads else 0
 
 
 def most_of_it(parts, words):
@@ -151,10 +152,11 @@ def of_idle_threads(answers, shares, account):
             "shape", "too few tasks: for %s of the threads' time they idled with nothing ready%s (%s)" %
             (percent(shares.starved), most_of_it(account.starved_by if account else {}, "while %s ran"), shares.how),
             ALL)
-    if is_small(answers):
+    nanoseconds = nanoseconds_of_a_task(answers)
+    if 0 < nanoseconds < SMALL:
         return Cause("small", "tasks too small: %.1f us of code each on average, and for %s of the threads' time they "
-                              "%s (%s)" % (answers.head.nanoseconds * answers.work / answers.tasks / 1000,
-                                           percent(shares.delayed), shares.kept, shares.how), ("join", "cutoff"))
+                              "%s (%s)" % (nanoseconds / 1000, percent(shares.delayed), shares.kept, shares.how),
+                     ("join", "cutoff"))
     beside = most_of_it(account.delayed_by if account else {}, "beside %s")
     return Cause("kept", "the runtime or the machine: for %s of the threads' time they %s%s (%s)" %
                  (percent(shares.delayed), shares.kept, beside, shares.how),

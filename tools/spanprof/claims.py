@@ -49,6 +49,11 @@ def is_folded(head):
     return any(remark.name in FOLDS for remark in head.remarks)
 
 
+def pieces_in(head):
+    """How many of the text's tasks are pieces of loops, which the program has none of; 0 where folds hide it."""
+    return 0 if is_folded(head) else head.pieces
+
+
 def is_of_one_thread(head):
     return head.threads == 1
 

@@ -4,7 +4,7 @@ A person reads it to decide about a program, and what is proved is proved of the
 says of what, and where the head tells that the text is not the program the line says that in its place.
 """
 from spanprof.claims import (OTHERWISE, against_parallelism, against_span, gain_may_be_less, gain_may_be_more,
-                             is_divided, is_folded, is_of_one_thread, is_partial, least_end, lock_binds, share_covered,
+                             is_divided, is_of_one_thread, is_partial, least_end, lock_binds, pieces_in, share_covered,
                              tenths, why_not_of_more_threads)
 from spanprof.head import part_of_program, with_function
 from spanprof.record.program_lines import program_line
@@ -49,7 +49,7 @@ def covers_line(head):
 
 def tasks_line(answers, verdict):
     head, whose = answers.head, "regions'" if answers.head.whole else "region's"
-    pieces = 0 if is_folded(head) else head.pieces
+    pieces = pieces_in(head)
     parts = [(pieces, "pieces of loops"), (answers.parts, "parts of the %s own code" % whose)]
     told = ["%s %s" % (grouped(count), what) for count, what in parts if count]
     return "%s, in %s segments (recorded)%s" % (

@@ -71,6 +71,10 @@ class ByTheAccount(unittest.TestCase):
         self.assertEqual(found.kind, "small")
         self.assertTrue(found.words.startswith("tasks too small: 2.0 us of code each on average, and for 76 %"))
 
+    def test_pieces_of_loops_are_no_small_tasks(self):
+        of_loops = answers(unit="us", tasks=50, whole="1 region", pieces=44)
+        self.assertEqual(cause(of_loops, account(20, 76, 4)).kind, "kept")
+
     def test_before_and_after_the_code(self):
         self.assertEqual(cause(answers(), account(20, 10, 10, 60)).kind, "ends")
 
