@@ -36,7 +36,8 @@ class Summary(unittest.TestCase):
 
     def test_pieces_of_loops_are_no_tasks(self):
         answered = large.LargeAnswers("mine.large.tasks", Head(whole="1 region", pieces=7), 9, 20, 100, 70)
-        self.assertIn("tasks         2, and 7 pieces of loops, in 20 segments (recorded)", large.large_summary(answered))
+        told = large.large_summary(answered)
+        self.assertIn("tasks         2, and 7 pieces of loops, in 20 segments (recorded)", told)
 
     def test_whether_its_run_was_legal(self):
         answered = large.LargeAnswers("mine.large.tasks", Head(), 9, 20, 100, 70)
