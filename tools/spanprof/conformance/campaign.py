@@ -57,7 +57,7 @@ def tried(bench, cases, plan, jobs):
                 slow.append((futures[future], future.result()))
             else:
                 yield futures[future], future.result()
-        tries = SecondTries(lambda case, conditions: bench.try_case(case, [conditions])[0])
+        tries = SecondTries(lambda case, conditions: bench.try_case(case, [conditions])[0], bench.sure_hangs)
         for number, (case, tallies) in enumerate(slow, 1):
             say(f"a hang that may only have been slow is tried again: {number} of {len(slow)}, {case.name}")
             yield case, tries.settled(case, tallies)

@@ -152,6 +152,7 @@ class Bench:
         self.toolchain, self.judge, self.environment = toolchain, judge, environment
         self.expectations = expectations
         self.programs, self.numbers = {}, itertools.count()
+        self.sure_hangs = set()  # signatures of hangs that a second try has shown, in all batches of a campaign
 
     def build(self, source):
         """The program of a C file; the same file is built once."""

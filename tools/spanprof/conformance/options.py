@@ -12,6 +12,8 @@ from spanprof.version import Version
 
 MOST_THREADS = 64
 REPORT = "files for the report, with commas: .md, .json, .xml (JUnit), .tap"
+RANDOM_PROGRAMS = 100
+OF_BATCH = 10  # of a campaign of hours: what is interrupted in a batch, or runs beyond the hours, is little
 
 
 def positive(word):
@@ -55,7 +57,10 @@ def parse(calls, words=None):
         of_name = commands.add_parser(name, help=call.__doc__)
         of_name.set_defaults(call=call)
         add_options(name, of_name)
-    return parser.parse_args(words)
+    options = parser.parse_args(words)
+    if options.command == "run" and options.programs is None:
+        options.programs = OF_BATCH if options.hours else RANDOM_PROGRAMS
+    return options
 
 
 def add_options(name, parser):
@@ -133,7 +138,8 @@ def add_failure_options(name, parser):
     add("--shrink-tries", type=natural, default=300, help="smaller programs to try at most (300)")
     add("--shrink-seconds", type=natural, default=60, help="seconds for each of these kinds at most (60)")
     if name == "run":
-        add("--programs", type=natural, default=100, help="how many random programs (100); with --hours: of a batch")
+        add("--programs", type=natural, default=None,
+            help=f"how many random programs ({RANDOM_PROGRAMS}); with --hours: of a batch ({OF_BATCH})")
         add("--hours", type=float, default=0, help="go on with batch after batch until so many hours are full")
         add("--state", default="campaign.jsonl",
             help="the file from which a campaign of hours goes on, and to which a part goes (campaign.jsonl)")

@@ -17,11 +17,11 @@ def doubtful(tallies):
 
 
 class SecondTries:
-    """`again` answers a case's tally under some conditions, with nothing else running. Where a hang was seen again,
-    those with its signature count without being tried."""
+    """`again` answers a case's tally under some conditions, with nothing else running. `sure` has the signatures of
+    hangs that were seen again: others like them count without being tried."""
 
-    def __init__(self, again):
-        self.again, self.sure = again, set()
+    def __init__(self, again, sure):
+        self.again, self.sure = again, sure
 
     def settled(self, case, tallies):
         """The tallies, in which each hang counts or is told as seen once."""

@@ -42,7 +42,7 @@ class SparingBench(Bench):
 
     def first_failure(self, case, all_conditions):
         """The first failure of a case that counts, under any of the conditions; or None."""
-        tries = SecondTries(lambda case, conditions: self.try_case(case, [conditions])[0])
+        tries = SecondTries(lambda case, conditions: self.try_case(case, [conditions])[0], set())
         for conditions in all_conditions:
             tally = tries.settled_tally(case, self.try_case(case, [conditions])[0])
             if tally.failures:

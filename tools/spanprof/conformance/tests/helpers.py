@@ -30,7 +30,7 @@ class StubBench:
     """Every program for which `fails` holds fails in its first run under each of the conditions."""
 
     def __init__(self, fails=lambda body: False):
-        self.fails, self.tried, self.forgotten = fails, [], 0
+        self.fails, self.tried, self.forgotten, self.sure_hangs = fails, [], 0, set()
         self.toolchain = self
         self.kinds = {"in", "out", "inout", "inoutset"}
 

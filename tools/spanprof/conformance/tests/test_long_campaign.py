@@ -4,13 +4,15 @@ import pathlib
 import tempfile
 import types
 import unittest
+from dataclasses import replace
 from unittest import mock
 
 from spanprof.conformance import store
 from spanprof.conformance.journal import Journal
+from spanprof.conformance.judge import Verdict
 from spanprof.conformance.long_campaign import next_seeds, run_campaign
 from spanprof.conformance.shards import Shard
-from spanprof.conformance.tests.helpers import PLAN, StubBench
+from spanprof.conformance.tests.helpers import PLAN, StubBench, failure_of
 
 TESTED = {"compiler": "none"}
 
@@ -31,6 +33,14 @@ class Interrupted(StubBench):
         if len(self.tried) == self.cases:
             raise KeyboardInterrupt
         return super().try_case(case, all_conditions)
+
+
+class Hanging(StubBench):
+    """Every program hangs while its threads are busy."""
+
+    def tally(self, case, at):
+        hang = replace(failure_of(kind="hung", rule="at taskwait"), verdict=Verdict("hung", "busy"))
+        return replace(super().tally(case, at), failures=[hang])
 
 
 class LongCampaigns(unittest.TestCase):
@@ -93,6 +103,11 @@ class LongCampaigns(unittest.TestCase):
         self.run_for(1)
         bench, results = self.run_for(1)
         self.assertEqual((bench.tried, results.rows["all", 2]["programs"]), ([], 2))
+
+    def test_a_hang_that_is_sure_is_not_tried_again_in_later_batches(self):
+        bench, results = self.run_for(2, Hanging())
+        self.assertEqual(self.seeds(bench), [5, 6, 5, 7, 8, 9, 10])
+        self.assertEqual(len(results.failed_programs()), 1)
 
     def test_failures_are_kept(self):
         self.run_for(1, StubBench(lambda body: True))

@@ -55,6 +55,11 @@ class Options(unittest.TestCase):
         options = parsed("run --cc gcc --hours 0.5 --state night.jsonl")
         self.assertEqual((options.hours, options.state), (0.5, "night.jsonl"))
 
+    def test_programs_of_a_batch_are_fewer(self):
+        self.assertEqual(parsed("run --cc gcc").programs, 100)
+        self.assertEqual(parsed("run --cc gcc --hours 2").programs, 10)
+        self.assertEqual(parsed("run --cc gcc --hours 2 --programs 50").programs, 50)
+
     def test_what_is_refused(self):
         self.assertIn("1 to 64", self.refused("run --cc gcc --threads 2,65"))
         self.assertIn("1 to 64", self.refused("run --cc gcc --threads 0"))

@@ -13,7 +13,7 @@ def hang(rule="at taskwait", detail="busy"):
 
 
 class Again(unittest.TestCase):
-    def settled(self, failures, again):
+    def settled(self, failures, again, sure=()):
         """What counts, how many hangs were seen once, and the conditions of the second tries."""
         tried = []
 
@@ -22,7 +22,7 @@ class Again(unittest.TestCase):
             return Tally(at, 3, 9, again)
 
         tally = Tally(conditions(), 3, 9, failures)
-        (after,) = SecondTries(try_again).settled(case_of(), [tally])
+        (after,) = SecondTries(try_again, set(sure)).settled(case_of(), [tally])
         return after.failures, after.seen_once, tried
 
     def test_threads_that_all_slept_hang_for_sure(self):
@@ -46,6 +46,9 @@ class Again(unittest.TestCase):
     def test_one_second_try_stands_for_its_signature(self):
         self.assertEqual(len(self.settled([hang(), hang()], [hang()])[2]), 1)
         self.assertEqual(len(self.settled([hang(), hang("at taskgroup")], [hang()])[2]), 2)
+
+    def test_one_that_was_sure_before_is_not_tried(self):
+        self.assertEqual(self.settled([hang()], [], [hang().signature]), ([hang()], 0, []))
 
 
 if __name__ == "__main__":
