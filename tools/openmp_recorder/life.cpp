@@ -17,8 +17,9 @@
 namespace {
 struct Life {
   RecordingOptions options;
+  Moment runtime_begins;  // what it does from then on, until it has begun, is no code of the program
   Beginning log;
-  void (*call)();  // of the recorder, that makes a record
+  void (*call)() = nullptr;  // of the recorder, that makes a record
   pid_t process = 0;
   std::atomic<bool> ended{false};
   int64_t at_end = 0;  // the processor's clock of the thread that ended it
@@ -105,13 +106,17 @@ __attribute__((destructor)) void end_of_library() {
 }
 }  // namespace
 
-void begin_recording(void (*call)()) {
+void runtime_begins() {
   if (life) return;
   life = new Life;
-  life->call = call;
   life->options = read_recording_options();
   choose_clocks(life->options.time_stamp, life->options.processor_clock);
-  Moment began = moment_now();
+  life->runtime_begins = moment_now();
+}
+
+void begin_recording(void (*call)()) {
+  if (life->call) return;
+  life->call = call;
   life->options.out = absolute(life->options.out);
   life->log.program_start = program_start();
   life->log.is_child = is_child_of_this_program();
@@ -125,7 +130,7 @@ void begin_recording(void (*call)()) {
   tell_beginning();
   pthread_atfork(nullptr, nullptr, after_fork);
   at_quick_exit(end_of_process);
-  set_time_of_beginning(time_since(began));
+  set_time_of_beginning(time_since(life->runtime_begins));
 }
 
 void expect_end_by_this_thread() { on_exit(on_end_by_exit, nullptr); }
