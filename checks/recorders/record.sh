@@ -147,6 +147,10 @@ expect_recording outside
 expect "the region alone" 0 spanprof-record --no-whole --out outside -- ./llvm outside
 expect_titles "the region alone" 'outside.tasks, region'
 [ ! -e outside.whole.tasks ] || fail "the region alone: the whole program's text of the run before is left"
+expect "a program without tasks" 0 spanprof-record --out loops -- ./llvm none
+expect_titles "a program without tasks" 'loops.tasks, the'
+expect_word "a program without tasks" 'no parallel region with tasks'
+"$spanprof" span < loops.tasks > counted || fail "loops.tasks is refused"
 expect "the whole program alone" 0 spanprof-record --whole --out outside -- ./llvm outside
 expect_titles "the whole program alone" 'outside.tasks, the'
 [ ! -e outside.whole.tasks ] || fail "the whole program alone has two texts"
@@ -253,8 +257,9 @@ words="./inside has gcc's runtime (libgomp) inside; link it with the shared libr
 expect_error 125 "$words" spanprof-record -- ./inside
 words='nothing is recorded: its OpenMP runtime did not load the recorder; it begins only where a program meets a '
 expect_error 125 "${words}construct of OpenMP" spanprof-record -- ./llvm never
-expect "no tasks" 125 spanprof-record -- ./llvm none
-expect_word "no tasks" 'spanprof-record: nothing is recorded: no parallel region with tasks'
+expect "no tasks" 125 spanprof-record --no-whole -- ./llvm none
+words='spanprof-record: nothing is recorded: no parallel region with tasks; without --no-whole loops and serial code are '
+expect_word "no tasks" "${words}recorded"
 expect_error 125 '--out no/x: there is no folder no' spanprof-record --out no/x -- ./llvm
 expect_error 125 '--runtime none: no such file' spanprof-record --runtime none -- ./llvm
 expect "wrong words" 125 spanprof-record --unit hours -- ./llvm

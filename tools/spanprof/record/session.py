@@ -16,7 +16,7 @@ from spanprof.record.repeat import FIRST_PARTS, combine_all, make_folder, parts_
 from spanprof.record.run import environment, rewind, run, signal_name
 from spanprof.record.runtime import refuse_targets, to_preload, what_it_lacks
 from spanprof.record.target import find, launched
-from spanprof.record.whole import convert_wholes
+from spanprof.record.whole import convert_wholes, convert_without_regions
 
 RECORDERS = builds_in("openmp_recorder")
 
@@ -48,7 +48,8 @@ def why_nothing(status, said, out, is_script):
 
 def with_whole(said, options):
     """What else helps where nothing is recorded."""
-    return "; --whole records loops and serial code" if said.tells("no tasks") and not options.whole else ""
+    return "; without --no-whole loops and serial code are recorded" if said.tells("no tasks") and options.no_whole \
+        else ""
 
 
 class Session:
@@ -74,7 +75,7 @@ class Session:
 
     def run(self, out, others=None, may_be_whole=True):
         """One run, with other variables too: how the program ended, and what is told of its logs. The whole program
-        has a text too where that is not ruled out."""
+        has a text beside those of its regions where that is not ruled out."""
         remove_old(out)
         asked = dict(os.environ, **others or {})
         if spanprof_large():
@@ -83,9 +84,11 @@ class Session:
         status = run(self.path, self.options.command, variables)
         tell("converting " + os.path.basename(out) + ".log")
         said = convert_all(self.converter, out, variables)
-        if may_be_whole and not (self.options.whole or self.options.no_whole or self.options.online):
-            said = said.and_also(convert_wholes(self.converter, out, variables))
-        return status, said
+        if self.options.whole or self.options.no_whole or self.options.online:
+            return status, said
+        if said.tells("no tasks"):
+            said = said.and_also(convert_without_regions(self.converter, out, variables))
+        return status, said.and_also(convert_wholes(self.converter, out, variables)) if may_be_whole else said
 
     def record_once(self):
         """The program's end, the recordings, and what was said."""

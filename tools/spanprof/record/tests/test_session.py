@@ -51,7 +51,7 @@ class Runs(unittest.TestCase):
 
     def session(self, runs, statuses):
         made = session.Session.__new__(session.Session)
-        made.options, made.out = argparse.Namespace(runs=runs, whole=False), self.out
+        made.options, made.out = argparse.Namespace(runs=runs, no_whole=True), self.out
         made.notes, made.is_script = [], False
         made.rank = None
         left, self.parts = iter(statuses), []
@@ -87,7 +87,7 @@ class Runs(unittest.TestCase):
         (status, found, _), told = self.record(1, [4])
         self.assertEqual((status, found), (4, []))
         self.assertEqual(told, "spanprof-record: nothing is recorded: no parallel region with tasks; "
-                         "--whole records loops and serial code\n")
+                         "without --no-whole loops and serial code are recorded\n")
 
     def test_often(self):
         def combine(out, names):

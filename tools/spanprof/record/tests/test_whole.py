@@ -52,3 +52,11 @@ class Wanted(InFolder):
             self.assertEqual(whole.convert_wholes("convert_log", self.out, {"A": "b"}), [{"told": "x"}])
         convert.assert_called_once_with("convert_log", self.out + ".rank1.log", {"A": "b", "SPANPROF_WHOLE": "1"},
                                         self.out + ".rank1.whole")
+
+    def test_each_log_without_a_text_of_a_region(self):
+        for name in ("mine.rank0", "mine.rank1"):
+            os.mkdir(os.path.join(self.folder, name + ".log"))
+        self.text("mine.rank0.tasks", 500, 50, 50)
+        with mock.patch("spanprof.record.whole.convert", return_value=[{"told": "x"}]) as convert:
+            self.assertEqual(whole.convert_without_regions("convert_log", self.out, {"A": "b"}), [{"told": "x"}])
+        convert.assert_called_once_with("convert_log", self.out + ".rank1.log", {"A": "b", "SPANPROF_WHOLE": "1"})
