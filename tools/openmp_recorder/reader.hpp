@@ -115,7 +115,6 @@ class Reader {
   void compare_clocks();
   void close_tasks(Region &region);
   void close_whole(int64_t end);
-  void end_tasks();
 
   // over.cpp: regions that are over
   uint64_t held = 0;  // their tasks

@@ -85,7 +85,9 @@ unsigned tasks_below(const Task &t) {
   return count;
 }
 
-int64_t rounded(int64_t nanoseconds, int64_t unit) { return (nanoseconds + unit / 2) / unit; }
+int64_t rounded(int64_t nanoseconds, int64_t unit) {
+  return unit == 1 ? nanoseconds : (nanoseconds + unit / 2) / unit;
+}
 
 std::string folded_words(const Place &p) {
   if (p.joined) return std::to_string(1 + p.joined) + " tasks joined";
@@ -146,7 +148,8 @@ void Writer::flush(Place &p) {
     begin_line(p.indent);
     piece.put("work ");
     piece.number(static_cast<uint64_t>(cost));
-    end_line(folded_words(p));
+    if (p.folded || p.joined) end_line(folded_words(p));
+    else end_line();
   }
   p.cost = 0;
   p.folded = p.joined = 0;
