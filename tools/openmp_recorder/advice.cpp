@@ -102,7 +102,7 @@ int64_t Adviser::cost() {
 
 std::vector<Offer> Adviser::offers() {
   std::vector<Offer> out;
-  if (too_many_stay(region)) return out;
+  if (whole.items && too_many_stay(region)) return out;
   if (uint64_t deepest = depth()) out.push_back(offer("DEPTH", deepest));
   if (uint64_t tasks = chunk()) out.push_back(offer("CHUNK", tasks));
   if (int64_t units = cost()) out.push_back(offer("COST", static_cast<uint64_t>(units)));

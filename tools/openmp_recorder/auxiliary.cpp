@@ -117,6 +117,7 @@ void rewrite_events(Region &region, const Makers &makers) {
 }  // namespace
 
 void leave_out_auxiliary(Region &region) {
+  if (!region.has_auxiliary) return;
   Makers makers = makers_of(region);
   if (!makers.empty()) rewrite_events(region, makers);
 }

@@ -44,7 +44,7 @@ bool CallPaths::has_function(const Numbers &path, const std::string &function) c
 }
 
 void CallPaths::add_own(const Calls &calls, const Places &places) {
-  Own path{calls.front(), {}, {}, false};
+  Own path{calls.front(), {}, {}};
   std::vector<Frame> all = frames_of(calls, places);
   for (const Frame &one : all) {
     bool is_there = has_function(path.frames, one.function), is_last = &one == &all.back();
@@ -80,14 +80,17 @@ uint64_t CallPaths::put(const void *creating, Numbers path) {
 }
 
 const void *CallPaths::place(uint64_t path, const void *maker) {
-  const Own &one = own[path];
+  Own &one = own[path];
   uint64_t of = one.has_last ? number_in(maker) : 0;
+  if (one.place && one.maker == of) return one.place;
   auto [found, is_new] = made.try_emplace(path << 32 | of, 0);
   if (is_new) {
     const Placed *in = of ? &placed[of] : nullptr;
     found->second = put(one.creating, whole(one, in));
   }
-  return found->second ? marked(found->second) : one.creating;
+  one.maker = of;
+  one.place = found->second ? marked(found->second) : one.creating;
+  return one.place;
 }
 
 // Those of one place have the first frames outwards in their names in which they differ.

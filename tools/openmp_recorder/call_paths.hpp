@@ -28,6 +28,8 @@ class CallPaths {
     Numbers frames;
     Frame last;  // after them: code of the task that runs, or of a function that is in them
     bool has_last = false;
+    uint64_t maker = 0;  // for which its place was asked last
+    const void *place = nullptr;  // null before
   };
   struct Placed {
     const void *creating;

@@ -6,7 +6,7 @@
 #include "span.hpp"
 
 namespace {
-int64_t up(int64_t above, int64_t below) { return below ? (above + below - 1) / below : 0; }
+int64_t up(int64_t above, int64_t below) { return above && below ? (above + below - 1) / below : 0; }
 
 bool is_awaited(const Task &t) { return t.end == t.end_below; }
 
@@ -16,7 +16,7 @@ uint64_t tasks_of_fold(const Task &t) {
   return 1 + !is_awaited(t) + static_cast<uint64_t>(up(t.total - t.end_below, t.end_below));
 }
 
-bool is_worth_it(const Task &t) { return tasks_of_fold(t) < t.size; }
+bool is_worth_it(const Task &t) { return t.size > 1 && tasks_of_fold(t) < t.size; }
 
 // Neighbouring tasks of one place, with nothing between them but `work` of the task that makes them.
 struct Row {

@@ -35,11 +35,18 @@ void join(Task &earlier, Task &later) {
   later.joined_tasks = earlier.joined_tasks + 1;
 }
 
+void separate(Task &t) {
+  t.fold = Fold::No;
+  t.joined = t.joined_tasks = 0;
+}
+
 // Neighbouring tasks of one place, with nothing between them but `work`, are one, which is created where the last was.
+// How they were joined before does not count.
 void join_neighbours(const Task &t, uint64_t chunk) {
   Task *last = nullptr;
   for (const Step &step : t.steps) {
     if (step.kind == Kind::Work) continue;
+    if (step.kind == Kind::Create) separate(*step.child());
     Task *next = step.kind == Kind::Create && can_be_joined(*step.child()) ? step.child() : nullptr;
     if (last && next && last->code == next->code && last->joined_tasks + 1 < chunk) join(*last, *next);
     last = next;
@@ -48,11 +55,7 @@ void join_neighbours(const Task &t, uint64_t chunk) {
 
 void separate(Region &region) {
   if (!region.joined) return;
-  for (Task &t : region.tasks) {
-    t.fold = Fold::No;
-    t.joined = 0;
-    t.joined_tasks = 0;
-  }
+  for (Task &t : region.tasks) separate(t);
   region.joined = false;
 }
 
@@ -69,24 +72,19 @@ void count(const Task &t, Size &size) {
 }
 
 void count_piece(const Task &t, const Folds &folds, Size &size) {
+  if (t.joined + t.total <= size.largest) return;  // no piece of it is larger
   int64_t largest = t.fold == Fold::No ? largest_piece(t, folds) : t.total;
   size.largest = std::max(size.largest, in_pieces(largest, t));
 }
 
-void separate_children(const Task &maker) {
-  for (const Step &step : maker.steps) {
-    if (step.kind != Kind::Create) continue;
-    step.child()->fold = Fold::No;
-    step.child()->joined = step.child()->joined_tasks = 0;
-  }
-}
-
-// Adds what is left of the tasks that a task makes, up to so many in all.
-void try_children(const Task &maker, const Folds &folds, uint64_t most, std::vector<Task *> &written) {
+// Adds what is left of the tasks that a task makes, up to so many in all; they may have been joined before.
+void try_children(const Task &maker, const Folds &folds, bool joined, uint64_t most, std::vector<Task *> &written) {
   for (const Step &step : maker.steps) {
     if (written.size() == most) return;
-    if (step.kind != Kind::Create || step.child()->fold == Fold::Joined) continue;
+    if (step.kind != Kind::Create) continue;
     Task &child = *step.child();
+    if (joined && folds.chunk < 2) separate(child);
+    if (child.fold == Fold::Joined) continue;
     child.fold = fold_of(child, folds);
     child.blocks = maker.blocks + child.outer_groups + 1;
     if (child.fold != Fold::Whole) written.push_back(&child);
@@ -164,9 +162,8 @@ Trial try_fold(Region &region, const Folds &folds, uint64_t enough) {
     count(t, trial.size);
     if (pieces) count_piece(t, folds, trial.size);
     if (t.fold != Fold::No || !t.children) continue;
-    if (region.joined) separate_children(t);
     if (folds.chunk > 1) join_neighbours(t, folds.chunk);
-    try_children(t, folds, enough + 2, trial.written);  // the root too, and one that is too many
+    try_children(t, folds, region.joined, enough + 2, trial.written);  // the root too, and one that is too many
   }
   trial.size.total = region.root->total;
   return trial;

@@ -52,6 +52,7 @@ void Reader::let_go_until(const Placed &found) {
   if (!run.whole->before) run.whole->before = std::make_shared<Stretches>(how.beside);
   Region stretch;
   stretch.tasks = run.whole->tasks.take(1, end.blocks);
+  stretch.has_auxiliary = run.whole->has_auxiliary;
   forget(stretch.tasks);
   stretch.root = &stretch.tasks.emplace_front();
   stretch.root->part = true;

@@ -1,5 +1,6 @@
 #include "lines.hpp"
 
+#include "recent.hpp"
 #include "stretches.hpp"
 
 namespace {
@@ -33,11 +34,11 @@ void remark_lines_of_gcc(Region &region, const Constructs &all, const Places &pl
 }  // namespace
 
 void Constructs::add(const Region &part) {
-  const void *last = nullptr;  // most tasks have the place of the one before
+  CodesMet of_tasks(tasks), of_waits(waits);
   for (const Task &t : part.tasks) {
-    if (t.code && t.code != last && !t.part && !t.of_loop) tasks.insert(last = t.code);
+    if (!t.part && !t.of_loop) of_tasks.add(t.code);
     for (const Step &step : t.steps)
-      if (step.kind == Kind::Wait && step.code()) waits.insert(step.code());
+      if (step.kind == Kind::Wait) of_waits.add(step.code());
   }
 }
 

@@ -23,6 +23,12 @@ class RecordsLookedAt {
   explicit RecordsLookedAt(const log_form::Head &head);
   // `wide` is the number of 8 bytes that some kinds have in the place of two tasks' numbers.
   void look_at(const log_form::RawRecord &record, int64_t processor, uint64_t wide);
+  // Whether a record by the wall clock may have this time, which is then that of the record before.
+  bool takes(uint64_t ticks) {
+    if (ticks + back < first || ticks > first + most || ticks + back < last) return false;
+    last = ticks;
+    return true;
+  }
 
  private:
   uint64_t first, last;  // ticks: of the log, and of the record before

@@ -1,5 +1,6 @@
 // Regions that are over. Few of them are written, and all together may hold more than there is memory for. So beyond
-// some tasks each is let go when it ends, but for the sums that the choice goes by; what is chosen is read again.
+// some tasks each is let go, but for the sums that the choice goes by; what is chosen is read again. The last one is
+// held until another makes a task: with one large region nothing is read twice.
 #include <algorithm>
 
 #include "auxiliary.hpp"
@@ -16,9 +17,14 @@ bool Reader::is_over(const Region &region) const {
 void Reader::let_go_if_over(Region &region) {
   bool is_inside = region.met.region;  // another one, which is compared with it in the end
   bool is_needed = run.whole || is_inside || how.held.count(region.number);
-  if (how.most_held == UINT64_MAX || is_needed || !is_over(region)) return;
-  if (held + region.tasks.size() > how.most_held) let_go(region);
-  else held += region.tasks.size();
+  if (how.most_held == UINT64_MAX || is_needed || &region == last_over || !is_over(region)) return;
+  if (held + region.tasks.size() <= how.most_held) held += region.tasks.size();
+  else if (region.created) let_go_last(), last_over = &region;
+  else let_go(region);
+}
+
+void Reader::let_go_last() {
+  if (last_over) let_go(*std::exchange(last_over, nullptr));
 }
 
 // By whatever they are known.
@@ -40,6 +46,7 @@ void Reader::let_go(Region &region) {
   if (region.makes_tasks) divide_work(region);
   region.let_go = true;
   region.parts = std::vector<Part>();
+  region.left_in_groups = std::vector<Part>();
   region.events = std::vector<Event>();
   region.has_events = false;
   region.locations = Locations();

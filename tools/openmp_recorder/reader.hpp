@@ -66,6 +66,7 @@ class Reader {
   TaskNumbers tasks;  // of an implicit task its part
   std::unordered_map<uint32_t, ImplicitTask> implicit;  // by number
   std::vector<Worker> workers;
+  Worker *turned_to = nullptr;  // that of the log
 
   Task *find(uint32_t number) const { return tasks.find(number); }
   void put(uint32_t number, Task *task) {
@@ -73,12 +74,15 @@ class Reader {
     tasks.put(number, task);
     if (task) task->number = number;
   }
-  Worker &worker() { return workers[log->worker]; }
+  Worker &worker() { return *turned_to; }
   void turn_to(const Log &of) {
+    if (log == &of) return;
     log = &of;
     if (of.worker >= workers.size()) workers.resize(of.worker + 1);
+    turned_to = &workers[of.worker];
   }
   std::vector<uint32_t> &current() { return worker().current; }
+  bool is_in(uint32_t number) { return !current().empty() && current().back() == number; }
   Task *current_part();  // of the implicit task that the thread is in
   Task *running();
   static void remark(Region *region, Remark what, const void *code) { region->remarks[what].add(code); }
@@ -111,14 +115,15 @@ class Reader {
   void compare_clocks();
   void close_tasks(Region &region);
   void close_whole(int64_t end);
-  void end_tasks();
 
   // over.cpp: regions that are over
   uint64_t held = 0;  // their tasks
+  Region *last_over = nullptr;  // beside them, until another region makes a task
   bool is_over(const Region &region) const;
   void let_go_if_over(Region &region);
   void forget(const TaskList &all);
   void let_go(Region &region);
+  void let_go_last();
 
   // let_go.cpp: the beginning of the whole program, up to a region that is over
   struct Placed {  // a region in the root; what there was until its end, of what is there

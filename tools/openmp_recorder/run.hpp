@@ -111,6 +111,7 @@ struct Region {
   bool has_events = true;  // else they are given up, since it has more tasks than a replay document holds
   uint64_t created = 0;  // tasks
   uint64_t chunks = 0;  // of these, chunks of loops
+  bool has_auxiliary = false;  // tasks
   bool of_program = true;  // else of the runtime, for threads that it keeps for itself
   int64_t cost = 0;  // of all its code
   std::map<LockName, LockUse> locks;

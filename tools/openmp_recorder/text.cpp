@@ -2,10 +2,12 @@
 
 #include <omp-tools.h>
 
+#include <array>
 #include <set>
 #include <utility>
 
 #include "piece.hpp"
+#include "recent.hpp"
 #include "stretches.hpp"
 
 namespace {
@@ -40,8 +42,11 @@ class Writer {
   uint32_t opened = 0;
   std::vector<uint32_t> names;  // by the number of a location
   uint32_t named = 0;
-  const void *last_code = nullptr;  // the place that was asked for last
-  std::string_view last_place;
+  struct Asked {
+    const void *code = nullptr;
+    std::string_view place;
+  };
+  std::array<Asked, recent_slots> asked;  // the last of each slot
 
   void begin_line(unsigned indent);
   void end_line(std::string_view comment = {});
@@ -85,7 +90,7 @@ unsigned tasks_below(const Task &t) {
   return count;
 }
 
-int64_t rounded(int64_t nanoseconds, int64_t unit) { return (nanoseconds + unit / 2) / unit; }
+int64_t rounded(int64_t nanoseconds, int64_t unit) { return unit == 1 ? nanoseconds : (nanoseconds + unit / 2) / unit; }
 
 std::string folded_words(const Place &p) {
   if (p.joined) return std::to_string(1 + p.joined) + " tasks joined";
@@ -146,7 +151,8 @@ void Writer::flush(Place &p) {
     begin_line(p.indent);
     piece.put("work ");
     piece.number(static_cast<uint64_t>(cost));
-    end_line(folded_words(p));
+    if (p.folded || p.joined) end_line(folded_words(p));
+    else end_line();
   }
   p.cost = 0;
   p.folded = p.joined = 0;
@@ -169,9 +175,9 @@ void Writer::leave_out(Place &p, const Task &child) {
 }
 
 std::string_view Writer::place_at(const void *code) {
-  if (code != last_code) last_place = places.at(code);
-  last_code = code;
-  return last_place;
+  Asked &last = asked[recent_slot(code)];
+  if (code != last.code) last = {code, places.at(code)};
+  return last.place;
 }
 
 std::string_view Writer::place_of(const Task &t) { return t.part ? of_a_thread : place_at(t.code); }
@@ -316,12 +322,12 @@ Text program_text(Region &region, const Style &style, const Places &places) {
 std::vector<const void *> codes_of(const Region &region) {
   std::set<const void *> codes{region.code};
   if (region.before) codes.insert(region.before->codes.begin(), region.before->codes.end());
-  const void *last = region.code;  // most tasks have the place of the one before
+  CodesMet met(codes);
   for (const Task &t : region.tasks) {
     if (!is_written(t)) continue;
-    if (t.code != last) codes.insert(last = t.code);
+    met.add(t.code);
     for (const Step &step : t.steps)
-      if (step.kind != Kind::Work && step.kind != Kind::Create) codes.insert(step.code());
+      if (step.kind != Kind::Work && step.kind != Kind::Create) met.add(step.code());
   }
   for (auto &[what, seen] : region.remarks) codes.insert(seen.code);
   for (auto &[name, use] : region.locks) codes.insert(use.code);

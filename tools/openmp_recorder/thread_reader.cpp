@@ -15,6 +15,11 @@ std::string first_bytes(FILE *file, uint64_t from, size_t count) {
 
 bool is_of_a_lock(Told told) { return told == Told::LockGot || told == Told::LockLeft; }
 
+// Of such a record all is told as it stands: most are.
+bool is_plain(Told told) {
+  return told == Told::Create || told == Told::Schedule || told == Told::SyncBegin || told == Told::SyncEnd;
+}
+
 // Records of code that is divided among threads: no other task runs there.
 bool divides(Told told) { return told == Told::Divided || told == Told::Chunk || told == Told::DividedEnd; }
 }  // namespace
@@ -62,31 +67,35 @@ bool ThreadReader::fill() {
 // The record at this place of the block, and its bytes; 0 where there is none.
 size_t ThreadReader::read_here() {
   log_form::ShortRecord first;
-  size_t room = filled - at, bytes = by_processor ? log_form::bytes_by_processor : log_form::bytes_by_wall;
-  if (room < sizeof first) return 0;
+  if (filled - at < sizeof first) return 0;
   std::memcpy(&first, buffer.data() + at, sizeof first);
-  if (first & log_form::short_bit) {
-    if (by_processor) refuse("it is shorter than this clock's");
-    read_short(first);
-    return sizeof first;
-  }
-  if (!first || room < bytes) return 0;
-  std::memcpy(&raw, buffer.data() + at, bytes);
-  keep_long();
-  return raw.told() == Told::Nothing ? 0 : bytes;
+  if (!(first & log_form::short_bit)) return first ? read_long() : 0;
+  read_short(first);
+  return sizeof first;
 }
 
-void ThreadReader::look_at(size_t bytes) {
+size_t ThreadReader::read_long() {
+  size_t bytes = by_processor ? log_form::bytes_by_processor : log_form::bytes_by_wall;
+  if (filled - at < bytes) return 0;
+  std::memcpy(&raw, buffer.data() + at, bytes);
+  keep_long();
+  if (raw.told() == Told::Nothing) return 0;
+  look_at();
+  return bytes;
+}
+
+void ThreadReader::look_at() {
   try {
-    bool is_short = bytes == sizeof(log_form::ShortRecord);
-    looked_at.look_at(raw.record, raw.processor, is_short ? 0 : raw.wide());
+    looked_at.look_at(raw.record, raw.processor, raw.wide());
   } catch (const DamagedLog &damage) {
     refuse(damage.what());
   }
   if (uint64_t path = raw.path(); path && !(paths && paths->has(path))) refuse("its call path is not listed");
 }
 
+// What it is like was looked at with the long record before, so only its time is new.
 void ThreadReader::read_short(log_form::ShortRecord record) {
+  if (by_processor) refuse("it is shorter than this clock's");
   ticks += record >> log_form::other_bits & (log_form::ticks_too_long - 1);
   unsigned what = record >> (log_form::other_bits + log_form::short_ticks) & ((1U << log_form::what_bits) - 1);
   bool goes_on = what < log_form::slots;
@@ -95,6 +104,7 @@ void ThreadReader::read_short(log_form::ShortRecord record) {
   if (!word) refuse("no record before it is like it");
   raw.record = {ticks, current, static_cast<uint32_t>(record), word};
   if (goes_on) current = raw.record.other;
+  if (!looked_at.takes(ticks)) look_at();
 }
 
 // What short records leave out.
@@ -110,10 +120,7 @@ void ThreadReader::keep_long() {
 // One record; none where the thread has written no more.
 bool ThreadReader::read() {
   for (;;) {
-    if (size_t bytes = read_here()) {
-      look_at(bytes);
-      return at += bytes;
-    }
+    if (size_t bytes = read_here()) return at += bytes;
     if (!fill()) return false;
   }
 }
@@ -186,7 +193,7 @@ bool ThreadReader::take() {
   }
 }
 
-const Record &ThreadReader::tell() {
+void ThreadReader::fill_record() {
   record.wall = time.wall(raw.record.at);
   record.at = log.last = by_processor ? raw.processor : record.wall;
   record.order = raw.record.at;
@@ -198,6 +205,17 @@ const Record &ThreadReader::tell() {
   record.code = record.path ? reinterpret_cast<uint64_t>(paths->creating(record.path)) : raw.code();
   record.kind = static_cast<uint8_t>(raw.told());
   record.detail = raw.detail();
+}
+
+const Record &ThreadReader::tell_plain() {
+  fill_record();
+  log.stood_still += in_a_record;
+  told++;
+  return record;
+}
+
+const Record &ThreadReader::tell() {
+  fill_record();
   if (raw.told() == Told::Passed) {
     record.passed = {(raw.detail() & log_form::slept) != 0, static_cast<int64_t>(raw.code()),
                      static_cast<int64_t>(raw.wide()), (raw.detail() & log_form::taken) != 0};
@@ -211,7 +229,9 @@ const Record &ThreadReader::tell() {
 }
 
 const Record *ThreadReader::next() {
-  while (read())
+  while (read()) {
+    if (is_plain(raw.told())) return &tell_plain();
     if (take()) return &tell();
+  }
   return nullptr;
 }

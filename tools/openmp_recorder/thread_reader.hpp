@@ -23,7 +23,8 @@ class ThreadReader : public Records {
     unsigned detail() const { return static_cast<unsigned>(record.word >> (log_form::code_bits + 8)); }
     uint64_t code() const { return record.word & log_form::code_mask; }
     uint64_t path() const {
-      return told() == Told::Create || told() == Told::LoopBegin ? log_form::path_of(code()) : 0;
+      uint64_t number = log_form::path_of(code());
+      return number && (told() == Told::Create || told() == Told::LoopBegin) ? number : 0;
     }
     const void *place() const { return reinterpret_cast<const void *>(code()); }
     uint64_t wide() const { return record.task | uint64_t{record.other} << 32; }
@@ -57,9 +58,10 @@ class ThreadReader : public Records {
   bool fill();
   bool read();
   size_t read_here();
-  void look_at(size_t bytes);
+  void look_at();
   [[noreturn]] void refuse(const std::string &why) const;
   void read_short(log_form::ShortRecord record);
+  size_t read_long();
   void keep_long();
   void read_items(uint64_t count);
   int64_t cost_clock() const { return by_processor ? raw.processor : time.wall(raw.record.at); }
@@ -68,5 +70,7 @@ class ThreadReader : public Records {
   void begin_region();
   void end_region();
   void use_lock();
+  void fill_record();
   const Record &tell();
+  const Record &tell_plain();
 };
