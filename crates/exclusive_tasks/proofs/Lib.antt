@@ -1,3 +1,4 @@
 pub mod UnderWay
 pub mod Overlaps
 pub mod LogLines
+pub mod OneVerdict

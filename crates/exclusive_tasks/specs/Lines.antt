@@ -1,7 +1,7 @@
 -- What the lines of a log say: claims `exclusive PARENT LOCATION FIRST LAST`, and events `start THREAD
 -- SEGMENT` and `finish THREAD SEGMENT`.
-use Rattle.std.specs.Prelude.{ℕ, ◌<◌, ◌≡◌, ◌≢◌, List, [], ◌∷◌, length, flat_map, Option, Some, None}
-use Rattle.std.specs.Prelude.{if◌then◌else◌, codes, slice_index_or}
+use Rattle.std.specs.Prelude.{ℕ, ◌-◌, ◌^◌, ◌<◌, ◌≡◌, ◌≢◌, List, [], ◌∷◌, length, flat_map, Option}
+use Rattle.std.specs.Prelude.{Some, None, if◌then◌else◌, codes, slice_index_or}
 use Rattle.std.specs.Str.{bytes_eq}
 use Rattle.program_text.specs.PlainWords.{words_of, number_in_word}
 use Rattle.exclusive_tasks.specs.declared.claim.Claim.{Claim}
@@ -9,12 +9,12 @@ use Rattle.exclusive_tasks.specs.declared.claim.Event.{Event}
 use Rattle.exclusive_tasks.specs.declared.claim.Event.TheVariants.{Start, Finish}
 use Rattle.exclusive_tasks.specs.declared.line.Said.{Said}
 use Rattle.exclusive_tasks.specs.declared.line.Said.TheVariants as said
-use Rattle.exclusive_tasks.specs.declared.line.TheConstants.{LARGEST_NUMBER}
 use Rattle.exclusive_tasks.specs.declared.log.Reading.{Reading}
 use Rattle.exclusive_tasks.specs.declared.log.Reading.TheVariants.{Log, BadForm}
 
+-- the number of a thread, a segment, a task or a location
 abbrev pub number_said : List ℕ → Option ℕ
-number_said word = number_in_word LARGEST_NUMBER word
+number_said word = number_in_word (2 ^ 32 - 1) word
 
 abbrev pub event_of : List ℕ → Option ℕ → Option ℕ → Option Said
 event_of verb (Some thread) (Some segment) =
