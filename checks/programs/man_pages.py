@@ -2,7 +2,7 @@
 """Compares the man pages of tools/man with what they tell of, and has groff read them.
 
 spanprof.1 has every command, error line, kind of fault and exit status of docs/FORMATS.md, and no other; the pages of
-the tools have every option that --help lists, and no other. spanprof.3 has the functions of include/spanprof.h, and
+the tools have every option and exit status that --help lists, and no other. spanprof.3 has the functions of include/spanprof.h, and
 no name that the header has not.
 """
 import os
@@ -17,6 +17,7 @@ HELP = {"spanprof-record": [[]], "spanprof-convert": [[]], "spanprof-report": [[
         "spanprof-predict": [[]], "spanprof-whatif": [[]],
         "spanprof-conformance": [[]] + [[word] for word in CONFORMANCE]}
 NAME = re.compile(r"\b(?:[A-Z][a-z]+){2,}\b|\bUnclosed\b|\bUnopened\b|\bBroken\b")
+STATUS = re.compile(r"(?<![\w(])\d+(?![\w)])")    # and no section of a page, as in spanprof(1)
 ERROR = re.compile(r"error: ([A-Za-z]+(?: [a-z]+)*)")
 
 
@@ -56,9 +57,23 @@ def told_in_page(page):
             "exit statuses": set(re.findall(r"(?m)^ {7}(\d)\b", parts["EXIT STATUS"]))}
 
 
+def help_of(name, words=()):
+    done = subprocess.run([os.path.join(TOOLS, name), *words, "--help"], capture_output=True, text=True, check=True)
+    return done.stdout
+
+
 def options_of_help(name, words):
-    done = subprocess.run([os.path.join(TOOLS, name)] + words + ["--help"], capture_output=True, text=True, check=True)
-    return set(re.findall(r"(?m)(?<![\w-])--[a-z-]+", done.stdout.split("options:")[1]))
+    return set(re.findall(r"(?m)(?<![\w-])--[a-z-]+", help_of(name, words).split("options:")[1]))
+
+
+def statuses_of_help(told):
+    """Those beside 0 that it names in a sentence on the exit status."""
+    sentence = re.search(r"xit status ([^.]*)\.", " ".join(told.split()))
+    return set(STATUS.findall(sentence[1])) - {"0"} if sentence else set()
+
+
+def statuses_of_page(page):
+    return set(STATUS.findall(page.split("\nEXIT STATUS\n")[1].split("\nENVIRONMENT\n")[0])) - {"0"}
 
 
 def options_of_page(page):
@@ -96,6 +111,7 @@ def faults():
         else:
             told = set().union(*(options_of_help(name, words) for words in HELP[name]))
             yield from differences(name + ".1", options_of_page(page), told)
+            yield from differences(name + ".1, exit statuses", statuses_of_page(page), statuses_of_help(help_of(name)))
 
 
 def main():

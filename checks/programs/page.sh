@@ -1,9 +1,9 @@
 #!/usr/bin/env bash
 # Tries tools/spanprof-report: its unit tests; then for each example, each recorded text, a text at the limits and,
-# where clang and LLVM's OpenMP runtime are there, each program of docs/TUNING.md recorded anew and programs that are
-# slow for a known cause: the page is made, each of its numbers is compared with spanprof's answers, its first words with
-# that cause, and it is opened in Chromium: errors, sizes, looks in light, dark, narrow, wide and print, keys, mouse and
-# fingers. One program is measured on several numbers of threads, and times are predicted by the machine of
+# where clang and LLVM's OpenMP runtime are there, each program of docs/TUNING.md recorded anew, programs that are slow
+# for a known cause, and one with call paths and as a whole: the page is made, each of its numbers is compared with
+# spanprof's answers, its first words with that cause, and it is opened in Chromium: errors, sizes, looks in light, dark,
+# narrow, wide and print, keys, mouse and fingers. One program is measured on several numbers of threads, and times are predicted by the machine of
 # checks/programs/predictions. Then the page of a million tasks, where spanprof_large is there. Build spanprof first.
 #
 #     checks/programs/page.sh [PROGRAM [FOLDER]]    instead of crates/spanprof/out/spanprof; where pages and pictures go
@@ -89,6 +89,21 @@ several_regions() { # a program of 121 regions at three places, with its page, a
     visit "$folder/several" regions
 }
 
+callers_and_whole() { # a program whose tasks have several callers: the page of its region, and that of all of it
+    mkdir -p "$folder/callers"
+    "clang-$llvm" -O1 -g -fopenmp checks/programs/page/callers.c -o "$folder/callers/callers" "${llvm_flags[@]}"
+    (cd "$folder/callers" && "$OLDPWD/tools/spanprof-record" --call-paths --unit us --threads 4 -- ./callers) \
+        > "$folder/said" 2>&1 || fail "callers cannot be recorded: $(tail -1 "$folder/said")"
+    for name in callers callers.whole; do
+        tools/spanprof-report "$folder/callers/$name.tasks" --source checks/programs/page || fail "$name has no page"
+        (cd tools && python3 -m spanprof.report.tests.compare "$folder/callers/$name.html" \
+            "$folder/callers/$name.tasks") > "$folder/compared" || { fail "$name:"; head -20 "$folder/compared"; }
+        echo "$name: $(tail -1 "$folder/compared")"
+    done
+    checks/programs/page/worded.py "$folder/callers" || fail "words of the pages on callers and on a whole program"
+    visit "$folder/callers" callers callers.whole
+}
+
 visit() { # FOLDER NAME ..
     local status=0
     checks/programs/page/visit.py "$program" "$@" || status=$?
@@ -126,6 +141,7 @@ elif find_llvm; then
     record_causes
     record_scale
     several_regions
+    callers_and_whole
 else
     echo "skipped: no program is recorded: $no_llvm"
 fi

@@ -4,7 +4,8 @@ import sys
 import unittest
 
 sys.path.insert(0, str(pathlib.Path(__file__).resolve().parent))
-from man_pages import NAME, differences, options_of_page, section, told_in_page
+from man_pages import (NAME, differences, options_of_page, section, statuses_of_help, statuses_of_page,
+                       told_in_page)
 
 PAGE = """\
 COMMANDS
@@ -33,6 +34,14 @@ class Pages(unittest.TestCase):
     def test_options(self):
         page = "\nOPTIONS\n   -o X, --output X\n   --no-directed\n\nEXIT STATUS\n   --none\n"
         self.assertEqual(options_of_page(page), {"--output", "--no-directed"})
+
+    def test_exit_statuses(self):
+        told = "usage: a\n\nThe exit status is\nthe program's; 125 where nothing was, 126\nwhere none can. Up to 64 threads."
+        self.assertEqual(statuses_of_help(told), {"125", "126"})
+        self.assertEqual(statuses_of_help("Exit status 1: a file is missing; 2: wrong words."), {"1", "2"})
+        self.assertEqual(statuses_of_help("options: 3"), set())
+        page = "\nEXIT STATUS\n  0 if all is there; 1 if spanprof(1) refuses a text.\n\nENVIRONMENT\n  7\n"
+        self.assertEqual(statuses_of_page(page), {"1"})
 
     def test_both_directions(self):
         self.assertEqual(list(differences("a.1", {"x", "z"}, {"x", "y"})),

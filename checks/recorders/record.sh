@@ -191,7 +191,7 @@ expect "the times of a fold" 0 spanprof-convert --times --fold depth=1 --out tim
 expect_word "the times of a fold" '; no times, since tasks are folded: '
 [ ! -e timed.timed ] || fail "a fold has times"
 expect "no log" 125 spanprof-convert none.log
-expect_word "no log" 'spanprof-convert: none.log cannot be converted: No such file or directory'
+expect_word "no log" 'spanprof-convert: none.log: no such folder; a log is the folder NAME.log that spanprof-record leaves'
 echo "a log once more"
 
 "clang-$llvm" -g -O1 -fopenmp "$top/checks/agree/large_recordings/program.c" -o many "${llvm_flags[@]}"

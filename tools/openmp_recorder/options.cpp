@@ -11,13 +11,17 @@ void wrong(const char *name, const char *value, const char *allowed) {
   say(std::string(name) + "=" + value + " is not understood (" + allowed + "); it is left out");
 }
 
-void number(const char *name, uint64_t &into) {
-  const char *value = getenv(name);
-  if (!value) return;
+bool read_number(const char *value, uint64_t &into) {
   char *end;
   uint64_t n = strtoull(value, &end, 10);
-  if (*value < '0' || *value > '9' || *end || n > largest) wrong(name, value, "a whole number up to 10^15");
-  else into = n;
+  if (*value < '0' || *value > '9' || *end || n > largest) return false;
+  into = n;
+  return true;
+}
+
+void number(const char *name, uint64_t &into) {
+  const char *value = getenv(name);
+  if (value && !read_number(value, into)) wrong(name, value, "a whole number up to 10^15");
 }
 
 void unit(Options &chosen) {
@@ -25,8 +29,8 @@ void unit(Options &chosen) {
   if (!value) return;
   std::string name = value;
   uint64_t n = name == "ns" ? 1 : name == "us" ? 1000 : name == "ms" ? 1000000 : 0;
-  if (!n) number("SPANPROF_UNIT", n);
-  if (!n || n > 1000000000) return wrong("SPANPROF_UNIT", value, "ns, us, ms, or nanoseconds up to 1000000000");
+  if ((!n && !read_number(value, n)) || !n || n > 1000000000)
+    return wrong("SPANPROF_UNIT", value, "ns, us, ms, or nanoseconds up to 1000000000");
   chosen.unit = static_cast<int64_t>(n);
   chosen.unit_name = name == "ns" || name == "us" || name == "ms" ? name : name + " ns";
 }

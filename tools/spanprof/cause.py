@@ -4,10 +4,13 @@ By the account of the run where there is one. Else, since the processor's clock 
 the greedy run of the text: what the greedy run leaves idle has no segment ready, and what is longer than the greedy run
 was kept by the runtime or the machine.
 """
+import os
 from dataclasses import dataclass
 from typing import Tuple
 
 from spanprof.claims import lock_binds, pieces_in, time_of_program
+from spanprof.regions import whole_beside
+from spanprof.text import code_at
 
 MUCH = 0.25             # of the threads' time, from which on it is a cause
 SOME = 0.1              # of the greedy run's, from which on another shape may help
@@ -67,13 +70,14 @@ def percent(share):
     return "%.0f %%" % (100 * share)
 
 
-def outside_regions(head):
+def outside_regions(answers):
     """Of the program's time by the clock, that outside of all regions."""
-    whole = time_of_program(head)
-    share = head.division.get("outside regions", 0) / whole if whole else 0
+    whole, text = time_of_program(answers.head), whole_beside(getattr(answers, "path", ""))
+    share = answers.head.division.get("outside regions", 0) / whole if whole else 0
     return share >= MOST and Cause(
         "outside", "%s of the program's time passed outside of regions, where no team runs (measured)" %
-        percent(share), instead="none in this text: what runs outside of regions is not in it")
+        percent(share), instead="none in this text: what runs outside of regions is not in it%s" %
+        ("; %s has it" % os.path.basename(text) if text else ""))
 
 
 def lock(answers):
@@ -118,8 +122,7 @@ def nanoseconds_of_a_task(answers):
 def most_of_it(parts, words):
     """The place to which most of an idle time is laid, where it is known."""
     place, part = next(iter(parts.items()), ("", 0))
-    code = "the code " + place if place.startswith("after ") else place
-    return ", %s of it %s" % (percent(part / sum(parts.values())), words % code) if part else ""
+    return ", %s of it %s" % (percent(part / sum(parts.values())), words % code_at(place)) if part else ""
 
 
 def serial_places(answers):
@@ -177,5 +180,5 @@ def cause(answers, account=None):
     if not head.elapsed or not answers.work or (head.threads or 1) == 1:
         return None
     shares = shares_of_account(account) if account and account.whole else shares_by_greedy(answers)
-    return outside_regions(head) or lock(answers) or off_the_processor(answers, account) or \
+    return outside_regions(answers) or lock(answers) or off_the_processor(answers, account) or \
         of_idle_threads(answers, shares, account) or balanced(shares, account)

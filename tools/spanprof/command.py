@@ -21,6 +21,23 @@ def count(least, most):
     return read
 
 
+def leave(stream):
+    """Writes what is still to be written there. What it does not take goes nowhere: it would fail again at the end."""
+    try:
+        stream.flush()
+    except OSError:
+        os.dup2(os.open(os.devnull, os.O_WRONLY), stream.fileno())
+
+
+def show(lines, stream=None):
+    """On standard error, where no other is named. That it has no room changes no exit status."""
+    stream = stream or sys.stderr
+    try:
+        print(*lines, sep="\n", end="\n" if lines else "", file=stream, flush=True)
+    except OSError:
+        leave(stream)
+
+
 class Console:
     """What a command tells on standard error, in its name."""
 
@@ -28,7 +45,7 @@ class Console:
         self.name = name
 
     def say(self, words):
-        print("%s: %s" % (self.name, words), file=sys.stderr, flush=True)
+        show(["%s: %s" % (self.name, words)])
 
     def tell(self, words):
         """Progress, where somebody looks on."""
@@ -36,12 +53,19 @@ class Console:
             self.say(words)
 
 
+def refuse_folder(text):
+    """Of a log the fault says what takes it."""
+    if os.path.isfile(os.path.join(text, "head")):
+        raise Fault("%s: the log of a recorded run, and no text; spanprof-convert writes its texts" % text)
+    if os.path.isdir(text):
+        raise Fault("%s: a folder, and no text" % text)
+
+
 def check_files(text, output=None, what="changed text"):
     """Whether the text is there, and is not what would be written."""
     if not os.path.exists(text):
-        raise Fault("%s: no such file" % text)
-    if os.path.isdir(text):
-        raise Fault("%s: a folder, and no text" % text)
+        raise Fault("%s: no such file" % (text or "''"))
+    refuse_folder(text)
     if not os.path.isfile(text):
         raise Fault("%s: no file, and the text is read more than once; write it into one" % text)
     if output and os.path.exists(output) and os.path.samefile(text, output):
@@ -68,18 +92,36 @@ def words_of(wrong):
     return "%s: %s" % (name, wrong.strerror) if name else str(wrong)
 
 
-def end_with(console, answer, *words):
-    """Answers, and ends the process with status 1 and a word where that fails."""
-    end_at_a_closed_pipe()
+def open_closed_streams():
+    """One that is closed takes all words, so that they go into no file that is opened in its place."""
+    for name in ("stdout", "stderr"):
+        if getattr(sys, name) is None:
+            setattr(sys, name, open(os.devnull, "w", encoding="utf-8"))
+
+
+def answer_all(answer, words):
+    """Answers, and prints all of it: here a device without room is still told."""
     try:
         answer(*words)
-        if sys.stdout:
-            sys.stdout.flush()  # here a device without room is still told
+    except SystemExit:  # after --help, or wrong words
+        show([])
+        sys.stdout.flush()
+        raise
+    sys.stdout.flush()
+
+
+def end_with(console, answer, *words, status=1):
+    """Answers, and ends the process with this status and a word where that fails."""
+    end_at_a_closed_pipe()
+    open_closed_streams()
+    try:
+        answer_all(answer, words)
         return
     except Fault as fault:
         console.say(str(fault))
     except OSError as wrong:
+        leave(sys.stdout)
         console.say(words_of(wrong))
     except KeyboardInterrupt:
         sys.exit(INTERRUPTED)
-    sys.exit(1)
+    sys.exit(status)

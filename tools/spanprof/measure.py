@@ -56,6 +56,16 @@ def asked(program, text):
     return subprocess.run(program, input=text, capture_output=True, text=True, errors="replace", check=False).stdout
 
 
+def numbers_in(answer, program):
+    try:
+        found = named_numbers(answer)
+    except ValueError:
+        found = {}
+    if not {"segments", "work", "span"} <= found.keys():
+        raise Fault("%s does not answer as spanprof_large does" % " ".join(program))
+    return found
+
+
 def measure(program, path):
     """Tasks, segments, work and span of the text in a file."""
     with naming(path), open(path, "rb") as text:
@@ -64,4 +74,4 @@ def measure(program, path):
         answer = done.stdout.strip() or "it ended with status %d" % done.returncode
         more = in_file(path, answer, lambda shorter: asked(program, shorter), LIMITS)
         raise Fault("%s\nspanprof_large: %s" % (more, answer) if more else "spanprof_large: %s" % answer)
-    return named_numbers(done.stdout)
+    return numbers_in(done.stdout, program)

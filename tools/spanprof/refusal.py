@@ -114,6 +114,8 @@ def picture(line, number, token):
 def of_byte(line, place):
     """What is wrong with a character that begins no word."""
     sign, before = line[place], line[:place]
+    if DIVIDER.fullmatch(line):
+        return "the text ends before `---`, and what follows is of a replay or a certificate: give the text alone"
     if re.search("[\0\ufffd]", line.partition("#")[0]):
         return "this is no text: it has bytes that no text has"
     if sign == "\ufeff":

@@ -34,6 +34,10 @@ class Region(NamedTuple):
         return self.threads * self.elapsed
 
 
+def place_name(name):
+    return name if name.startswith(UNKNOWN) else "region at " + name
+
+
 def union(stretches):
     """How long all of them are, what several have counted once."""
     covered, length = 0, 0
@@ -127,6 +131,12 @@ def table_beside(text):
     if number:      # a process's own name may end with a number
         named.insert(0, ("%s.%s.regions" % (stem, number), 1))
     return next((pair for pair in named if os.path.exists(pair[0])), None)
+
+
+def whole_beside(text):
+    """Where the whole program's text lies, by the name of that of one of its regions; None where there is none."""
+    stem = (table_beside(text) or ("",))[0].removesuffix(".regions")
+    return next(filter(os.path.exists, (stem + ".whole.tasks", stem + ".whole.large.tasks")), None)
 
 
 def told_first(program):

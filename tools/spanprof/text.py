@@ -15,6 +15,7 @@ MOST_KNOWN = 100000     # lines whose marks are kept
 LONGEST_KNOWN = 1000    # bytes of such a line
 OF_A_THREAD = "one of the region's threads"     # as the recorder names a task that stands for a thread's own code
 BARRIER = "barrier of the region"   # a group of such tasks, in whose end their threads meet; in the program it is none
+BEGINNING = "the beginning"     # the code before all constructs
 CALLED_FROM = " called from "   # behind a task's place, where several paths of calls led to its creation
 TOKEN = re.compile(r"[A-Za-z0-9_]+|[^\sA-Za-z0-9_]")
 DEPEND = re.compile(r"depend\((\w+):([^)]*)\)")
@@ -40,8 +41,13 @@ class Segment:
             after = "after " + self.after if self.after_place or " " in self.after else "after a " + self.after
             return after + " at " + self.after_place if self.after_place else after
         if self.task == 0:
-            return "the beginning"
+            return BEGINNING
         return named("task", self.task_place)
+
+
+def code_at(place):
+    """A place's name as a noun."""
+    return "the code " + place if place.startswith("after ") else place
 
 
 def lines_of(text):

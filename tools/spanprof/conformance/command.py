@@ -5,34 +5,43 @@
 
 tools/conformance/README.md has all commands and what they mean.
 """
-import os
 import sys
 import tempfile
 
-from spanprof.command import words_of
-from spanprof.conformance.commands import COMMANDS
+from spanprof.command import leave, open_closed_streams, words_of
+from spanprof.conformance.commands import COMMANDS, CONSOLE
 from spanprof.conformance.options import parse
 from spanprof.errors import Fault
 
 
-def leave_the_rest():
-    """What is still to be printed goes nowhere: `| head` has what it wants."""
-    os.dup2(os.open(os.devnull, os.O_WRONLY), sys.stdout.fileno())
+def parsed():
+    """The options; what --help prints is out."""
+    try:
+        return parse(COMMANDS)
+    finally:
+        sys.stdout.flush()
+
+
+def tried():
+    """The status of a command, of which all is printed."""
+    options = parsed()
+    with tempfile.TemporaryDirectory(prefix="conformance-") as folder:
+        status = options.call(options, folder)
+        sys.stdout.flush()
+        return status
 
 
 def main():
-    options = parse(COMMANDS)
-    with tempfile.TemporaryDirectory(prefix="conformance-") as folder:
-        try:
-            status = options.call(options, folder)
-            sys.stdout.flush()
-            return status
-        except BrokenPipeError:
-            leave_the_rest()
-            return 2
-        except (Fault, OSError) as reason:
-            words = words_of(reason) if isinstance(reason, OSError) else reason
-            print(f"spanprof-conformance: {words}", file=sys.stderr)
-            return 2
-        except KeyboardInterrupt:
-            return 130
+    open_closed_streams()
+    try:
+        return tried()
+    except BrokenPipeError:
+        leave(sys.stdout)   # `| head` has what it wants
+    except Fault as fault:
+        CONSOLE.say(str(fault))
+    except OSError as wrong:
+        leave(sys.stdout)
+        CONSOLE.say(words_of(wrong))
+    except KeyboardInterrupt:
+        return 130
+    return 2

@@ -3,8 +3,8 @@ import argparse
 import contextlib
 import json
 import pathlib
-import sys
 
+from spanprof.command import Console, words_of
 from spanprof.conformance import delays, gcov, store, tables
 from spanprof.conformance.bisect import UNTESTABLE, sample
 from spanprof.conformance.built import built_in
@@ -34,6 +34,8 @@ from spanprof.conformance.took import taken
 from spanprof.conformance.toolchain import BuildFailed
 from spanprof.conformance.variants import in_variant
 from spanprof.errors import Fault
+
+CONSOLE = Console("spanprof-conformance")
 
 
 def command_run(options, folder):
@@ -182,7 +184,7 @@ def command_bisect(options, folder):
         conditions = plan_of(options, bench).conditions(case)[0]
         found = sample(lambda at: built_tally(bench, case, at), conditions, options.runs, options.fails)
     except (Fault, OSError) as reason:  # any other status than 0 and 125 would tell git that the version is bad
-        print(reason, file=sys.stderr)
+        CONSOLE.say(words_of(reason) if isinstance(reason, OSError) else str(reason))
         return UNTESTABLE
     print(found.told(options.fails))
     return found.status(options.fails)
@@ -210,7 +212,7 @@ def command_judge(options, _folder):
     judge = judge_of(options)
     body = program_in(options.file, judge)
     text, table = text_of(body), Table(body)
-    logs = read_logs(pathlib.Path(options.log).read_text())
+    logs = read_logs(pathlib.Path(options.log).read_text(errors="replace"))
     if not logs:
         raise Missing(f"no line `run NUMBER` in {options.log}")
     record, wrong = judge.record(text), 0

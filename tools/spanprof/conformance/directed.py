@@ -7,9 +7,13 @@ from spanprof.conformance.reader import read_program
 FOLDER = DATA / "directed"
 
 
+def directed_files():
+    return sorted(FOLDER.glob("*.tasks"))
+
+
 def directed_programs():
     """Pairs of a name and a program, by name."""
-    return [(path.stem, read_program(path.read_text())) for path in sorted(FOLDER.glob("*.tasks"))]
+    return [(path.stem, read_program(path.read_text())) for path in directed_files()]
 
 
 def first_comment(name):

@@ -68,7 +68,7 @@ class Judge:
         """The record of a program, from a run on one worker."""
         status, answer = self.ask(["run", "--workers", "1"], text)
         if status:
-            raise Refused(answer.strip())
+            raise Refused(answer.strip() or f"{self.spanprof} ended with status {status}")
         lines = answer.split("\n")
         preds = [[int(n) for n in line.split()[2:]] for line in lines[3:] if line]
         return Record(preds, lines[2].split()[1], "\n".join(lines[3:]))

@@ -2,6 +2,7 @@
 import os
 import pathlib
 
+from spanprof.command import check_files
 from spanprof.conformance.cases import Bench, Plan
 from spanprof.conformance.exclusion import found_search
 from spanprof.conformance.expected import USUAL, Expectations, read_expected
@@ -55,9 +56,8 @@ def mutate(bench, name):
 
 def program_in(path, judge):
     """The program in a file, which spanprof has to accept."""
-    if not os.path.isfile(path):
-        raise Missing(f"{path}: no such file")
-    text = pathlib.Path(path).read_text()
+    check_files(path)
+    text = pathlib.Path(path).read_text(errors="replace")
     try:
         judge.record(text)
     except Refused as refused:

@@ -1,15 +1,21 @@
 """The words of the command line."""
 import argparse
+import fnmatch
 import math
 import os
 
 from spanprof.conformance.campaign import DIRECTED_UNIT
+from spanprof.conformance.directed import directed_files
 from spanprof.conformance.generate import CONSTRUCTS
 from spanprof.conformance.settings import SETTINGS
 from spanprof.conformance.shards import Shard, read_shard
 from spanprof.conformance.variants import VARIANTS
 from spanprof.version import Version
 
+AFTER = """Exit status 0: every run was accepted, or of mutants all were caught; 1: not so; 2: nothing could be tried, or
+wrong words; 125: bisect could not try the program."""
+OWN_STATUS = {"bisect": "Exit status 0: it fails less often; 1: it fails often enough; 125: it cannot be tried; "
+                        "2: wrong words."}
 MOST_THREADS = 64
 REPORT = "files for the report, with commas: .md, .json, .xml (JUnit), .tap"
 RANDOM_PROGRAMS = 100
@@ -27,6 +33,29 @@ def positive(word):
 def natural(word):
     """A whole number from 0."""
     return 0 if int(word) == 0 else positive(word)
+
+
+def hours(word):
+    """How long a campaign goes on."""
+    number = float(word)
+    if not 0 <= number < math.inf:
+        raise argparse.ArgumentTypeError(f"{word} is no number of hours")
+    return number
+
+
+def pattern(word):
+    """Of the shell's, which a directed program's name fits."""
+    if not any(fnmatch.fnmatchcase(path.stem, word) for path in directed_files()):
+        raise argparse.ArgumentTypeError(f"no directed program's name fits {word}; spanprof-conformance list has them")
+    return word
+
+
+def report_files(words):
+    """Names of files with commas, in folders that are there: a report is written when all is done."""
+    for folder in map(os.path.dirname, words.split(",")):
+        if not os.path.isdir(folder or "."):
+            raise argparse.ArgumentTypeError(f"there is no folder {folder}")
+    return words
 
 
 def thread_counts(words):
@@ -48,13 +77,21 @@ def some_of(known):
     return read
 
 
+USAGES = {name: f"spanprof-conformance {name} [options]{more}" for name, more in (
+    ("run", " --cc CC"), ("mutants", " --cc CC"), ("shrink", " --cc CC MINE.tasks"), ("merge", " FILE .."),
+    ("bisect", " --cc CC MINE.tasks"), ("delays", " --cc CC,.."), ("emit", " MINE.tasks"),
+    ("judge", " MINE.tasks LOG"), ("list", ""))}
+
+
 def parse(calls, words=None):
     """The options of the process. `calls` are the commands by name; the one that is chosen is `call`."""
-    parser = argparse.ArgumentParser(description="Tests a runtime for OpenMP tasks.")
+    parser = argparse.ArgumentParser(prog="spanprof-conformance", description="Tests a runtime for OpenMP tasks.",
+                                     usage="%(prog)s COMMAND [options]", epilog=AFTER, allow_abbrev=False)
     parser.add_argument("--version", action=Version)
     commands = parser.add_subparsers(dest="command", required=True)
     for name, call in calls.items():
-        of_name = commands.add_parser(name, help=call.__doc__)
+        of_name = commands.add_parser(name, help=call.__doc__, usage=USAGES[name], epilog=OWN_STATUS.get(name, AFTER),
+                                      allow_abbrev=False)
         of_name.set_defaults(call=call)
         add_options(name, of_name)
     options = parser.parse_args(words)
@@ -71,7 +108,7 @@ def add_options(name, parser):
         add("file", help="a program text")
     if name == "merge":
         add("files", nargs="+", help="the --state files of all parts")
-        add("--report", default="", help=REPORT)
+        add("--report", type=report_files, default="", help=REPORT)
     if name == "judge":
         add("log", help="what a run of it wrote")
     if name in ("run", "mutants"):
@@ -100,9 +137,9 @@ def add_bench_options(name, parser):
     add("--timeout", type=positive, default=10, help="seconds until a run counts as hung (10)")
     add("--jobs", type=positive, default=max(1, (os.cpu_count() or 1) // 2),
         help="programs that are tried side by side (half as many as processors)")
-    add("--match", default="*", metavar="PATTERN", help="only the directed programs whose names fit it (*)")
+    add("--match", type=pattern, default="*", metavar="PATTERN", help="only the directed programs whose names fit it (*)")
     add("--keep", default="", metavar="FOLDER", help="keep the built programs there, and take those that are there")
-    add("--report", default="", help=REPORT)
+    add("--report", type=report_files, default="", help=REPORT)
     if name in ("shrink", "bisect"):
         add("--unit", type=natural, default=DIRECTED_UNIT, help="what a cost of 1 lasts, in nanoseconds")
     if name == "mutants":
@@ -140,7 +177,7 @@ def add_failure_options(name, parser):
     if name == "run":
         add("--programs", type=natural, default=None,
             help=f"how many random programs ({RANDOM_PROGRAMS}); with --hours: of a batch ({OF_BATCH})")
-        add("--hours", type=float, default=0, help="go on with batch after batch until so many hours are full")
+        add("--hours", type=hours, default=0, help="go on with batch after batch until so many hours are full")
         add("--state", default="campaign.jsonl",
             help="the file from which a campaign of hours goes on, and to which a part goes (campaign.jsonl)")
         add("--shard", type=read_shard, default=Shard(), metavar="I/N",

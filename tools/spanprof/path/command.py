@@ -14,7 +14,8 @@ CONSOLE = Console("spanprof-path")
 DESCRIPTION = """Adds up, by place in the source, all costs of a program text of version 1 and of any size, and those on
 the critical path that spanprof_large slack shows."""
 AFTER = """spanprof_large keeps the table and the graph of the whole text for it. Exit status 1: the text is refused,
-there is no memory for its table, or the places do not add up to its work and span."""
+there is no memory for its table, or the places do not add up to its work and span; 2: wrong
+words."""
 VERDICT = "proved of this text: its work, span and this critical path (spanprof_large slack); " \
     "of the sums by place nothing"
 
@@ -52,4 +53,4 @@ def answer(options):
 
 
 def main(words):
-    end_with(CONSOLE, answer, parse(words))
+    end_with(CONSOLE, lambda: answer(parse(words)))

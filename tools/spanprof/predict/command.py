@@ -61,4 +61,4 @@ def answer(chosen):
 
 
 def main(words):
-    end_with(Console("spanprof-predict"), answer, parse(words))
+    end_with(Console("spanprof-predict"), lambda: answer(parse(words)))

@@ -93,7 +93,7 @@ def texts(path):
     except OSError as wrong:
         raise Fault("%s: %s" % (path, wrong.strerror)) from wrong
     except ValueError as wrong:
-        raise Fault("%s is no file of spanprof-record --scale: %s" % (path, wrong)) from wrong
+        raise Fault("%s is no file of spanprof-record --scale, as it is no JSON" % path) from wrong
     if not found.paths:
         raise Fault("%s names no recording that is there" % path)
     return found

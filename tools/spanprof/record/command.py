@@ -6,12 +6,12 @@ import subprocess
 import sys
 import webbrowser
 
-from spanprof.command import end_at_a_closed_pipe
+from spanprof.command import end_with, show
 from spanprof.errors import OWN_FAULT, Fault
 from spanprof.folders import PREFIX, TOOLS
 from spanprof.measure import HOW
 from spanprof.record.calibrate import calibrate
-from spanprof.record.console import say, show, tell
+from spanprof.record.console import CONSOLE, say, tell
 from spanprof.record.online import online_summary
 from spanprof.record.options import parse
 from spanprof.record.run import end_as, signal_name
@@ -126,7 +126,9 @@ def calibrate_and_tell(options):
         return -signal.SIGINT
 
 
-def main(words):
-    end_at_a_closed_pipe()
-    options = parse(words)
+def answer(options):
     end_as(calibrate_and_tell(options) if options.calibrate else record_and_report(options))
+
+
+def main(words):
+    end_with(CONSOLE, lambda: answer(parse(words)), status=OWN_FAULT)

@@ -1,21 +1,27 @@
 """spanprof-convert: the log of a recorded run as texts, as often and in whichever way is asked for."""
 import os
 
-from spanprof.command import Console, count, end_at_a_closed_pipe
+from spanprof.command import Console, count, end_with
 from spanprof.errors import OWN_FAULT, Fault
 from spanprof.record.convert import convert, converter
-from spanprof.record.options import FOLD_WORDS, Parser, fold, unit
+from spanprof.record.files import check_folder
+from spanprof.record.options import FOLD_WORDS, Parser, check_name, fold, unit
 from spanprof.record.session import RECORDERS
 from spanprof.record.told import in_words
+from spanprof.text import HEADER
 from spanprof.version import Version
 
-say = Console("spanprof-convert").say
+CONSOLE = Console("spanprof-convert")
 DESCRIPTION = """Writes the texts of a log that the recorder has left: NAME.tasks, NAME.replay and so on, in place
 of those that are there. The log stays, and can be converted again in another way."""
+AFTER = "Exit status 125: wrong words, a log cannot be converted, or a text cannot be written."
+OF_A_TEXT = ("unit", "whole", "fold", "regions", "parts", "times")
+MOST_LINES, LONGEST = 1000, 1000    # of the comments before a text's first word
+WANTED = "; a log is the folder NAME.log that spanprof-record leaves"
 
 
 def parser():
-    out = Parser(prog="spanprof-convert", description=DESCRIPTION, allow_abbrev=False,
+    out = Parser(prog="spanprof-convert", description=DESCRIPTION, epilog=AFTER, allow_abbrev=False,
                  usage="spanprof-convert [options] NAME.log ..")
     add = out.add_argument
     add("--out", metavar="NAME", help="the first name of the files, of one log; without it the log's")
@@ -46,19 +52,52 @@ def variables(base, chosen):
     return dict(base, **{name: str(value) for name, value in asked.items() if value is not None})
 
 
-def main(words):
-    end_at_a_closed_pipe()
+def parse(words):
     reader = parser()
     chosen = reader.parse_args(words)
-    if chosen.out and len(chosen.logs) > 1:
+    if chosen.out is not None and len(chosen.logs) > 1:
         reader.error("--out takes one log")
-    try:
-        program = converter(RECORDERS, say)
-        told = [one for log in chosen.logs
-                for one in convert(program, log, variables(os.environ, chosen), chosen.out)]
-    except Fault as fault:
-        say(str(fault))
-        raise SystemExit(OWN_FAULT) from fault
-    for one in told:
-        say(in_words(one))
-    raise SystemExit(OWN_FAULT if any(one["told"] == "fault" for one in told) else 0)
+    if chosen.out is not None:
+        check_name(reader, chosen.out)
+    kept = [name for name in OF_A_TEXT if getattr(chosen, name)] if chosen.online else []
+    if kept:
+        reader.error("--online writes no text, which --%s is for" % kept[0])
+    return chosen
+
+
+def is_text(path):
+    """Whether the first word of a file behind its comments is that of a text."""
+    if not os.path.isfile(path):
+        return False
+    with open(path, "rb") as file:
+        lines = [file.readline(LONGEST).split() for _ in range(MOST_LINES)]
+    first = next((words[0] for words in lines if words and not words[0].startswith(b"#")), b"")
+    return first == HEADER.encode()
+
+
+def check_log(log):
+    """Ends with a fault where this is no folder with a log, and says what it is."""
+    if not os.path.exists(log):
+        raise Fault("%s: no such folder%s" % (log or "''", WANTED))
+    if is_text(log):
+        raise Fault("%s: a text already, and no log: spanprof-report makes its page, spanprof-whatif changes it" % log)
+    if not os.path.isdir(log):
+        raise Fault("%s: no folder%s" % (log, WANTED))
+    if not os.path.exists(os.path.join(log, "head")) and os.access(log, os.X_OK):
+        raise Fault("%s: a folder without a log in it%s" % (log, WANTED))
+
+
+def answer(chosen):
+    for log in chosen.logs:
+        check_log(log)
+        check_folder(log.rstrip(os.sep) if chosen.out is None else chosen.out)
+    program, failed = converter(RECORDERS, CONSOLE.say), False
+    for log in chosen.logs:
+        for one in convert(program, log, variables(os.environ, chosen), chosen.out):
+            CONSOLE.say(in_words(one))
+            failed |= one["told"] in ("fault", "unwritten")
+    raise SystemExit(OWN_FAULT if failed else 0)
+
+
+def main(words):
+    end_with(CONSOLE, lambda: answer(parse(words)), status=OWN_FAULT)

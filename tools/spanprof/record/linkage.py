@@ -9,6 +9,7 @@ from spanprof.errors import Fault
 
 GCC, LLVM = "gcc's runtime (libgomp)", "LLVM's runtime (libomp)"
 NAMES = {"libgomp.so": GCC, "libomp.so": LLVM, "libomp-": LLVM, "libiomp5.so": LLVM}
+ELF = b"\x7fELF"   # the first bytes of a program, or of a library
 ENTRIES = {"GOMP_parallel": GCC, "GOMP_task": GCC, "__kmpc_fork_call": LLVM}
 
 
@@ -73,7 +74,7 @@ def first_bytes(path):
 
 def linkage(path):
     """What the file of a program is linked with."""
-    if first_bytes(path) != b"\x7fELF":
+    if first_bytes(path) != ELF:
         return Linkage(is_script=True)
     libraries = listed(["ldd", path])
     defined, undefined = symbols(listed(["readelf", "-W", "--symbols", path]))

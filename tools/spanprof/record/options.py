@@ -105,6 +105,11 @@ def named_after(command):
         return command[0]  # the session says what is wrong with it
 
 
+def check_name(reader, out):
+    if not os.path.basename(out):
+        reader.error("--out %s: the first name of files, and no folder" % (out or "''"))
+
+
 def parse(words):
     reader = parser()
     chosen = reader.parse_args(words)
@@ -118,8 +123,7 @@ def parse(words):
         return chosen
     if chosen.out is None:
         chosen.out = os.path.basename(named_after(chosen.command))
-    if not os.path.basename(chosen.out):
-        reader.error("--out %s: the first name of files, and no folder" % chosen.out)
+    check_name(reader, chosen.out)
     if chosen.whole and chosen.no_whole:
         reader.error("--whole and --no-whole exclude each other")
     if chosen.scale and chosen.threads:

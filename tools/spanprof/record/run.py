@@ -87,6 +87,8 @@ def run(path, words, variables):
     with PassedOn() as passed_on:
         try:
             process = subprocess.Popen(words, executable=path, env=variables, close_fds=False)
+        except FileNotFoundError as wrong:
+            raise Fault("%s: the interpreter or loader that it names is not there" % path, NOT_EXECUTABLE) from wrong
         except OSError as wrong:
             raise Fault("%s: %s" % (path, wrong.strerror), NOT_EXECUTABLE) from wrong
         passed_on.to(process)

@@ -4,7 +4,7 @@ import os
 import re
 
 from spanprof.errors import Fault
-from spanprof.record.linkage import GCC, LLVM, listed, symbols
+from spanprof.record.linkage import ELF, GCC, LLVM, first_bytes, listed, symbols
 
 WHERE = ("/usr/lib/llvm-*/lib/libomp.so.5", "/usr/lib/*-linux-gnu/libomp.so.5", "/usr/lib64/libomp.so",
          "/usr/local/lib/libomp.so")
@@ -46,11 +46,18 @@ def refuse_targets(lacking):
                     "runs it all the same)" % (found[0], llvm_runtime()))
 
 
+def check_library(path):
+    """The system would pass over another file, and the program run on its own runtime."""
+    if not os.path.isfile(path):
+        raise Fault("--runtime %s: no such file" % path)
+    if first_bytes(path) != ELF:
+        raise Fault("--runtime %s: no shared library" % path)
+
+
 def to_preload(path, linkage, wanted=None):
     """The library to load before the program's own; empty where it is linked with LLVM's runtime already."""
     if wanted:
-        if not os.path.isfile(wanted):
-            raise Fault("--runtime %s: no such file" % wanted)
+        check_library(wanted)
         return os.path.abspath(wanted)
     refuse(path, linkage)
     if GCC in linkage.libraries or linkage.libraries.get(LLVM) == "":

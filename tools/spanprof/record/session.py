@@ -7,7 +7,8 @@ from spanprof.folders import builds_in
 from spanprof.measure import spanprof_large
 from spanprof.record.console import say, tell
 from spanprof.record.convert import convert_all, converter
-from spanprof.record.files import check_folder, large_recordings, recordings, remove_old, whole_name
+from spanprof.record.files import (check_file, check_folder, large_recordings, recordings, remove_old,
+                                   whole_name)
 from spanprof.record.linkage import linkage
 from spanprof.record.online import online_files
 from spanprof.record.ranks import is_launcher, names_of_ranks, of_rank, rank_of
@@ -60,6 +61,8 @@ class Session:
         self.rank = None if launches else rank_of(os.environ)
         self.out = of_rank(os.path.abspath(options.out), self.rank)
         check_folder(options.out)
+        check_file(options.html, "--html")
+        check_file(options.json, "--json")
         check_spanprof()
         if options.scale and (launches or self.rank is not None):
             raise Fault("--scale takes no processes of MPI")

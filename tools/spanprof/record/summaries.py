@@ -5,10 +5,11 @@ import os
 from spanprof.account import account_beside
 from spanprof.account_words import lines_of
 from spanprof.answers import Answers
+from spanprof.command import show
 from spanprof.measure import HOW, spanprof_large
 from spanprof.predict.predictions import told_of
 from spanprof.predict.scaled import Chosen, chosen
-from spanprof.record.console import show, tell
+from spanprof.record.console import tell
 from spanprof.record.files import name_of, stem_of, whole_recording
 from spanprof.record.large import answers, head_of, large_summary, unmeasured_summary
 from spanprof.record.ranks import are_ranks

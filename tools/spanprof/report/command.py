@@ -4,7 +4,7 @@ import json
 import os
 import sys
 
-from spanprof.command import Console, check_files, end_with, naming
+from spanprof.command import Console, check_files, count, end_with, naming, show
 from spanprof.errors import Fault
 from spanprof.head import said
 from spanprof.regions import program_of, table_beside
@@ -22,8 +22,10 @@ from spanprof.report.what_if import all_at_once, read_factors
 from spanprof.version import Version
 
 DESCRIPTION = "Writes one page (HTML that needs no other file and no network) on a program text of spanprof."
+AFTER = "Exit status 1: a file or a place is missing, a file cannot be written, or a text is refused; 2: wrong words."
 ANSWER = ("work", "span", "was")
 LONGEST_WORDS = 100
+MOST_THREADS = 1024
 OF_ONE_TEXT = ("other", "trace", "speedscope", "factor", "json", "replay", "live")
 OPTIONS = {"other": "with"}
 
@@ -34,16 +36,23 @@ def beside(text):
     return stem + ".html" if ending != ".html" else text + ".html"
 
 
+def outputs(chosen):
+    """The files that are asked for, and what each is."""
+    named = ((chosen.output, "page"), (chosen.trace, "trace"), (chosen.speedscope, "speedscope file"))
+    return [(path, what) for path, what in named if path]
+
+
 def arguments(words):
     parser = argparse.ArgumentParser(prog="spanprof-report", usage="%(prog)s [options] MINE.tasks",
-                                     description=DESCRIPTION)
+                                     description=DESCRIPTION, epilog=AFTER, allow_abbrev=False)
     add = parser.add_argument
     add("program", metavar="MINE.tasks", help="the program text")
     add("-o", "--output", metavar="MINE.html",
         help="the page; without it, and where nothing else is asked for, it is written beside the text")
     add("--replay", metavar="MINE.replay", help="the recorded run; without it the one beside the text, if there is one")
     add("--with", dest="other", metavar="OTHER.tasks", help="a second program, side by side with the first")
-    add("--threads", type=int, metavar="P", help="of the greedy run; without it as many as were recorded")
+    add("--threads", type=count(1, MOST_THREADS), metavar="P",
+        help="of the greedy run; without it as many as were recorded")
     add("--source", action="append", metavar="FOLDER", help="where the source is; without it beside the text, and here")
     add("--factor", action="append", default=[], metavar="PLACE=F",
         help="what if the costs at PLACE were F times as much; may be given several times")
@@ -54,15 +63,21 @@ def arguments(words):
     add("--json", action="store_true", help="print the summary as JSON")
     add("--version", action=Version)
     chosen = parser.parse_args(words)
+    check_words(parser, chosen)
+    return chosen
+
+
+def check_words(parser, chosen):
+    """Ends the process where they exclude each other; the page has a name then, where it is asked for."""
     if chosen.json and chosen.factor and not chosen.output:
         parser.error("--json prints the summary, and --factor without -o its answer: ask for one of them")
     if not (chosen.output or chosen.trace or chosen.speedscope or chosen.factor or chosen.json):
         chosen.output = beside(chosen.program)
     if chosen.live and not chosen.output:
         parser.error("--live is for the page (-o)")
-    if chosen.threads is not None and not 1 <= chosen.threads <= 1024:
-        parser.error("--threads is from 1 to 1024")
-    return chosen
+    paths = [os.path.realpath(path) for path, _ in outputs(chosen)]
+    if len(set(paths)) < len(paths):
+        parser.error("-o, --trace and --speedscope are for different files")
 
 
 def write(path, text):
@@ -84,9 +99,9 @@ class Progress:
 
     def end(self, written):
         """Names the files, wherever they are told."""
-        before = "\r\033[K" if self.stream.isatty() else ""
-        words = ["spanprof-report: written: %s" % path for path in written]
-        print(before + "\n".join(words), end="\n" if words else "", file=self.stream)
+        if self.stream.isatty():
+            print("\r\033[K", end="", file=self.stream)
+        show(["spanprof-report: written: %s" % path for path in written], self.stream)
 
 
 def print_factors(view, factors):
@@ -154,9 +169,10 @@ def write_program_page(chosen, progress):
 
 def check(chosen):
     """Whether all files and folders are there, and none of the files would be lost."""
-    for path in filter(None, (chosen.program, chosen.replay, chosen.other)):
-        for output, what in ((chosen.output, "page"), (chosen.trace, "trace"), (chosen.speedscope, "speedscope file")):
-            check_files(path, output, what)
+    for path in (chosen.program, chosen.replay, chosen.other):
+        for output, what in outputs(chosen) or [(None, "")]:
+            if path is not None:
+                check_files(path, output, what)
     for folder in chosen.source or []:
         if not os.path.isdir(folder):
             raise Fault("--source %s: no such folder" % folder)
@@ -170,4 +186,4 @@ def answer(chosen):
 
 
 def main(words):
-    end_with(Console("spanprof-report"), answer, arguments(words))
+    end_with(Console("spanprof-report"), lambda: answer(arguments(words)))

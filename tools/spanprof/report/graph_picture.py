@@ -12,7 +12,7 @@ from spanprof.report.units import grouped
 WIDEST = 1700   # what is wider is not made to fit, but scrolls
 LETTER, LINE, PAD = 6.9, 16, 10
 DARKEST = 45    # per cent of the colour, so that words on it can be read
-WORDS = {CREATES: "%s created", DEPENDS: "%s depend", WAITS: "%s waits"}
+WORDS = {CREATES: ("%s created", "%s created"), DEPENDS: ("%s depends", "%s depend"), WAITS: ("%s wait", "%s waits")}
 
 
 @dataclass
@@ -41,7 +41,7 @@ class Joined:
 
     @property
     def words(self):
-        return ", ".join(WORDS[kind] % grouped(self.counts[kind]) for kind in self.kinds)
+        return ", ".join(WORDS[kind][self.counts[kind] > 1] % grouped(self.counts[kind]) for kind in self.kinds)
 
     @property
     def listed(self):

@@ -10,6 +10,7 @@ from spanprof.errors import Fault
 from spanprof.measure import HOW, measure, spanprof_large
 from spanprof.answers import LONGEST_CURVE, Asked
 from spanprof.report.large_sums import sums_in
+from spanprof.report.places import root_name
 from spanprof.whatif.numbers import LIMITS, LONGEST, ask_large
 
 
@@ -67,7 +68,7 @@ class LargeAnswers(Asked):
     @cached_property
     def sums(self):
         self.tell("reading " + self.name)
-        return sums_in(self.path)
+        return sums_in(self.path, root_name(self.head))
 
     @cached_property
     def on_the_path(self):

@@ -2,7 +2,7 @@
 from spanprof.report.large_parts import changes_part, path_part, summary_part, tasks_part, timeline_part
 from spanprof.report.page import asked_part, whole
 from spanprof.report.part_curve import curve_part
-from spanprof.report.part_program import program_part
+from spanprof.report.part_program import whole_part
 
 
 def data(view):
@@ -24,6 +24,6 @@ def parts(view, number=0):
 
 
 def page(view):
-    program = [("program", "The whole program", program_part(view.program))] if view.program else []
+    program = [("program", "The whole program", whole_part(view))] if view.program else []
     summary, *rest = parts(view)
     return whole(view.name, [summary, *program, *rest], {"programs": [data(view)], "tried": [None]})

@@ -4,7 +4,7 @@ from dataclasses import dataclass, field
 from typing import Dict
 
 from spanprof.errors import Fault
-from spanprof.report.places import TaskPlace
+from spanprof.report.places import ROOTS, TaskPlace
 from spanprof.text import OF_A_THREAD, Naming, marks, open_text
 
 
@@ -26,8 +26,8 @@ class Sums:
 class Summing:
     """Goes over marks; of each open task its place, its cost, that of its running segment, and its place's number."""
 
-    def __init__(self):
-        self.out, self.open, self.naming = Sums(names={"the root": 0}), [["the root", 0, 0, 0]], Naming()
+    def __init__(self, root):
+        self.out, self.open, self.naming = Sums(names={root: 0}), [[root, 0, 0, 0]], Naming()
         self.code = None
         self.segment()
 
@@ -74,9 +74,9 @@ class Summing:
         return self.out
 
 
-def sums_of(statements):
-    """Of the marks of a text."""
-    summing = Summing()
+def sums_of(statements, root=ROOTS[0]):
+    """Of the marks of a text, whose first task has that name."""
+    summing = Summing(root)
     does = {"work": summing.work, "taskwait": summing.taskwait, "taskgroup": summing.taskgroup, "task": summing.task,
             "}": summing.end}
     for word, code, comment in statements:
@@ -84,9 +84,9 @@ def sums_of(statements):
     return summing.finish()
 
 
-def sums_in(path):
+def sums_in(path, root=ROOTS[0]):
     try:
         with open_text(path) as lines:
-            return sums_of(marks(lines))
+            return sums_of(marks(lines), root)
     except (KeyError, IndexError, ValueError) as wrong:
         raise Fault("%s is no text of version 1" % path) from wrong

@@ -6,7 +6,7 @@ from spanprof.account import account_beside, sums_of, timed_beside
 from spanprof.report.figures import Figures
 from spanprof.report.large_answers import LargeAnswers
 from spanprof.report.large_times import NoTimes, levels_in, levels_of_greedy
-from spanprof.report.places import Place
+from spanprof.report.places import ROOTS, Place
 from spanprof.report.source import Sources
 from spanprof.report.units import Units
 from spanprof.report.view import Kinds
@@ -59,7 +59,7 @@ class LargeView(Kinds):
     @property
     def most_tasks(self):
         """The place of tasks with the most of them, as it is named; nothing without tasks."""
-        names = {place.name: len(place.costs) for place in self.task_places if place.name != "the root"}
+        names = {place.name: len(place.costs) for place in self.task_places if place.name not in ROOTS}
         name = max(names, key=names.get, default="")
         return name if name in ("", "a task") else named("task", name)
 

@@ -12,7 +12,7 @@ from spanprof.report.part_curve import curve_part
 from spanprof.report.part_graph import graph_part
 from spanprof.report.part_nesting import nesting_part
 from spanprof.report.part_path import path_part
-from spanprof.report.part_program import program_part
+from spanprof.report.part_program import whole_part
 from spanprof.report.part_source import source_part
 from spanprof.report.part_summary import summary_part
 from spanprof.report.part_tasks import tasks_part
@@ -61,7 +61,7 @@ def parts(views, factors, trials, live=None, first=0, is_alone=True):
     view = views[0]
     of = " of " + view.name if len(views) > 1 else ""
     made = [("summary", "Summary", summary_part(view, trials, of)),
-            ("program", "The whole program", program_part(view.program) if is_alone else ""),
+            ("program", "The whole program", whole_part(view) if is_alone else ""),
             ("compared", "Side by side", compare_part(views) if len(views) > 1 else ""),
             ("idle", "Idle time", idle_part(view, of)),
             ("speed-up", "Speed-up", curve_part(views)), *timelines(views, first),

@@ -6,17 +6,32 @@ from spanprof.report.markup import join, note, section, tag
 from spanprof.report.places import tasks
 from spanprof.report.tables import table
 from spanprof.report.units import grouped
+from spanprof.text import CALLED_FROM
 
 MOST_TASKS, MOST_EDGES = 60, 240
 MOST_PLACES, MOST_PLACE_EDGES, MOST_LINES = 16, 30, 40
+LONGEST, SHORTEST = 44, 16      # letters of a name's line
 
 BY_TASK = "A box for each task, with its cost. Solid: a dependence. Dashed: the creation of a task that depends on " \
     "no other. Red: the critical path."
 WAITS_LEFT_OUT = " The waits of tasks for those that they have created are not drawn."
 BY_PLACE = "A box for each place of tasks. Dashed: its tasks create those, and how often they wait for them. Solid: " \
-    "those depend on its tasks. Red: the critical path goes there."
+    "those depend on its tasks, or wait for tasks that they have not created. Red: the critical path goes there."
 NO_PICTURE = "Too many for a picture: which place's tasks create those of which, depend on them, or are waited for " \
     "by their creators."
+
+
+def cut(words):
+    """As much of a name as a box has room for: its place in the source, and the beginning of what stands before it."""
+    what, at, where = words.rpartition(" at ")
+    return words if len(words) <= LONGEST else what[:max(SHORTEST, LONGEST - len("…" + at + where))] + "…" + at + where
+
+
+def name_lines(name, before=""):
+    """A place of tasks with a line for each call that led there."""
+    creation, *callers = name.split(CALLED_FROM)
+    return [[tag("tspan", cut(words), class_="given")] for words in (
+        before + creation, *((CALLED_FROM + caller).strip() for caller in callers))]
 
 
 def between_tasks(edges, critical):
@@ -33,11 +48,11 @@ def between_tasks(edges, critical):
 
 def task_box(view, number, task, most):
     show = view.figures
-    name = tag("tspan", "%d  %s" % (number, task.place), class_="given")
+    name = name_lines(task.place, "%d  " % number)
     cost, exact = show.told_time("tspan", task.cost, "task %d cost" % number), view.units.plain
     title = show.told("title", "task %d: cost %s, least slack %s" % (number, exact(task.cost), exact(task.slack)),
                       ["task %d number" % number, "task %d cost" % number, "task %d slack" % number])
-    return Box([[name], [cost]], task.cost / most if most else 0, task.is_critical, title)
+    return Box([*name, [cost]], task.cost / most if most else 0, task.is_critical, title)
 
 
 def by_task(view, edges, critical):
@@ -62,12 +77,13 @@ def place_box(view, place, loop):
     answers, show, named = view.answers, view.figures, "task-place %d " % place.number
     share, of_span = percent(place.cost, answers.work), percent(place.critical_cost, answers.span)
     count = show.told("tspan", grouped(len(place.tasks)), [named + "count"])
-    lines = [[tag("tspan", place.name, class_="given")], [count, " tasks" if len(place.tasks) > 1 else " task"],
+    lines = [*name_lines(place.name), [count, " tasks" if len(place.tasks) > 1 else " task"],
              [show.told("tspan", "%.1f %% of the work" % share, ["percent " + named + "cost / span work"])],
              [show.told("tspan", "%.1f %% of the span" % of_span, ["percent " + named + "path / span span"])]]
     if loop:
         lines.append([show.told("tspan", "among them: " + loop.words, loop.listed)])
-    return Box(lines, place.cost / answers.work if answers.work else 0, place.critical_cost > 0)
+    return Box(lines, place.cost / answers.work if answers.work else 0, place.critical_cost > 0,
+               tag("title", place.name, class_="given"))
 
 
 def edge_table(view, joined):

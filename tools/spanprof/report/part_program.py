@@ -1,5 +1,6 @@
 """The whole program: where its time went from its beginning to its end, in which regions and outside of them."""
 from spanprof.head import Head
+from spanprof.regions import place_name
 from spanprof.report.figures import MEASURED, RECORDED, Figures, badge, percent
 from spanprof.report.markup import breakable, join, note, section, tag
 from spanprof.report.tables import bar, table
@@ -61,10 +62,6 @@ def picture(program):
     drawn = tag("svg", back, *columns(program), viewBox="0 0 %d %d" % (BINS, HIGH), preserveAspectRatio="none",
                 class_="program", role="img", aria_label="The shares of the table below, in the order of time")
     return tag("figure", drawn)
-
-
-def place_name(name):
-    return "region at " + name if not name.startswith("a region") else name
 
 
 def which(place, chapter):
@@ -130,8 +127,24 @@ def lead_words(program, show):
                badge(MEASURED), ".", class_="lead")
 
 
-def program_part(program, chapters=()):
-    """`chapters` are the parts of the page on its regions, by the number of their place."""
+def which_are_told(program, is_whole):
+    """What the rest of the page is of."""
+    if is_whole:
+        return " What follows is of the whole program, as one text."
+    if any(len(place.regions) > 1 for place in program.places):
+        return " Regions that begin at one place are added up; what stands on this page of them is the one that is " \
+            "the median in code."
+    return ""
+
+
+def whole_part(view):
+    """On the page of one text."""
+    return program_part(view.program, is_whole=bool(view.answers.head.whole))
+
+
+def program_part(program, chapters=(), is_whole=False):
+    """`chapters` are the parts of the page on its regions, by the number of their place; `is_whole` is whether its text
+    is of the whole program."""
     if not program or not program.regions:
         return ""
     show, by_place = figures_of(), {chapter.place: chapter for chapter in chapters}
@@ -139,6 +152,5 @@ def program_part(program, chapters=()):
                                            for place in program.places]
     return section("program", "The whole program", lead_words(program, show), picture(program), note(HOW),
                    table(HEADS, rows, numeric=range(1, len(HEADS)), is_sortable=True),
-                   note("Times of the wall clock ", badge(MEASURED), ". In code: of the threads' time, without waits. "
-                        "Regions that begin at one place are added up; what stands on this page of them is the one "
-                        "that is the median in code."))
+                   note("Times of the wall clock ", badge(MEASURED), ". In code: of the threads' time, without waits.",
+                        which_are_told(program, is_whole)))

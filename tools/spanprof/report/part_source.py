@@ -1,9 +1,11 @@
 """The source with heat: which lines the work and the span are of."""
 from spanprof.report.figures import badges, percent
-from spanprof.report.markup import details, join, note, section, tag
+from spanprof.report.markup import breakable, details, join, note, section, tag
+from spanprof.text import CALLED_FROM
 
 MOST_FILES, MOST_LINES, AROUND = 6, 800, 3
 DARKEST = 0.45      # so that words on it can be read
+LEAST = 0.05        # per cent, which are told as 0.1
 
 
 def of_files(view):
@@ -36,17 +38,23 @@ def heat(view, places, number):
     return "--heat:%.1f%%;--span:%.1f%%" % (DARKEST * work, span)
 
 
+def is_told(view, place):
+    """Whether one of its shares is seen in a note."""
+    return max(percent(place.cost, view.answers.work), percent(place.critical_cost, view.answers.span)) >= LEAST
+
+
 def words_of(view, place):
     show, kind, named = view.figures, view.cost_kind, "place %d " % place.number
-    stretch = view.stretches[place.name]
-    return tag("span", tag("span", place.name.partition(" at ")[0] + ", " + stretch.words, class_="given"), " ",
+    what, called, callers = place.name.partition(CALLED_FROM)
+    words = [what.partition(" at ")[0], view.stretches[place.name].words, (called + callers).strip()]
+    return tag("span", tag("span", breakable(", ".join(filter(None, words))), class_="given"), ": ",
                show.share(place.cost, view.answers.work, named + "cost / span work", kind), " of the work, ",
                show.share(place.critical_cost, view.answers.span, named + "path / span span", kind), " of the span",
                class_="at-line")
 
 
 def line_row(view, places, lines, number):
-    here = [place for place in places if view.stretches[place.name].first == number]
+    here = [place for place in places if view.stretches[place.name].first == number and is_told(view, place)]
     cells = [tag("td", number, class_="n given"), tag("td", tag("code", lines[number - 1] or " ")),
              tag("td", *[words_of(view, place) for place in here])]
     return tag("tr", *cells, style=heat(view, places, number))
@@ -76,6 +84,6 @@ def source_part(view, of=""):
     return section("source", "Source" + of, note(
         "The darker a line, the more of the work a place is whose segments run it, and the redder the bar at its left, "
         "the more of the span: from where they begin to the construct that ends them. Where the statement of a "
-        "directive ends, this page reads off the file's braces. "
+        "directive ends, this page reads off the file's braces. Places with next to nothing of both have no words. "
         "Shares ",
         badges(view.cost_kind), "."), join(pieces))

@@ -1,7 +1,9 @@
 """The tasks by the construct that creates them."""
 from spanprof.report.figures import PROVED, badges
 from spanprof.report.markup import note, section, tag
+from spanprof.report.places import ROOTS
 from spanprof.report.tables import place_cell, table
+from spanprof.text import OF_A_THREAD
 
 MOST_PLACES = 40
 
@@ -17,8 +19,9 @@ def costs(view, place, named):
 
 
 def creation(view, place, named):
-    """What creating the tasks costs, and that beside their own cost; the root is created by none."""
-    if place.name == "the root":
+    """What creating the tasks costs, and that beside their own cost; not of the root, nor of a region's threads, before
+    which all code stands that came before the region."""
+    if place.name in ROOTS or place.name.startswith(OF_A_THREAD):
         return ["", ""]
     show, kind = view.figures, view.cost_kind
     return [show.time(place.creating, named + "creating", kind),

@@ -4,6 +4,13 @@ from statistics import median_low
 from typing import List
 
 
+ROOTS = ("the root", "serial code")     # as the first task is named; in the whole program it runs all serial code
+
+
+def root_name(head):
+    return ROOTS[bool(head.whole)]
+
+
 @dataclass
 class Place:
     """The segments at one place: after a construct, or at the beginning of a task."""
@@ -64,11 +71,11 @@ class Task:
 
 def tasks(answers):
     """Each task, by its number."""
-    out = []
+    out, root = [], root_name(answers.head)
     for s, (segment, row) in enumerate(zip(answers.code, answers.rows)):
         if not segment.after:
             created_by = answers.rows[s - 1].cost if s else 0  # the segment before a task's first creates it
-            out.append(Task(segment.task_place or ("a task" if row.task else "the root"), slack=row.slack,
+            out.append(Task(segment.task_place or ("a task" if row.task else root), slack=row.slack,
                             creating=created_by))
         task = out[row.task]
         task.cost += row.cost

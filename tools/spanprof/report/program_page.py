@@ -3,12 +3,12 @@ which is the page of the one that is the median there."""
 import os
 from typing import Any, List, NamedTuple, Tuple
 
-from spanprof.regions import table_beside
+from spanprof.regions import place_name, table_beside
 from spanprof.report import large_page, page
 from spanprof.report.large_answers import is_large
 from spanprof.report.large_view import LargeView
 from spanprof.report.markup import breakable, join, tag, within
-from spanprof.report.part_program import place_name, program_part
+from spanprof.report.part_program import program_part
 from spanprof.report.view import View
 from spanprof.report.what_if import Trials
 

@@ -55,7 +55,8 @@ def parallelism_tile(view):
 def tasks_tile(view):
     answers, show = view.answers, view.figures
     segments = show.number(answers.span_numbers["segments"], "span segments", view.shape_kind)
-    parts = [", and ", show.number(answers.parts, "parts", view.shape_kind), " parts of the region's own code"]
+    own = " parts of the %s own code" % ("regions'" if answers.head.whole else "region's")
+    parts = [", and ", show.number(answers.parts, "parts", view.shape_kind), own]
     return tile("Tasks", show.number(answers.tasks - answers.parts, "tasks - parts", view.shape_kind),
                 [view.shape_kind], join([segments, " segments", *(parts if answers.parts else [])]))
 

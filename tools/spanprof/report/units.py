@@ -1,5 +1,6 @@
 """Times as people read them: in the largest unit in which there is at least one, with three digits."""
 import math
+import re
 from typing import NamedTuple
 
 STEPS = (("ns", 1), ("µs", 1000), ("ms", 10 ** 6), ("s", 10 ** 9))
@@ -14,7 +15,8 @@ class Shown(NamedTuple):
 
 def grouped(value, digits=0):
     """With a comma before each three digits."""
-    return "{:,.{}f}".format(value, digits).replace("-", "−")
+    words = "{:,.{}f}".format(value, digits)
+    return words.replace("-", "−" if re.search("[1-9]", words) else "")
 
 
 def unit_name(unit):

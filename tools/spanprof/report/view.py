@@ -7,9 +7,10 @@ from typing import Optional
 from spanprof.account import account_beside, timed_beside
 from spanprof.answers import Answers
 from spanprof.errors import Fault
-from spanprof.regions import program_of
+from spanprof.regions import place_name, program_of
 from spanprof.report.figures import DECLARED, MEASURED, RECORDED, Figures
 from spanprof.report.gap import gap_in
+from spanprof.report.markup import tag
 from spanprof.report.places import places, task_places
 from spanprof.report.predicted import Predicted, of_changes, predicted
 from spanprof.report.recorded_run import NoRun, RecordedRun, recorded_run
@@ -18,9 +19,11 @@ from spanprof.report.source_lines import stretches
 from spanprof.report.tried import tried
 from spanprof.report.true_times import points_in, scale_beside
 from spanprof.report.units import Units
+from spanprof.text import BEGINNING
 from spanprof.whatif.lead import lead
 
 COLOURS = 10
+WHOLE_WITHOUT_RUN = "Of a whole program the recorder writes no run; the pages on its regions have theirs."
 
 
 @dataclass
@@ -111,7 +114,8 @@ class View(Kinds):
         beside = os.path.splitext(self.answers.path)[0] + ".replay"
         path = replay or (beside if os.path.exists(beside) else None)
         if not path:
-            self.without_run = "There is no replay document beside %s." % self.answers.name
+            self.without_run = WHOLE_WITHOUT_RUN if self.answers.head.whole else \
+                "There is no replay document beside %s." % self.answers.name
             return None
         try:
             return recorded_run(path, self.answers)
@@ -162,11 +166,20 @@ class View(Kinds):
 
     def snippet(self, place):
         """Lines of the source: of a task its directive and statement, else where the code begins."""
+        if place == BEGINNING and self.answers.head.whole:
+            return [self.before_regions]
         stretch = self.stretches.get(place)
         if not stretch or not place.startswith("after ") or place.endswith(":%d" % stretch.first):
             return self.sources.snippet(place)
         lines = self.sources.lines_of(stretch.file)
         return [lines[stretch.first - 1].strip()] if 0 < stretch.first <= len(lines) else []
+
+    @cached_property
+    def before_regions(self):
+        """What the beginning of a whole program is, in words."""
+        regions = self.program.regions if self.program else ()
+        until = "the " + place_name(regions[0].place) if regions else "the first region"
+        return tag("span", "serial code, up to " + until, class_="given below")
 
     @cached_property
     def place_of(self):

@@ -1,4 +1,5 @@
 import unittest
+from unittest import mock
 
 from spanprof.account import Account
 from spanprof.cause import cause
@@ -86,6 +87,12 @@ class BeforeTheAccount(unittest.TestCase):
         found = cause(made, account(10, 0, 90))
         self.assertEqual(found.words, "55 % of the program's time passed outside of regions, where no team runs "
                                       "(measured)")
+
+    def test_which_text_has_what_is_outside_of_regions(self):
+        made = answers(division={"outside regions": 60})
+        with mock.patch("spanprof.cause.whole_beside", return_value="a/mine.whole.tasks"):
+            self.assertEqual(cause(made).instead, "none in this text: what runs outside of regions is not in it; "
+                                                  "mine.whole.tasks has it")
 
     def test_a_lock(self):
         found = cause(answers(most_held=75, locks=[Lock("critical at a.c:3", 8, 75, 0)]), account(90, 5, 5))

@@ -1,10 +1,13 @@
 """What the commands share: how they end, and where programs are looked for."""
+import contextlib
+import io
 import os
+import sys
 import unittest
 from unittest import mock
 
 from spanprof import folders
-from spanprof.command import INTERRUPTED, Console, check_files, end_with, naming
+from spanprof.command import INTERRUPTED, Console, check_files, end_with, leave, naming, show
 from spanprof.errors import Fault
 from spanprof.tests.in_folder import InFolder, answered
 
@@ -25,6 +28,37 @@ class Ends(unittest.TestCase):
         self.assertEqual(self.ended(side_effect=KeyboardInterrupt), (INTERRUPTED, "", ""))
 
 
+    def test_the_status_of_another_command(self):
+        with mock.patch("signal.signal"):
+            self.assertEqual(answered(lambda words: end_with(Console("mine"), mock.Mock(side_effect=Fault("no room")),
+                                                             status=125), []), (125, "", "mine: no room\n"))
+
+    def test_help_without_room_is_told(self):
+        def full():
+            return open("/dev/full", "w", encoding="utf-8")     # which is written when it is flushed
+
+        def help_and_end():
+            print("usage: mine")
+            raise SystemExit(0)
+        with full() as out, mock.patch("sys.stdout", out), mock.patch("signal.signal"), \
+                self.assertRaises(SystemExit) as ended, contextlib.redirect_stderr(io.StringIO()) as told:
+            end_with(Console("mine"), help_and_end)
+        self.assertEqual((ended.exception.code, told.getvalue()),
+                         (1, "mine: standard output: No space left on device\n"))
+
+    def test_standard_error_without_room_or_closed_changes_no_status(self):
+        with open("/dev/full", "w", encoding="utf-8") as full, mock.patch("sys.stderr", full):
+            show(["words"])
+            leave(full)
+
+        def fail():
+            self.addCleanup(sys.stderr.close)
+            raise Fault("no room")
+        with mock.patch("sys.stderr", None), mock.patch("signal.signal"), self.assertRaises(SystemExit) as ended:
+            end_with(Console("mine"), fail, status=3)
+        self.assertEqual(ended.exception.code, 3)
+
+
 class Files(InFolder):
     def test_the_text_has_to_be_there_and_stays(self):
         text = self.write("mine.tasks")
@@ -33,7 +67,12 @@ class Files(InFolder):
             check_files("none.tasks")
         with self.assertRaisesRegex(Fault, "the burdened text would be written over the text"):
             check_files(text, os.path.join(self.folder, ".", "mine.tasks"), "burdened text")
-        with self.assertRaisesRegex(Fault, "a folder, and no text"):
+        with self.assertRaisesRegex(Fault, "^'': no such file$"):
+            check_files("")
+        with self.assertRaisesRegex(Fault, "a folder, and no text$"):
+            check_files(self.folder)
+        self.write("head")
+        with self.assertRaisesRegex(Fault, "the log of a recorded run, and no text; spanprof-convert writes its texts"):
             check_files(self.folder)
         pipe = os.path.join(self.folder, "pipe")
         os.mkfifo(pipe)
@@ -44,6 +83,11 @@ class Files(InFolder):
         with self.assertRaisesRegex(Fault, "^/dev/full: No space left on device$"), naming("/dev/full"), \
                 open("/dev/full", "w", encoding="utf-8") as file:
             file.write("words")
+
+    def test_a_variable_that_is_no_line_of_words(self):
+        with mock.patch.dict(os.environ, {"SPANPROF": "'"}), \
+                self.assertRaisesRegex(Fault, "^SPANPROF=': no closing quotation$"):
+            folders.words_for("spanprof", [])
 
     def test_the_order_in_which_programs_are_looked_for(self):
         place = self.program("spanprof_large", "")

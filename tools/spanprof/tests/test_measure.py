@@ -2,7 +2,7 @@ import sys
 import unittest
 
 from spanprof.errors import Fault
-from spanprof.measure import replay
+from spanprof.measure import measure, replay
 from spanprof.tests.in_folder import InFolder
 
 DOCUMENT = "omptasks 1\ntask { work 2 }\n---\nstart 0 0\nstart 1 1\n--- 3\n"
@@ -41,6 +41,11 @@ class Replay(InFolder):
     def test_no_answer(self):
         with self.assertRaisesRegex(Fault, "^spanprof_large replay: it ended with status 7$"):
             replay([sys.executable, "-c", "import sys; sys.exit(7)"], self.path)
+
+    def test_another_program(self):
+        for line in ("omptasks 1", "work 5"):
+            with self.assertRaisesRegex(Fault, "does not answer as spanprof_large does$"):
+                measure(answering(line, 0), self.path)
 
 
 if __name__ == "__main__":

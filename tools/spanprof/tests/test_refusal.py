@@ -4,7 +4,7 @@ import unittest
 from unittest import mock
 
 from spanprof import refusal
-from spanprof.refusal import AT_LINE, explained, in_file, meant, open_brace, picture, tokens
+from spanprof.refusal import AT_LINE, explained, in_file, meant, of_byte, open_brace, picture, tokens
 
 TEXT = "omptasks 1\nwork 5  # tasks here\ntask { tasks { } work 3\n}\n"
 
@@ -83,6 +83,9 @@ class NumbersAndBytes(unittest.TestCase):
                                    ("\\\0", "\\", "this is no text"), ("PNG\ufffd", "\ufffd", "this is no text"),
                                    ("work 5; # \ufffd", ";", "`;` begins no word")):
             self.assertIn(words, self.of("BadByte", line, wrong))
+
+    def test_a_document_where_a_text_is_wanted(self):
+        self.assertIn("the text ends before `---`, and what follows is of a replay", of_byte("---", 0))
 
 
 class Braces(unittest.TestCase):

@@ -4,7 +4,7 @@ import tempfile
 import unittest
 
 from spanprof.errors import Fault
-from spanprof.regions import Place, Region, program_of, read_regions, table_beside, told_first
+from spanprof.regions import Place, Region, program_of, read_regions, table_beside, told_first, whole_beside
 
 TABLE = """\
 number,text,begin_ns,end_ns,threads,tasks,loops,code_ns,inside,place
@@ -65,6 +65,13 @@ class Tables(unittest.TestCase):
         self.assertIsNone(program_of(os.path.join(self.folder, "other.tasks")))
         own = self.kept("mine.4711.regions")
         self.assertEqual(table_beside(own.replace(".regions", ".tasks")), (own, 1))
+
+    def test_where_the_whole_program_lies(self):
+        text = self.kept().replace(".regions", ".2.tasks")
+        self.assertIsNone(whole_beside(text))
+        self.assertIsNone(whole_beside(""))
+        whole = self.kept("mine.whole.tasks")
+        self.assertEqual(whole_beside(text), whole)
 
     def test_what_is_no_table(self):
         for words in ("", TABLE.replace("place\n", "where\n"), TABLE.replace("4,3,600", "4,x,600"),

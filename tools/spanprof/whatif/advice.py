@@ -3,6 +3,7 @@ import json
 from typing import NamedTuple
 
 from spanprof.claims import gain_may_be_less, gain_may_be_more, is_partial, speaks_of, why_not_of_more_threads
+from spanprof.text import code_at
 from spanprof.whatif.tell import grouped, in_unit, numbers_json, yours_to_know
 
 LEAST_GAIN = 0.01       # of the end, from which on a change is put first
@@ -27,10 +28,10 @@ def with_article(wait):
 def in_words(request):
     place, _, number = request.word.rpartition("=")
     if request.option in ("split", "join"):
-        return IN_WORDS[request.option] % (place, number)
+        return IN_WORDS[request.option] % (code_at(place), number)
     if request.option == "drop-wait":
         return IN_WORDS[request.option] % with_article(request.word)
-    return IN_WORDS[request.option] % (place if request.option == "factor" else request.word)
+    return IN_WORDS[request.option] % code_at(place if request.option == "factor" else request.word)
 
 
 def preferred(tried, trial, most):

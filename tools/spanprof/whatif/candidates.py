@@ -17,11 +17,17 @@ class Candidates(NamedTuple):
     left_out: Tuple[str, ...]
 
 
+def singular(what):
+    """Of one of them: its first word loses the last letter."""
+    noun, blank, rest = what.partition(" ")
+    return noun[:-1] + blank + rest
+
+
 def first(counted, most, what, left_out):
     """The names with the most, and a word of the others."""
     names = [name for name, number in counted.most_common() if number]
     if len(names) > most:
-        left_out.append("%d more %s" % (len(names) - most, what))
+        left_out.append("%d more %s" % (len(names) - most, what if len(names) > most + 1 else singular(what)))
     return names[:most]
 
 

@@ -15,7 +15,7 @@ from spanprof.version import Version
 from spanprof.whatif import advice
 from spanprof.whatif.creating import costs_for
 from spanprof.whatif.listing import listing
-from spanprof.whatif.numbers import measure
+from spanprof.whatif.numbers import LIMITS, measure
 from spanprof.whatif.requests import Request, applied, changes
 from spanprof.whatif.survey import survey
 from spanprof.whatif.tell import as_json, lines, notes
@@ -66,6 +66,8 @@ def parse(words):
         parser.error("nothing to change; --places lists what there is, and --advise tries each")
     if chosen.requests and chosen.advise:
         parser.error("--advise tries single changes, and takes none")
+    if chosen.output and not chosen.requests:
+        parser.error("-o keeps a changed text, and no change is asked for")
     return chosen
 
 
@@ -101,7 +103,8 @@ def advise(chosen, text, threads):
     try:
         answers = Answers(chosen.text)
     except Fault as refused:
-        raise Fault("%s; --advise compares greedy runs, which only spanprof tells" % refused) from refused
+        more = "; --advise compares greedy runs, which only spanprof tells" if LIMITS.search(str(refused)) else ""
+        raise Fault("%s%s" % (refused, more)) from refused
     seen = survey(text.statements())
     account, _ = account_beside(answers)
     found = cause(answers, account)
@@ -127,4 +130,4 @@ def answer(chosen):
 
 
 def main(words):
-    end_with(Console("spanprof-whatif"), answer, parse(words))
+    end_with(Console("spanprof-whatif"), lambda: answer(parse(words)))

@@ -14,7 +14,7 @@ def ended(fault):
     told = io.StringIO()
     options = types.SimpleNamespace(call=mock.Mock(side_effect=fault))
     with mock.patch.object(command, "parse", return_value=options), contextlib.redirect_stderr(told), \
-            mock.patch.object(command, "leave_the_rest") as left:
+            mock.patch.object(command, "leave") as left:
         return command.main(), told.getvalue(), left.called
 
 
@@ -24,7 +24,7 @@ class Ends(unittest.TestCase):
 
     def test_a_file_that_is_not_there_is_named(self):
         self.assertEqual(ended(FileNotFoundError(2, "No such file or directory", "mutants.json")),
-                         (2, "spanprof-conformance: mutants.json: No such file or directory\n", False))
+                         (2, "spanprof-conformance: mutants.json: No such file or directory\n", True))
 
     def test_nothing_is_told_of_a_closed_pipe(self):
         self.assertEqual(ended(BrokenPipeError()), (2, "", True))

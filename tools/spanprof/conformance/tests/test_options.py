@@ -51,6 +51,14 @@ class Options(unittest.TestCase):
         options = parsed("run --cc gcc --programs 0 --seed 0 --jobs 1")
         self.assertEqual((options.programs, options.seed, options.jobs), (0, 0, 1))
 
+    def test_what_is_refused_before_hours_of_runs(self):
+        for words, why in (("--hours -1", "-1 is no number of hours"), ("--hours nan", "nan is no number of hours"),
+                           ("--report /none/x.md", "there is no folder /none"),
+                           ("--match none", "no directed program's name fits none")):
+            said = self.refused("run --cc gcc " + words)
+            self.assertIn(why, said)
+            self.assertEqual(said.splitlines()[0], "usage: spanprof-conformance run [options] --cc CC")
+
     def test_hours(self):
         options = parsed("run --cc gcc --hours 0.5 --state night.jsonl")
         self.assertEqual((options.hours, options.state), (0.5, "night.jsonl"))

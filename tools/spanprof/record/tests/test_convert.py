@@ -1,6 +1,9 @@
+import contextlib
+import io
 import os
 import tempfile
 import unittest
+from unittest import mock
 
 from spanprof.record import convert, convert_command
 
@@ -37,6 +40,41 @@ class Logs(unittest.TestCase):
 
     def test_no_log(self):
         self.assertFalse(convert.convert_all("/none", self.out, {}).loaded)
+
+    def refused(self, *words):
+        told = io.StringIO()
+        with contextlib.redirect_stderr(told), self.assertRaises(SystemExit) as ended, mock.patch("signal.signal"):
+            convert_command.main(list(words))
+        self.assertEqual(ended.exception.code, 125)
+        return told.getvalue().splitlines()[-1]
+
+    def test_what_is_no_log(self):
+        wanted = "; a log is the folder NAME.log that spanprof-record leaves"
+        path = os.path.join(self.folder, "mine.tasks")
+        with open(path, "w", encoding="utf-8") as file:
+            file.write("# a comment\n\nomptasks 1\nwork 1\n")
+        self.assertEqual(self.refused(path), "spanprof-convert: %s: a text already, and no log: spanprof-report makes "
+                         "its page, spanprof-whatif changes it" % path)
+        with open(path, "wb") as file:
+            file.write(b"\xff\0")
+        for log, what in ((path, path + ": no folder"), ("none.log", "none.log: no such folder"),
+                          ("", "'': no such folder"), (self.folder, self.folder + ": a folder without a log in it")):
+            self.assertEqual(self.refused(log), "spanprof-convert: " + what + wanted)
+
+    def test_words_that_exclude_each_other(self):
+        self.assertIn("--out takes one log", self.refused("--out", "x", "a.log", "b.log"))
+        self.assertIn("--out x/: the first name of files, and no folder", self.refused("--out", "x/", "a.log"))
+        self.assertIn("--online writes no text, which --whole is for", self.refused("--online", "--whole", "a.log"))
+
+    def test_a_text_that_cannot_be_written(self):
+        log = os.path.join(self.folder, "mine.log")
+        os.mkdir(log)
+        open(os.path.join(log, "head"), "w", encoding="utf-8").close()
+        self.assertIn("there is no folder /none", self.refused("--out", "/none/x", log))
+        told = [{"told": "unwritten", "file": "x.tasks"}]
+        with mock.patch.object(convert_command, "converter", return_value="/converter"), \
+                mock.patch.object(convert_command, "convert", return_value=told):
+            self.assertEqual(self.refused(log), "spanprof-convert: x.tasks cannot be written")
 
     def test_what_is_asked_for(self):
         chosen = convert_command.parser().parse_args(["--fold", "depth=3", "--unit", "us", "--regions", "2", "a.log"])

@@ -78,9 +78,10 @@ class Preloading(unittest.TestCase):
                 self.preloaded(linked)
 
     def test_a_runtime_that_is_asked_for(self):
-        self.assertEqual(to_preload("mine", Linkage(), __file__), os.path.abspath(__file__))
-        with self.assertRaisesRegex(Fault, "no such file"):
-            to_preload("mine", Linkage(), "/no/such/library")
+        self.assertEqual(to_preload("mine", Linkage(), "/proc/self/exe"), "/proc/self/exe")
+        for path, why in (("/no/such/library", "no such file"), (__file__, "no shared library")):
+            with self.assertRaisesRegex(Fault, "^--runtime %s: %s$" % (path, why)):
+                to_preload("mine", Linkage(), path)
 
     def test_the_newest_version_comes_first(self):
         paths = ["/usr/local/lib/libomp.so"] + ["/usr/lib/llvm-%d/lib/libomp.so.5" % n for n in (9, 19, 16)]

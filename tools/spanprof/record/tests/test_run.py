@@ -69,6 +69,15 @@ class Ends(unittest.TestCase):
                 run(file.name, [file.name], {})
         self.assertEqual(fault.exception.status, NOT_EXECUTABLE)
 
+    def test_a_script_without_its_interpreter(self):
+        with tempfile.TemporaryDirectory() as folder:
+            path = os.path.join(folder, "script")
+            with open(path, "w", encoding="utf-8") as file:
+                file.write("#!/no/such/interpreter\n")
+            os.chmod(path, 0o755)
+            with self.assertRaisesRegex(Fault, "script: the interpreter or loader that it names is not there"):
+                run(path, [path], {})
+
     def test_this_process_ends_alike(self):
         for status in (0, 3, -signal.SIGABRT, -signal.SIGKILL):
             child = os.fork()

@@ -57,13 +57,14 @@ class Bars {
 
 const escaped = (words) => words.replace(/[&<>"]/g, (sign) => `&#${sign.charCodeAt(0)};`);
 
-// As much of a place's name as there is room for: `task at sort.c:33`, `sort.c:33`, `:33`. Which calls led to a task
-// stands behind that.
+// As much of a place's name as there is room for: `task at sort.c:33`, `sort.c:33`, `:33`. Of a task to which several
+// calls led the function of the nearest one counts for more than the file: `:33 from solve`.
 function nameFor(name, width) {
   const at = name.indexOf(" at "), where = at < 0 ? name : name.slice(at + 4);
-  const creation = where.split(" called from ")[0], room = Math.floor((width - 6) / LETTER);
-  const line = /:\d+$/.exec(creation);
-  return [name, where, creation, line ? line[0] : ""].find((words) => words && words.length <= room) || "";
+  const [creation, caller] = where.split(" called from "), line = (/:\d+$/.exec(creation) || [""])[0];
+  const from = caller ? ` from ${caller.split(" at ")[0]}` : "", room = Math.floor((width - 6) / LETTER);
+  const called = caller && line ? [creation + from, line + from, line + from.replace(/\(.*/, "")] : [];
+  return [name, where, ...called, creation, line].find((words) => words && words.length <= room) || "";
 }
 
 function nameIn(bar, words, colour) {

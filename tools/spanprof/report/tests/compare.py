@@ -40,7 +40,8 @@ def is_seen(words, expected, rounded=""):
         to_whole = math.ceil if rounded == "up" else math.floor
         near = round(expected * 10 ** digits, 6)    # a quotient of whole numbers in binary is not quite itself
         expected = to_whole(near) / 10 ** digits
-    return plain.lstrip("+") == "%.*f" % (digits, expected)
+    words = "%.*f" % (digits, expected)
+    return plain.lstrip("+") == (words if float(words) else words.lstrip("-"))    # nothing has no sign
 
 
 def faults_of(figure, programs):

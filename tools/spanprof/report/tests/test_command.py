@@ -86,7 +86,10 @@ class Command(unittest.TestCase):
     def test_refusals(self):
         mesh = worked.path("mesh.tasks")
         self.assertIn("ask for one of them", self.refused(mesh, "--json", "--factor", "a=1"))
-        self.assertIn("--threads is from 1 to 1024", self.refused(mesh, "-o", "x", "--threads", "0"))
+        self.assertIn("0 is no whole number from 1 to 1024", self.refused(mesh, "-o", "x", "--threads", "0"))
+        self.assertIn("are for different files", self.refused(mesh, "-o", "x", "--trace", "./x"))
+        self.assertIn("unrecognized arguments: --js", self.refused(mesh, "--js"))
+        self.assertEqual(self.refused(""), "spanprof-report: '': no such file\n")
         self.assertEqual(self.refused("no.tasks", "-o", "x"), "spanprof-report: no.tasks: no such file\n")
         self.assertIn("no place of this name", self.refused(mesh, "--factor", "nowhere=2"))
         self.assertIn("No such file or directory", self.refused(mesh, "-o", self.out("none/x.html")))

@@ -41,5 +41,8 @@ class Small(unittest.TestCase):
     def test_grouped(self):
         self.assertEqual([grouped(1234567), grouped(-12), grouped(2.345, 2)], ["1,234,567", "−12", "2.35"])
 
+    def test_nothing_has_no_sign(self):
+        self.assertEqual([grouped(value, 1) for value in (-0.04, 0.04, -0.06)], ["0.0", "0.0", "−0.1"])
+
     def test_names(self):
         self.assertEqual([unit_name(unit) for unit in ("us", "ns", "", "250 ns")], ["µs", "ns", "", "× 250 ns"])

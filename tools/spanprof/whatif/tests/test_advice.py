@@ -110,6 +110,17 @@ proved of the text, and of each changed text: spanprof has read them all""")
         self.assertIsNone(json.loads(advice.as_json(ALL, None, Head()))["cause"])
 
 
+class Words(unittest.TestCase):
+    def test_code_after_a_construct_is_called_code(self):
+        for option, word, words in (
+                ("factor", "after taskwait at a.c:4=0.5", "half the cost of the code after taskwait at a.c:4"),
+                ("split", "after taskwait at a.c:4=4", "the code after taskwait at a.c:4 in 4 tasks, if it can be "
+                                                       "divided"),
+                ("task", "the beginning", "the beginning as a task of its own, if it can run beside what follows"),
+                ("drop-wait", "taskwait at a.c:4", "without the taskwait at a.c:4, if the program stays right")):
+            self.assertEqual(advice.in_words(Request(option, word)), words)
+
+
 class Tried(unittest.TestCase):
     def test_each_kind_at_each_place(self):
         found = candidates(survey(read(SORT)), 4).requests
@@ -125,7 +136,7 @@ class Tried(unittest.TestCase):
         found = candidates(survey(read("omptasks 1 task depend(in: %s) { work 3 } work 1 taskwait work 2" % names)), 4,
                            ("factor", "drop-name"), 2)
         self.assertEqual([one.option for one in found.requests], ["factor", "factor"])
-        self.assertEqual(found.left_out, ("1 more places of code", "all 13 names of depend items"))
+        self.assertEqual(found.left_out, ("1 more place of code", "all 13 names of depend items"))
 
 
 if __name__ == "__main__":

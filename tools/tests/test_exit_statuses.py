@@ -1,0 +1,59 @@
+"""Each command ends with the exit statuses that its --help names, as far as no compiler is needed."""
+import os
+import re
+import subprocess
+import tempfile
+import unittest
+
+TOOLS = os.path.dirname(os.path.dirname(os.path.abspath(__file__)))
+TEXT = "omptasks 1\nwork 1\n"
+CASES = {  # by tool, words and the status with which they end it; {text} and {log} are there, {none} is not
+    "record": (("--nothing", 125), ("{none}", 127), ("{text}", 126)),
+    "convert": (("--nothing", 125), ("{none}", 125), ("{text}", 125), ("--out {none}/x {log}", 125)),
+    "report": (("--nothing", 2), ("{none}", 1), ("{log}", 1), ("{text} -o {text}", 1), ("{text} -o x --trace x", 2)),
+    "predict": (("--nothing", 2), ("{none}", 1), ("{log}", 1)),
+    "whatif": (("--nothing", 2), ("{text}", 2), ("{none} --places", 1), ("{log} --places", 1),
+               ("{text} --places -o x", 2)),
+    "path": (("--nothing", 2), ("{none}", 1), ("{log}", 1)),
+    "conformance": (("--nothing", 2), ("emit {none}", 2), ("emit {log}", 2), ("run --cc {none}", 2)),
+}
+WITH_A_COMPILER = {"conformance": {1, 125}}
+
+
+def told_in(words):
+    """The statuses beside 0 in the sentence on them."""
+    sentence = re.search(r"xit status ([^.]*)\.", " ".join(words.split()))[1]
+    return set(map(int, re.findall(r"\b\d+\b", sentence))) - {0}
+
+
+class Statuses(unittest.TestCase):
+    def setUp(self):
+        kept = tempfile.TemporaryDirectory()
+        self.addCleanup(kept.cleanup)
+        self.names = {name: os.path.join(kept.name, name) for name in ("text", "log", "none")}
+        with open(self.names["text"], "w", encoding="utf-8") as file:
+            file.write(TEXT)
+        os.mkdir(self.names["log"])
+        open(os.path.join(self.names["log"], "head"), "w", encoding="utf-8").close()
+
+    def run_tool(self, tool, words):
+        words = [word.format(**self.names) for word in words.split()]
+        return subprocess.run([os.path.join(TOOLS, "spanprof-" + tool), *words], capture_output=True, text=True,
+                              env={**os.environ, "SPANPROF": "/bin/true"}, check=False)
+
+    def test_each(self):
+        for tool, cases in CASES.items():
+            usage = self.run_tool(tool, "--help")
+            self.assertEqual((usage.returncode, usage.stderr), (0, ""), tool)
+            for words, status in cases:
+                done = self.run_tool(tool, words)
+                self.assertEqual(done.returncode, status, (tool, words, done.stderr))
+                self.assertRegex(done.stderr.splitlines()[-1], "^spanprof-" + tool)
+                self.assertLessEqual(len(done.stderr.splitlines()), 2, (tool, words, done.stderr))
+                self.assertEqual(done.stdout, "")
+            ends = {status for _, status in cases} | WITH_A_COMPILER.get(tool, set())
+            self.assertEqual(told_in(usage.stdout), ends, tool)
+
+
+if __name__ == "__main__":
+    unittest.main()
