@@ -194,6 +194,7 @@ void Reader::begin_chunk(ImplicitTask &own, uint64_t turns) {
   own.left = run.whole->events.size() - 1;
   chunk->code = own.loop->code;
   chunk->of_loop = true;
+  chunk->origin = own.loop->what == Divided::Sections ? Origin::Section : Origin::Turns;
   chunk->pieces = 1;
   own.last = &run.whole->chunk_list.emplace_back();
   own.last->loop = own.loop;
