@@ -122,7 +122,7 @@ def nanoseconds_of_a_task(answers):
 def most_of_it(parts, words):
     """The place to which most of an idle time is laid, where it is known."""
     place, part = next(iter(parts.items()), ("", 0))
-    code = "the code " + place if place.startswith("after ") else place
+    code = "the code " + place if place.startswith(("after ", "between ")) else place
     return ", %s of it %s" % (percent(part / sum(parts.values())), words % code) if part else ""
 
 
@@ -149,9 +149,9 @@ def sooner_by_greedy(answers):
 
 
 def shared_out(answers, shares, account):
-    """Where the threads idled with nothing ready mostly while others ran turns of loops or sections, which a greedy run
-    shares out otherwise."""
-    idle, sooner = account.starved_by if account else {}, sooner_by_greedy(answers)
+    """Where the threads idled mostly beside turns of loops or sections that other threads were to run, and a greedy run
+    shares these out better."""
+    idle, sooner = account.delayed_by if account else {}, sooner_by_greedy(answers)
     shared = {place: part for place, part in idle.items() if is_share(place)}
     whole = sum(idle.values())
     if not shared or sum(shared.values()) < MOST * whole or sooner < SOME:
@@ -159,9 +159,9 @@ def shared_out(answers, shares, account):
     place, part = next(iter(shared.items()))
     what, otherwise = ("turns of loops", AS_TURNS % place) if place.startswith(TURNS) else \
         ("sections", AS_TASKS % place.removeprefix(SECTION))
-    return Cause("shared out", "how %s were shared out among the threads: for %s of their time they idled with nothing "
-                               "ready, %s of it while others ran %s (%s)" %
-                 (what, percent(shares.starved), percent(part / whole), place, shares.how),
+    return Cause("shared out", "how %s were shared out among the threads: for %s of their time they idled though code "
+                               "was ready, %s of it beside %s that others were to run (%s)" %
+                 (what, percent(shares.delayed), percent(part / whole), place, shares.how),
                  instead=TAKEN_NEXT % (otherwise, GREEDY, percent(sooner), against_end(
                      answers.head, answers.head.threads) or "measured, beside what is proved of the recorded text"),
                  later=after_that(answers))
@@ -176,11 +176,11 @@ def of_idle_threads(answers, shares, account):
         return Cause("ends", "%s of the threads' time was before the region's code began or after it ended (%s)" %
                      (percent(shares.outside), shares.how), instead="none in this text")
     if largest == "starved":
-        return serial_code(answers, shares, account) or shared_out(answers, shares, account) or Cause(
+        return serial_code(answers, shares, account) or Cause(
             "shape", "%s: for %s of the threads' time they idled with nothing ready%s (%s)" %
             ("too few tasks" if tasks_made(answers) else "too little that can run at once", percent(shares.starved),
              most_of_it(account.starved_by if account else {}, "while %s ran"), shares.how), ALL)
-    return small_tasks(answers, shares) or kept(answers, shares, account)
+    return shared_out(answers, shares, account) or small_tasks(answers, shares) or kept(answers, shares, account)
 
 
 def small_tasks(answers, shares):

@@ -64,12 +64,12 @@ TEST(a_region_without_code_is_no_end_of_a_segment) {
   EXPECT(made.times(), "0 0 0 107\n");
 }
 
-TEST(pieces_of_a_chunk_share_its_time) {
+TEST(pieces_of_a_chunk_share_its_time_and_are_made_at_once) {
   Program made;
   loop(made.after(4), 0, 4, {{3, 6 * us}, {1, 5 * us}});
   end_region(made);
-  EXPECT(made.times(), "0 0 0 100\n1 0 100 104\n2 0 104 2104\n3 0 2104 2104\n4 0 2104 4104\n5 0 4104 4104\n"
-                       "6 0 4104 6104\n7 0 6104 6104\n8 0 6104 11104\n9 0 11104 11104\n10 0 11104 11104\n"
+  EXPECT(made.times(), "0 0 0 100\n1 0 100 104\n2 0 104 2104\n3 0 104 104\n4 0 2104 4104\n5 0 104 104\n"
+                       "6 0 4104 6104\n7 0 104 104\n8 0 6104 11104\n9 0 104 104\n10 0 11104 11104\n"
                        "11 0 100 100\n12 0 11104 11104\n");
 }
 
@@ -78,7 +78,7 @@ TEST(chunks_that_are_written_together_ran_from_the_first_to_the_last) {
   loop(made.after(4), 0, 3, {{1, 300}, {1, 400}, {1, 500}});
   made.barrier(1, 2);
   end_region(made);
-  EXPECT(made.times(), "0 0 0 100\n1 0 100 104\n2 0 104 1304\n3 0 1304 1304\n4 0 1304 1304\n5 0 100 100\n"
+  EXPECT(made.times(), "0 0 0 100\n1 0 100 104\n2 0 104 1304\n3 0 104 104\n4 0 1304 1304\n5 0 100 100\n"
                        "6 1 100 1304\n7 0 100 100\n8 0 1304 1304\n");
 }
 

@@ -109,4 +109,5 @@ def graph_part(view, of=""):
     is_small = answers.tasks < MOST_TASKS and len(edges) <= MOST_EDGES
     drawing, words = (by_task if is_small else by_place)(view, edges, critical)
     return section("graph", "What waits for what" + of.replace(" of ", " in "),
-                   note(words, not_made(view), " ", badges(view.shape_kind), ", critical path ", badges(PROVED)), drawing)
+                   note(words, not_made(view), " ", badges(view.shape_kind), ", critical path ", badges(PROVED)),
+                   drawing)

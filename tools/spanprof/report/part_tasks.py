@@ -9,8 +9,8 @@ MOST_PLACES = 40
 HOW_TO_READ = ". A task's cost is that of its own segments; of an even number of tasks the lower of the two middle " \
     "costs is the median. Slack is the delay that a segment bears without a later end. Creating them: the segments " \
     "of other tasks that end by creating one of these, so the runtime's part in that and the code before it."
-NOT_MADE = "Turns of loops, sections and the code of a region's threads are tasks of the text: the program makes none " \
-    "of them."
+NOT_MADE = "Turns of loops, sections and the code of a region's threads are tasks of the text: the program makes " \
+    "none of them."
 
 
 def not_made(view):

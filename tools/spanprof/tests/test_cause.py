@@ -62,8 +62,8 @@ class ByTheAccount(unittest.TestCase):
 
     def test_the_runtime_or_the_machine(self):
         found = cause(answers(), account(20, 76, 4))
-        self.assertEqual(found.words, "the runtime or the machine: for 76 % of the threads' time they idled though code "
-                                      "was ready (measured)")
+        self.assertEqual(found.words, "the runtime or the machine: for 76 % of the threads' time they idled though "
+                                      "code was ready (measured)")
         self.assertFalse(found.changes)
         self.assertEqual(cause(answers(end=27), account(20, 76, 4)).later, ("factor",))
         self.assertIn("drop-wait", cause(answers(end=40), account(20, 76, 4)).later)
@@ -83,15 +83,15 @@ class ByTheAccount(unittest.TestCase):
         self.assertEqual(cause(of_regions, account(20, 76, 4)).kind, "kept")
 
     def shared(self, place, end=20, **head):
-        told, made = account(40, 20, 40), answers(whole="1 region", pieces=8, end=end, **head)
-        told.idle = ({}, {place: 30, "the beginning": 10})
+        told, made = account(40, 40, 20), answers(whole="1 region", pieces=8, end=end, **head)
+        told.idle = ({place: 30, "code of one of the region's threads": 10}, {place: 20})
         return cause(made, told)
 
     def test_turns_of_a_loop_that_were_shared_out_badly(self):
         found = self.shared("turns of the loop at tri.c:9")
         self.assertEqual(found.words, "how turns of loops were shared out among the threads: for 40 % of their time "
-                                      "they idled with nothing ready, 75 % of it while others ran turns of the loop at "
-                                      "tri.c:9 (measured)")
+                                      "they idled though code was ready, 75 % of it beside turns of the loop at "
+                                      "tri.c:9 that others were to run (measured)")
         self.assertEqual(found.instead, "the turns of the loop at tri.c:9 shared out otherwise, such as by "
                                         "schedule(dynamic) or in smaller chunks: the greedy run of the recorded text, "
                                         "where a thread that idles takes the next, ends 50 % sooner than this run "
@@ -107,7 +107,10 @@ class ByTheAccount(unittest.TestCase):
         self.assertTrue(found.instead.startswith("the sections at tri.c:15 shared out otherwise, such as in tasks: "))
 
     def test_turns_that_no_run_shares_out_better(self):
-        found = self.shared("turns of the loop at tri.c:9", end=38)
+        self.assertEqual(self.shared("turns of the loop at tri.c:9", end=38).kind, "kept")
+        told = account(40, 20, 40)
+        told.idle = ({}, {"turns of the loop at tri.c:9": 30, "the beginning": 10})
+        found = cause(answers(whole="1 region", pieces=8), told)
         self.assertEqual((found.kind, found.words), ("shape", "too little that can run at once: for 40 % of the "
                          "threads' time they idled with nothing ready, 75 % of it while turns of the loop at tri.c:9 "
                          "ran (measured)"))
