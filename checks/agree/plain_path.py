@@ -21,6 +21,8 @@ def words_of(text):
 
 
 PART = "one of the region's threads"
+SHARES = {"turns of the loop": "between turns of the loop", "a section": "between sections"}    # and what is between
+GROUPS = ("the loop", "the sections")
 
 
 def of_regions(words):
@@ -35,13 +37,23 @@ def of_regions(words):
 
 
 def after(what, comment):
-    if comment.startswith("the barrier"):
+    construct, at, place = comment.partition(" at ")
+    if what == "creating a task" and construct in SHARES:
+        return SHARES[construct] + at + place
+    if comment.startswith("the barrier") or what == "taskgroup" and construct in GROUPS:
         return "after " + comment
     if comment.startswith(PART) and what == "creating a task":
         return "starting " + comment
     if comment:
         return "after %s at %s" % (what, comment)
     return "after " + what if what == "creating a task" else "after a " + what
+
+
+def of_task(comment):
+    if comment.partition(" at ")[0] in SHARES:
+        return comment
+    begin = "code of " if comment.startswith(PART) else "task at "
+    return begin + comment if comment else "a task"
 
 
 def places_of(text):
@@ -53,8 +65,7 @@ def places_of(text):
                 pass
             blocks.append((kind, found[1]))
             if kind == "task":
-                begin = "code of " if found[1].startswith(PART) else "task at "
-                names.append(begin + found[1] if found[1] else "a task")
+                names.append(of_task(found[1]))
         elif kind == "}":
             kind, comment = blocks.pop()
             names.append(after(AFTER[kind], comment))

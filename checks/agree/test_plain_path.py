@@ -37,6 +37,13 @@ class Plain(unittest.TestCase):
             "after the barrier of the region", "code of one of the region's threads",
             "starting one of the region's threads", "after the barrier of the region at a.c:5"])
 
+    def test_turns_and_sections(self):
+        loop = "taskgroup {  # the loop at a.c:5\n task {  # turns of the loop at a.c:5\n }\n}\n"
+        section = "taskgroup {  # the sections\n task {  # a section\n }\n}\n"
+        self.assertEqual(places_of("omptasks 1\n" + loop + section)[1:], [
+            "turns of the loop at a.c:5", "between turns of the loop at a.c:5", "after the loop at a.c:5",
+            "a section", "between sections", "after the sections"])
+
     def test_sums(self):
         costs, _, chain = rows_of(TOLD)
         self.assertEqual(sums_by_place(TEXT, costs, chain)[-2:],

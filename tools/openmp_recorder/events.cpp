@@ -8,15 +8,16 @@ uint32_t number_of(const Event &event, const Region &region) {
   return event.taken_back ? none : number_in_text(*event.task, event.segment, region);
 }
 
-// The pieces of a chunk, one after the other; between them its part makes the next one, at once.
+// The pieces of a chunk, one after the other; their part makes all of them where the first begins.
 size_t divide_among_pieces(const Task &chunk, uint32_t first, std::vector<SegmentTime> &times) {
   SegmentTime all = times[first];
-  int64_t took = all.end - all.begin, pieces = chunk.pieces;
+  int64_t took = all.end - all.begin, pieces = chunk.pieces, begin = all.begin;
   for (int64_t i = 0; i < pieces; i++) {
     int64_t end = all.begin + took / pieces * (i + 1) + took % pieces * (i + 1) / pieces;
     SegmentTime &piece = times[first + 2 * static_cast<size_t>(i)];
-    piece = {all.worker, i ? times[first + 2 * static_cast<size_t>(i) - 1].end : all.begin, end};
-    if (i + 1 < pieces) times[first + 2 * static_cast<size_t>(i) + 1] = {all.worker, end, end};
+    piece = {all.worker, begin, end};
+    begin = end;
+    if (i + 1 < pieces) times[first + 2 * static_cast<size_t>(i) + 1] = {all.worker, all.begin, all.begin};
   }
   return 2 * static_cast<size_t>(pieces) - 1;
 }

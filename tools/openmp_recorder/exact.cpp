@@ -98,6 +98,7 @@ Task &Folder::fresh(const Task &like) {
   t.part = like.part;
   t.code = like.code;
   t.of_loop = like.of_loop;
+  t.origin = like.origin;
   return t;
 }
 

@@ -74,7 +74,9 @@ void Head::first_lines(const Region &region, const Recording &recording) {
 void Head::whole(const WholeProgram &program) {
   Object told;
   told.put("regions", program.regions);
-  if (program.pieces) told.put("loops", program.loops).put("pieces", program.pieces);
+  if (program.pieces) told.put("loops", program.loops);
+  if (program.pieces && program.sections) told.put("sections", program.sections);
+  if (program.pieces) told.put("pieces", program.pieces);
   if (program.pieces && program.least_piece < INT64_MAX) told.put("together below", program.least_piece);
   line("whole program", told);
 }

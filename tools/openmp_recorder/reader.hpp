@@ -45,6 +45,7 @@ struct ImplicitTask {
   Chunk *last = nullptr;  // that began
   size_t left = 0;  // the event with which the part was left for it
   bool in_group = false;  // of the chunks
+  int64_t since = 0;  // the first of them, on the wall clock
   bool all_turns = false;  // are taken to be the chunk
   bool kept = false;  // the rest of the loop is code of the part
   std::unique_ptr<Turns> turns;  // of the loop, where they wait for each other
@@ -177,6 +178,7 @@ class Reader {
   ImplicitTask *in_loop();
   void divided_begin();
   void chunk_begin();
+  void tell_between(Task *t, const ImplicitTask &own);
   void begin_chunk(ImplicitTask &own, uint64_t turns);
   void join_turns(const ImplicitTask &own);
   void end_chunk(ImplicitTask &own);

@@ -244,6 +244,10 @@ std::string offer_in_json(const Offer &offer) {
   return told.end();
 }
 
+bool has_pieces_of_loops(const Region &region) {
+  return std::any_of(region.tasks.begin(), region.tasks.end(), [](const Task &t) { return t.origin != Origin::Task; });
+}
+
 // Folds that fit a part of a region say nothing of the whole.
 void Reporter::tell_advice(Region &region, const std::string &file, const Excess &over) {
   Line line("too large");
@@ -262,6 +266,7 @@ void Reporter::tell_advice(Region &region, const std::string &file, const Excess
         .put("work", advice.work)
         .put("span", advice.span)
         .put("exact", advice.exact)
+        .put("pieces of loops", has_pieces_of_loops(region))
         .put_bare("offers", "[" + offers + "]");
   }
 }

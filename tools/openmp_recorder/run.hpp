@@ -150,7 +150,7 @@ inline Region &home(Region &region) { return region.whole ? *region.whole : regi
 // The whole program, where that is asked for.
 struct WholeProgram : Region {
   const Log *first = nullptr;  // the thread that meets the runtime first, whose code the root is
-  uint64_t regions = 0, loops = 0, pieces = 0;
+  uint64_t regions = 0, loops = 0, sections = 0, pieces = 0;  // `sections` by the construct
   int64_t least_piece = 0;  // of loops, in nanoseconds
   int64_t recorder = 0;  // its own time outside of regions, on the first thread
   int64_t serial = 0, in_loops = 0;  // of the cost: outside of regions; in chunks of loops

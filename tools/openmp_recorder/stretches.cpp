@@ -15,7 +15,7 @@ namespace {
 // Of a task in the file; its steps and items follow, of which a creation has the number of what it makes.
 struct Stored {
   uint64_t code : 48;
-  uint64_t part : 1, undeferred : 1, of_loop : 1, is_piece : 1;
+  uint64_t part : 1, undeferred : 1, of_loop : 1, is_piece : 1, origin : 2;
   uint32_t steps, items;
 };
 static_assert(sizeof(Stored) == 16, "a program has millions");
@@ -53,6 +53,7 @@ void Stretches::put_task(const Task &t) {
                 t.undeferred,
                 t.of_loop,
                 t.pieces != 0,
+                static_cast<uint64_t>(t.origin),
                 t.steps.size(),
                 t.items.size()};
   write(&stored, sizeof stored);
@@ -81,6 +82,7 @@ void Stretches::get_task(Task &t, const std::vector<Task *> &all) {
   t.undeferred = stored.undeferred;
   t.of_loop = stored.of_loop;
   t.pieces = stored.is_piece;
+  t.origin = static_cast<Origin>(stored.origin);
   t.steps.reserve(stored.steps);
   for (uint32_t i = 0; i < stored.steps; i++) {
     Step step = Step::work(0);

@@ -38,6 +38,9 @@ enum class Fold : uint8_t {
   Joined  // the task is `work` of the next of its siblings
 };
 
+// What a task of the text is in the program.
+enum class Origin : uint8_t { Task, Turns, Section };  // `Turns` of a worksharing loop
+
 // An item of `depend`, whose location has a number in the region.
 struct Item {
   uint64_t location : 56;
@@ -63,6 +66,7 @@ struct Task {
   bool of_loop = false;  // a taskloop's, or a chunk of a loop
   bool shown = true;  // while it is written
   Fold fold = Fold::No;
+  Origin origin = Origin::Task;
   uint32_t pieces = 0;  // of a loop's chunk: so many tasks that share its cost stand for it; 0 for what is none
   unsigned segment = 0;  // the one that is open, counted within the task
   unsigned children = 0;

@@ -47,6 +47,7 @@ class Writer {
     std::string_view place;
   };
   std::array<Asked, recent_slots> asked;  // the last of each slot
+  std::string what_and_where;
 
   void begin_line(unsigned indent);
   void end_line(std::string_view comment = {});
@@ -61,7 +62,9 @@ class Writer {
   void pieces(Place &p, Task &chunk);
   uint32_t name_of(const Item &item);
   std::string_view place_at(const void *code);
+  std::string_view at_place(std::string_view what, const void *code);
   std::string_view place_of(const Task &t);
+  std::string_view place_of_group(const Place &p, const Step &begin);
   void end_task_line(const Task &t);
   void enter(Task &t, unsigned indent);
   void leave();
@@ -180,7 +183,27 @@ std::string_view Writer::place_at(const void *code) {
   return last.place;
 }
 
-std::string_view Writer::place_of(const Task &t) { return t.part ? of_a_thread : place_at(t.code); }
+// Such as `turns of the loop at tri.c:9`, until it is asked for again.
+std::string_view Writer::at_place(std::string_view what, const void *code) {
+  what_and_where = what;
+  std::string_view place = place_at(code);
+  if (!place.empty()) what_and_where.append(" at ").append(place);
+  return what_and_where;
+}
+
+std::string_view Writer::place_of(const Task &t) {
+  if (t.part) return of_a_thread;
+  if (t.origin == Origin::Task) return place_at(t.code);
+  return at_place(t.origin == Origin::Turns ? "turns of the loop" : "a section", t.code);
+}
+
+// A group of turns or sections begins with one of them, and has its place.
+std::string_view Writer::place_of_group(const Place &p, const Step &begin) {
+  bool is_empty = p.next == p.task.steps.size() || p.task.steps[p.next].kind != Kind::Create;
+  const Task *first = is_empty ? nullptr : p.task.steps[p.next].child();
+  if (!first || first->origin == Origin::Task || first->code != begin.code()) return place_at(begin.code());
+  return at_place(first->origin == Origin::Turns ? "the loop" : "the sections", begin.code());
+}
 
 void Writer::end_task_line(const Task &t) {
   if (!t.stands_for) return end_line(place_of(t));
@@ -195,8 +218,9 @@ void Writer::pieces(Place &p, Task &chunk) {
     region.numbers.push_back(opened);
   }
   uint64_t cost = static_cast<uint64_t>(rounded(chunk.total, style.unit)), longer = cost % chunk.pieces;
+  std::string_view place = place_of(chunk);
   for (uint32_t i = 0; i < chunk.pieces; i++) {
-    line(p.indent, "task {", place_at(chunk.code));
+    line(p.indent, "task {", place);
     begin_line(p.indent + 1);
     piece.put("work ");
     piece.number(cost / chunk.pieces + (i < longer));
@@ -230,7 +254,7 @@ void Writer::step(Place &p, const Step &step) {
       line(p.indent, "taskwait", place_at(step.code()));
       p.segment++;
       return open(p);
-    case Kind::GroupBegin: return line(p.indent++, "taskgroup {", place_at(step.code()));
+    case Kind::GroupBegin: return line(p.indent++, "taskgroup {", place_of_group(p, step));
     case Kind::GroupEnd:
       line(--p.indent, "}");
       p.segment++;

@@ -75,6 +75,7 @@ void Reader::begin_piece(ImplicitTask &own, bool of_next_turn) {
   piece->part = false;
   piece->pieces = 1;
   piece->of_loop = true;
+  piece->origin = Origin::Turns;
   piece->code = own.loop->code;
   if (of_next_turn) {
     own.turns->turn = made_location();

@@ -182,18 +182,28 @@ void Reader::chunk_begin() {
   begin_chunk(*own, r->task | uint64_t{r->other} << 32);
 }
 
+// In the text the part makes all chunks that its thread runs. It takes no time, and waits for none of them: so it is
+// told where the first began, from where on the text has them ready.
+void Reader::tell_between(Task *t, const ImplicitTask &own) {
+  put_empty_segment(t, t->segment, own.since, static_cast<uint16_t>(t->on->worker));
+}
+
 void Reader::begin_chunk(ImplicitTask &own, uint64_t turns) {
   Task *t = current_part();
   end_chunk(own);
   charge(t);
-  if (!std::exchange(own.in_group, true)) begin_group(t, own.loop->code);
-  if (!t->running) tell_empty_segment(t);
+  if (!std::exchange(own.in_group, true)) {
+    begin_group(t, own.loop->code);
+    own.since = r->wall;
+  }
+  if (!t->running) tell_between(t, own);
   Task *chunk = own.chunk = create(t, false);
   t->region->chunks++;
   own.loop->told += turns;
   own.left = run.whole->events.size() - 1;
   chunk->code = own.loop->code;
   chunk->of_loop = true;
+  chunk->origin = own.loop->what == Divided::Sections ? Origin::Section : Origin::Turns;
   chunk->pieces = 1;
   own.last = &run.whole->chunk_list.emplace_back();
   own.last->loop = own.loop;
@@ -216,7 +226,7 @@ void Reader::divided_end() {
   if (r->told() == Told::DividedEnd) join_turns(*own);
   end_chunk(*own);
   if (own->in_group) {
-    if (!t->running) tell_empty_segment(t);
+    if (!t->running) tell_between(t, *own);
     end_group(t, nullptr);
     begin(t);
   }

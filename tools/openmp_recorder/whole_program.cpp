@@ -44,13 +44,13 @@ void take_over(WholeProgram &whole, const Region &region) {
 void count_loops(WholeProgram &whole) {
   for (const Loop &loop : whole.loop_list)
     if (loop.kept || (loop.count && !loop.told)) whole.divided[loop.what].add(loop.code);
-    else whole.loops++;
+    else (loop.what == Divided::Loops ? whole.loops : whole.sections)++;
 }
 }  // namespace
 
 void count_parts(WholeProgram &whole, const Region &region) {
   for (const Part &part : region.parts)
-    if (part.task->pieces) whole.in_loops += own_cost(*part.task);
+    if (part.task->pieces) whole.in_loops += own_cost(*part.task), whole.pieces++;
     else if (!part.task->children) whole.in_parts += own_cost(*part.task);
 }
 

@@ -40,7 +40,7 @@ def account_lines(found):
     run = ", in the run with the median work" if found.of_runs else ""
     lines = ["of %d x %s%s: %s in your code%s%s (measured)" % (
                  found.threads, lasting(found.elapsed), run, share(found.code), recorder, held_up_words(found, share)),
-             "%s idle though a task was ready%s (measured)" % idle(found.delayed, found.delayed_by, ": beside "),
+             "%s idle though code was ready%s (measured)" % idle(found.delayed, found.delayed_by, ": beside "),
              "%s idle with nothing ready%s (measured)" % idle(found.starved, found.starved_by, ": there ran "),
              "%s before the %s code and after it (measured); %s" % (
                  share(found.outside), "program's" if found.of_whole else "region's", PROVED)]

@@ -8,15 +8,18 @@ import os
 from dataclasses import dataclass
 from typing import Tuple
 
-from spanprof.claims import lock_binds, pieces_in, time_of_program
+from spanprof.claims import against_end, lock_binds, pieces_in, tasks_made, time_of_program
 from spanprof.regions import whole_beside
-from spanprof.text import code_at
+from spanprof.text import SECTION, TURNS, code_at, is_share
 
 MUCH = 0.25             # of the threads' time, from which on it is a cause
 SOME = 0.1              # of the greedy run's, from which on another shape may help
 MOST = 0.5              # of the program's time, from which on it is told before all else
 SMALL = 5000            # nanoseconds: what creating and starting a task costs is no longer little beside such a task
 GREEDY = "the greedy run of the recorded text"
+AS_TURNS = "the %s shared out otherwise, such as by schedule(dynamic) or in smaller chunks"
+AS_TASKS = "the sections%s shared out otherwise, such as in tasks"
+TAKEN_NEXT = "%s: %s, where a thread that idles takes the next, ends %s sooner than this run (%s)"
 ALL = ("drop-wait", "drop-depend", "drop-name", "split", "task", "join", "cutoff", "factor")
 
 
@@ -51,8 +54,8 @@ class Shares:
     @property
     def kept(self):
         """What `delayed` is."""
-        return "idled though a task was ready" if self.is_measured else \
-            "were off the processor, or idled though a task was ready"
+        return "idled though code was ready" if self.is_measured else \
+            "were off the processor, or idled though code was ready"
 
 
 def shares_of_account(found):
@@ -115,7 +118,7 @@ def after_that(answers):
 
 def nanoseconds_of_a_task(answers):
     """On average; 0 where there are no more tasks than threads, or none of them has a time."""
-    tasks = answers.tasks - pieces_in(answers.head)
+    tasks = tasks_made(answers)
     return (answers.head.nanoseconds or 0) * answers.work / tasks if tasks > answers.head.threads else 0
 
 
@@ -142,6 +145,30 @@ def serial_code(answers, shares, account):
                                                         shares.how), ALL)
 
 
+def sooner_by_greedy(answers):
+    """By which share of its time the run took longer than the greedy run of its text on as many threads."""
+    return 1 - answers.curve[answers.head.threads]["end"] / answers.head.elapsed
+
+
+def shared_out(answers, shares, account):
+    """Where the threads idled mostly beside turns of loops or sections that other threads were to run, and a greedy run
+    shares these out better."""
+    idle, sooner = account.delayed_by if account else {}, sooner_by_greedy(answers)
+    shared = {place: part for place, part in idle.items() if is_share(place)}
+    whole = sum(idle.values())
+    if not shared or sum(shared.values()) < MOST * whole or sooner < SOME:
+        return None
+    place, part = next(iter(shared.items()))
+    what, otherwise = ("turns of loops", AS_TURNS % place) if place.startswith(TURNS) else \
+        ("sections", AS_TASKS % place.removeprefix(SECTION))
+    return Cause("shared out", "how %s were shared out among the threads: for %s of their time they idled though code "
+                               "was ready, %s of it beside %s that others were to run (%s)" %
+                 (what, percent(shares.delayed), percent(part / whole), place, shares.how),
+                 instead=TAKEN_NEXT % (otherwise, GREEDY, percent(sooner), against_end(
+                     answers.head, answers.head.threads) or "measured, beside what is proved of the recorded text"),
+                 later=after_that(answers))
+
+
 def of_idle_threads(answers, shares, account):
     """By the largest part of the time in which the threads were not in code; None where that is not much."""
     largest = max(("starved", "delayed", "outside"), key=lambda name: getattr(shares, name))
@@ -152,19 +179,30 @@ def of_idle_threads(answers, shares, account):
                      (percent(shares.outside), shares.how), instead="none in this text")
     if largest == "starved":
         return serial_code(answers, shares, account) or Cause(
-            "shape", "too few tasks: for %s of the threads' time they idled with nothing ready%s (%s)" %
-            (percent(shares.starved), most_of_it(account.starved_by if account else {}, "while %s ran"), shares.how),
-            ALL)
+            "shape", "%s: for %s of the threads' time they idled with nothing ready%s (%s)" %
+            ("too few tasks" if tasks_made(answers) else "too little that can run at once", percent(shares.starved),
+             most_of_it(account.starved_by if account else {}, "while %s ran"), shares.how), ALL)
+    return shared_out(answers, shares, account) or small_tasks(answers, shares) or kept(answers, shares, account)
+
+
+def small_tasks(answers, shares):
     nanoseconds = nanoseconds_of_a_task(answers)
-    if 0 < nanoseconds < SMALL:
-        return Cause("small", "tasks too small: %.1f us of code each on average, and for %s of the threads' time they "
-                              "%s (%s)" % (nanoseconds / 1000, percent(shares.delayed), shares.kept, shares.how),
-                     ("join", "cutoff"))
-    beside = most_of_it(account.delayed_by if account else {}, "beside %s")
-    return Cause("kept", "the runtime or the machine: for %s of the threads' time they %s%s (%s)" %
-                 (percent(shares.delayed), shares.kept, beside, shares.how),
-                 instead="none of the program: record it on a machine with less to do, or on another runtime",
-                 later=after_that(answers))
+    return 0 < nanoseconds < SMALL and Cause(
+        "small", "tasks too small: %.1f us of code each on average, and for %s of the threads' time they %s (%s)" % (
+            nanoseconds / 1000, percent(shares.delayed), shares.kept, shares.how), ("join", "cutoff"))
+
+
+def kept(answers, shares, account):
+    """By the runtime or the machine; beside a greedy run it is not known whether by how loops were shared out."""
+    beside, what = most_of_it(account.delayed_by if account else {}, "beside %s"), "the runtime or the machine"
+    instead = "none of the program: record it on a machine with less to do, or on another runtime"
+    if pieces_in(answers.head) and not shares.is_measured:
+        beside += " or left to other threads"
+        what = "how %s were shared out, %s" % (answers.head.pieces_of, what)
+        instead = "%s shared out otherwise, if threads waited at their ends; else %s" % (
+            answers.head.pieces_of, instead)
+    return Cause("kept", "%s: for %s of the threads' time they %s%s (%s)" % (
+        what, percent(shares.delayed), shares.kept, beside, shares.how), instead=instead, later=after_that(answers))
 
 
 def balanced(shares, account):

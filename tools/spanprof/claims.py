@@ -54,6 +54,17 @@ def pieces_in(head):
     return 0 if is_folded(head) else head.pieces
 
 
+def pieces_words(head):
+    """How many, and of what; empty where there are none."""
+    pieces = pieces_in(head)
+    return "{:,} pieces of {}".format(pieces, head.pieces_of) if pieces else ""
+
+
+def tasks_made(answers):
+    """How many of the text's tasks the program makes."""
+    return max(0, answers.tasks - pieces_in(answers.head) - answers.parts)
+
+
 def is_of_one_thread(head):
     return head.threads == 1
 
@@ -94,6 +105,14 @@ def against_span(head):
 def against_parallelism(head):
     """What speaks against it that the program gains no more than the text's work / span."""
     return why_not_of_more_threads(head) or (OTHERWISE % "more" if gain_may_be_more(head) else "")
+
+
+def against_end(head, threads):
+    """Why a greedy run of the text, or of a changed one, need not end as one of the program; empty where nothing is
+    known."""
+    if not speaks_of(head, threads):
+        return why_not_of_more_threads(head)
+    return OTHERWISE % "otherwise" if gain_may_be_more(head) or gain_may_be_less(head) else ""
 
 
 def speaks_of(head, threads):

@@ -38,6 +38,8 @@ class Head:
     region: str = ""        # the place of the parallel region
     whole: str = ""         # where the text is of the whole program: how many regions and loops, in words
     pieces: int = 0         # of its loops and sections
+    pieces_of: str = "loops"    # which of both there are
+    parts: int = 0          # of its threads' own code, beside each other
     number: str = ""        # its place in time among the regions with tasks: `2 of 5`
     date: str = ""
     threads: Optional[int] = None
@@ -129,12 +131,20 @@ def read_region(head, told):
     head.region, head.number = words(told.get("at", "")), "%d of %d" % (number(told["number"]), number(told["of"]))
 
 
+def shared_out(loops, sections):
+    """Names of how many there are of both, and of what these are."""
+    names = ["loops"] * bool(loops or not sections) + ["sections"] * bool(sections)
+    counts = [counted(loops, "loop")] * bool(loops or not sections) + \
+        [counted(sections, "`sections` construct")] * bool(sections)
+    return " and ".join(counts), " and ".join(names)
+
+
 def read_whole(head, told):
     """Also in words: how loops are written, which on other threads would be cut otherwise."""
     whole, pieces = counted(number(told["regions"]), "region"), number(told.get("pieces", 0))
     if pieces:
-        whole += ", %s in %s; a chunk of k turns is k equal pieces" % (
-            counted(number(told["loops"]), "loop"), counted(pieces, "piece"))
+        counts, head.pieces_of = shared_out(number(told["loops"]), number(told.get("sections", 0)))
+        whole += ", %s in %s; a chunk of k turns is k equal pieces" % (counts, counted(pieces, "piece"))
     if "together below" in told:
         whole += ", together where they are shorter than %d ns" % number(told["together below"])
     head.whole, head.pieces = whole, pieces
@@ -147,7 +157,7 @@ def read_coverage(head, told):
 
 def read_divided(head, told):
     if words(told["what"]) == "code":
-        head.beside = number(told["beside"])
+        head.beside, head.parts = number(told["beside"]), number(told.get("parts", 0))
     else:
         head.divided.append("%s, %s" % (told["what"], seen(told)))
 

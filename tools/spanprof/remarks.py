@@ -32,7 +32,7 @@ WORDS = {
     "told late": ("untied task whose end was told late", ""),
     "told elsewhere": ("untied task whose end another thread told", ""),
     "parts left out": ("parts without tasks, left out", ""),
-    "equal turns": ("chunk of several turns of a loop, written as equal pieces", ""),
+    "equal turns": ("chunk of several turns or sections, written as equal pieces", ""),
     "turns together": ("chunk with more turns than pieces", ""),
     "other thread": ("thread that the program made itself, beside the first one from its beginning", ""),
     "folded": ("folded task", "which is an upper bound"),

@@ -16,6 +16,8 @@ LONGEST_KNOWN = 1000    # bytes of such a line
 OF_A_THREAD = "one of the region's threads"     # as the recorder names a task that stands for a thread's own code
 BARRIER = "barrier of the region"   # a group of such tasks, in whose end their threads meet; in the program it is none
 BEGINNING = "the beginning"     # the code before all constructs
+TURNS, SECTION = "turns of the loop", "a section"   # as the recorder names tasks that stand for these
+LOOP, SECTIONS = "the loop", "the sections"     # and the groups around them; the program has no such task or group
 CALLED_FROM = " called from "   # behind a task's place, where several paths of calls led to its creation
 TOKEN = re.compile(r"[A-Za-z0-9_]+|[^\sA-Za-z0-9_]")
 DEPEND = re.compile(r"depend\((\w+):([^)]*)\)")
@@ -37,6 +39,10 @@ class Segment:
             return "starting " + self.after_place
         if self.after_place.startswith(BARRIER):
             return "after the " + self.after_place
+        if self.after == "creating a task" and is_share(self.after_place):
+            return "between " + re.sub("^a section", "sections", self.after_place)
+        if self.after == "taskgroup" and is_shared_out(self.after_place):
+            return "after " + self.after_place
         if self.after:
             after = "after " + self.after if self.after_place or " " in self.after else "after a " + self.after
             return after + " at " + self.after_place if self.after_place else after
@@ -47,7 +53,27 @@ class Segment:
 
 def code_at(place):
     """A place's name as a noun."""
-    return "the code " + place if place.startswith("after ") else place
+    return "the code " + place if place.startswith(("after ", "between ")) else place
+
+
+def is_one_of(names, words):
+    """Whether these are one of the names, alone or with what follows it."""
+    return words.startswith(names) and words.partition(" at ")[0].partition(",")[0] in names
+
+
+def is_share(words):
+    """Whether the comment, or the name, is that of a task that stands for turns of a loop, or for a section."""
+    return is_one_of((TURNS, SECTION), words)
+
+
+def is_programs(comment):
+    """Whether a task of this comment is one that the program makes."""
+    return not (comment.startswith(OF_A_THREAD) or is_share(comment))
+
+
+def is_shared_out(words):
+    """The same of the group around all of them that one thread ran."""
+    return is_one_of((LOOP, SECTIONS), words)
 
 
 def lines_of(text):
@@ -93,6 +119,8 @@ class Statement(NamedTuple):
 def named(kind, comment):
     if comment.startswith((OF_A_THREAD, BARRIER)):
         return ("code of " if kind == "task" else "the ") + comment
+    if kind == "task" and is_share(comment) or kind == "taskgroup" and is_shared_out(comment):
+        return comment
     return "%s at %s" % (kind, comment) if comment else "a " + kind
 
 

@@ -55,6 +55,7 @@ SHAPES = (
 )
 AROUND = {"loop": 40, "steps": 1, "all_kinds": 15, "reduction": 4, "outside": 16}  # code before all regions and after
 OWN_THREADS = {"nested": 4}  # that the program itself asks for
+WITH_TASKS = ("all_kinds", "nested", "outside")
 WAITING = ("doacross", "before_the_wait", "wavefront")  # turns for each other
 MANY = 1024
 TOLERANCE = 0.05

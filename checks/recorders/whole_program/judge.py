@@ -10,7 +10,7 @@ import subprocess
 import sys
 import tempfile
 
-from built import AROUND, OWN_THREADS, SHAPES, SLACK, WAITING, beginning_with, faults_of_numbers
+from built import AROUND, OWN_THREADS, SHAPES, SLACK, WAITING, WITH_TASKS, beginning_with, faults_of_numbers
 from judging import faults, refuted
 from sentences import read
 
@@ -22,6 +22,7 @@ RECORD = os.path.join(TOP, "tools", "spanprof-record")
 SPANPROF = os.environ.get("SPANPROF", os.path.join(TOP, "crates/spanprof/out/spanprof"))
 THREADS = (1, 2, 4, 8)
 COVERED = 95.0
+OF_TASKS = re.compile(r"\b(task at|taskgroup|too few tasks|tasks too small|depend items|neighbours are one task)\b")
 
 
 def ended(words, variables=None):
@@ -79,12 +80,18 @@ def told_threads(shape):
     return [threads for threads in THREADS if shape.name not in WAITING or threads <= os.cpu_count()]
 
 
+def told_of_tasks(lines, shape):
+    """Of a program that makes none what the summary tells of its tasks."""
+    return ["it has no tasks: " + line for line in lines if shape.name not in WITH_TASKS and OF_TASKS.search(line)]
+
+
 def judge(program, shape, threads, folder, runs):
     text, lines = record(program, shape.name, threads, folder)
     before = of_every_program(text, shape)
     shape = beginning_with(shape, before)
     summary = read(lines)
     found = list(faults_of_numbers(shape, threads, *numbers(text))) + faults(summary, shape, threads)
+    found += told_of_tasks(lines, shape)
     if before < -SLACK:
         found.append("%.2f is missing of what is around all regions" % -before)
     for others, took in runs.items():

@@ -10,6 +10,7 @@
 
 namespace {
 const std::string part = "task {  # one of the region's threads\n";
+const std::string turns = "task {  # turns of the loop\n", of_turns = "taskgroup {  # the loop\n";
 
 std::string parts(int64_t cost, unsigned count = 1) {
   std::string words;
@@ -22,7 +23,7 @@ std::string group(const std::string &within) { return "taskgroup {\n" + within +
 std::string pieces(unsigned count, int64_t cost, const std::string &indent = "      ") {
   std::string words;
   for (unsigned i = 0; i < count; i++)
-    words += indent + "task {\n" + indent + "  work " + std::to_string(cost) + "\n" + indent + "}\n";
+    words += indent + turns + indent + "  work " + std::to_string(cost) + "\n" + indent + "}\n";
   return words;
 }
 }  // namespace
@@ -63,12 +64,12 @@ TEST(a_region_without_code_is_no_end_of_a_segment) {
   EXPECT(made.times(), "0 0 0 107\n");
 }
 
-TEST(pieces_of_a_chunk_share_its_time) {
+TEST(pieces_of_a_chunk_share_its_time_and_are_made_at_once) {
   Program made;
   loop(made.after(4), 0, 4, {{3, 6 * us}, {1, 5 * us}});
   end_region(made);
-  EXPECT(made.times(), "0 0 0 100\n1 0 100 104\n2 0 104 2104\n3 0 2104 2104\n4 0 2104 4104\n5 0 4104 4104\n"
-                       "6 0 4104 6104\n7 0 6104 6104\n8 0 6104 11104\n9 0 11104 11104\n10 0 11104 11104\n"
+  EXPECT(made.times(), "0 0 0 100\n1 0 100 104\n2 0 104 2104\n3 0 104 104\n4 0 2104 4104\n5 0 104 104\n"
+                       "6 0 4104 6104\n7 0 104 104\n8 0 6104 11104\n9 0 104 104\n10 0 11104 11104\n"
                        "11 0 100 100\n12 0 11104 11104\n");
 }
 
@@ -77,7 +78,7 @@ TEST(chunks_that_are_written_together_ran_from_the_first_to_the_last) {
   loop(made.after(4), 0, 3, {{1, 300}, {1, 400}, {1, 500}});
   made.barrier(1, 2);
   end_region(made);
-  EXPECT(made.times(), "0 0 0 100\n1 0 100 104\n2 0 104 1304\n3 0 1304 1304\n4 0 1304 1304\n5 0 100 100\n"
+  EXPECT(made.times(), "0 0 0 100\n1 0 100 104\n2 0 104 1304\n3 0 104 104\n4 0 1304 1304\n5 0 100 100\n"
                        "6 1 100 1304\n7 0 100 100\n8 0 1304 1304\n");
 }
 
@@ -106,12 +107,33 @@ TEST(a_chunk_of_k_turns_is_k_pieces_of_its_cost) {
   end_region(made);
   std::string words = made.text();
   EXPECT_PART(words,
-              "  " + part + "    work 4\n    taskgroup {\n" + pieces(3, 2 * us) + pieces(1, 5 * us) + "    }\n  }\n");
+              "  " + part + "    work 4\n    " + of_turns + pieces(3, 2 * us) + pieces(1, 5 * us) + "    }\n  }\n");
   EXPECT(made.found.whole->root->total, 104 + 11 * us);
   EXPECT(span_of(*made.found.whole), 104 + 5 * us);
   EXPECT(made.found.whole->pieces, 4u);
   EXPECT(made.found.whole->remarks[Remark::EqualTurns].times, 1u);
   EXPECT(made.found.whole->remarks.count(Remark::TurnsTogether), 0u);
+}
+
+TEST(sections_are_told_from_loops) {
+  Program made;
+  made.add(0, Told::Divided, 1, 1, static_cast<unsigned>(Divided::Sections), 50).add(0, Told::Chunk, 1).after(2 * us);
+  end_region(made.add(0, Told::DividedEnd, 0, 1));
+  std::string words = "task {  # a section\n        work 2000\n      }\n    }\n";
+  EXPECT_PART(made.text(), "taskgroup {  # the sections\n      " + words);
+  EXPECT(made.found.whole->sections, 1u);
+  EXPECT(made.found.whole->loops, 0u);
+}
+
+TEST(turns_have_the_place_of_their_loop) {
+  Program made;
+  loop(made, 0, 2, {{2, 4 * us}});
+  end_region(made);
+  made.whole();
+  Places places;
+  places.put(reinterpret_cast<const void *>(50), "tri.c:9");
+  std::string words = program_text(*made.found.whole, {}, places).words;
+  EXPECT_PART(words, "taskgroup {  # the loop at tri.c:9\n      task {  # turns of the loop at tri.c:9\n");
 }
 
 TEST(the_head_tells_what_a_whole_programs_text_has) {
@@ -142,7 +164,7 @@ TEST(turns_of_less_than_a_microsecond_are_written_together) {
   Program made;
   loop(made, 0, 1000, {{1000, 20 * us}});
   end_region(made);
-  EXPECT_PART(made.text(), "taskgroup {\n" + pieces(20, us) + "    }\n");
+  EXPECT_PART(made.text(), of_turns + pieces(20, us) + "    }\n");
   EXPECT(made.found.whole->remarks[Remark::TurnsTogether].times, 1u);  // of a span of 120 ns
 }
 
@@ -150,7 +172,7 @@ TEST(turns_that_joined_a_chunk_are_told_after_it) {
   Program made;
   made.add(0, Told::Divided, 5, 1, 0, 50).add(0, Told::Chunk, 1).after(6 * us).add(0, Told::Chunk, 1, 0, 0, 2);
   end_region(made.after(2 * us).add(0, Told::DividedEnd, 0, 0, 0, 1));
-  EXPECT_PART(made.text(), "taskgroup {\n" + pieces(3, 2 * us) + pieces(2, us));
+  EXPECT_PART(made.text(), of_turns + pieces(3, 2 * us) + pieces(2, us));
 }
 
 // Of such a loop the compiler asks for the thread's first chunk alone.
@@ -159,7 +181,7 @@ TEST(turns_that_are_not_told_are_counted_by_the_loop) {
   for (unsigned thread : {0, 1}) loop(made, thread, 8, {{1, 8 * us}});
   end_region(made, 2);
   std::string words = made.text();
-  EXPECT_PART(words, "taskgroup {\n" + pieces(4, 2 * us) + "    }\n");
+  EXPECT_PART(words, of_turns + pieces(4, 2 * us) + "    }\n");
   EXPECT(made.found.whole->pieces, 8u);
 }
 
@@ -168,7 +190,7 @@ TEST(a_chunk_that_makes_tasks_is_code_of_its_part) {
   made.add(0, Told::Divided, 2, 1, 0, 50).add(0, Told::Chunk, 1).after(2 * us).add(0, Told::Chunk, 1).after(3 * us);
   made.create(0, 1, 3).after(4 * us).add(0, Told::DividedEnd, 0, 1);
   end_region(made.run(0, 1, 3, 5 * us));
-  EXPECT_PART(made.text(), "    taskgroup {\n" + pieces(1, 2 * us) + "    }\n    work 3000\n" +
+  EXPECT_PART(made.text(), "    " + of_turns + pieces(1, 2 * us) + "    }\n    work 3000\n" +
                                "    task {\n      work 5000\n    }\n    work 4000\n");
   EXPECT(made.found.whole->divided[Divided::Loops].times, 1u);
   EXPECT(made.found.whole->loops, 0u);
@@ -178,7 +200,7 @@ TEST(of_one_thread_all_turns_are_one_chunk_where_none_is_told) {
   Program made;
   made.add(0, Told::Divided, 4, 1, 0, 50).after(8 * us).add(0, Told::DividedEnd, 0, 1);
   end_region(made);
-  EXPECT_PART(made.text(), "    taskgroup {\n" + pieces(4, 2 * us) + "    }\n");
+  EXPECT_PART(made.text(), "    " + of_turns + pieces(4, 2 * us) + "    }\n");
 }
 
 TEST(a_loop_whose_chunks_are_not_told_stays_as_it_was_divided) {
@@ -278,7 +300,7 @@ TEST(chunks_that_are_shorter_than_a_piece_are_one_with_those_after_them) {
   loop(made, 0, 7, {{1, 400}, {1, 400}, {1, 400}, {1, 3 * us}, {1, 100}, {1, 200}, {1, 2 * us}});
   end_region(made);
   EXPECT_PART(made.text(),
-              "taskgroup {\n" + pieces(1, 1200) + pieces(1, 3 * us) + pieces(1, 300) + pieces(1, 2 * us) + "    }\n");
+              of_turns + pieces(1, 1200) + pieces(1, 3 * us) + pieces(1, 300) + pieces(1, 2 * us) + "    }\n");
   EXPECT(made.found.whole->root->total, 100 + 6500);
   EXPECT(made.found.whole->pieces, 4u);
 }
@@ -305,7 +327,7 @@ TEST(turns_that_wait_for_each_other_are_tasks_with_depend) {
   end_region(made, 2);
   std::string words = made.text();
   EXPECT(span_of(*made.found.whole), 100 + 9 * us);
-  EXPECT_PART(words, "  task depend(in: a0) depend(inout: a2) depend(out: a3) {\n    work 5000\n");
+  EXPECT_PART(words, "  task depend(in: a0) depend(inout: a2) depend(out: a3) {  # turns of the loop\n    work 5000\n");
   EXPECT(made.found.whole->root->total, 100 + 9 * us + 1 * us + 4 * us);  // the last: what the first thread does then
   EXPECT(made.found.whole->remarks[Remark::WaitsForTurns].times, 1u);
 }
@@ -321,5 +343,6 @@ TEST(turns_that_take_a_lock_in_order_are_a_chain_there) {
   }
   made.add(0, Told::ParallelEnd, 0, 1);
   made.whole();
+  EXPECT(made.found.whole->pieces, 6u);
   EXPECT(span_of(*made.found.whole), 100 + 5 * us + 2 * us);  // the second thread is told to come there after 5
 }

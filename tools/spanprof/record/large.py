@@ -4,7 +4,7 @@ from dataclasses import dataclass, field
 
 from spanprof.account import account_beside, sums_of
 from spanprof.account_words import lines_of
-from spanprof.claims import pieces_in
+from spanprof.claims import pieces_in, pieces_words
 from spanprof.errors import Fault
 from spanprof.head import Head, head_text, read_head, with_function
 from spanprof.measure import HOW, measure
@@ -57,10 +57,9 @@ def place_lines(answered):
 
 
 def large_summary(answered, news=(), verdict="", program=None):
-    pieces = pieces_in(answered.head)
-    counts = [grouped(answered.tasks - pieces)] + ["%s pieces of loops" % grouped(pieces)] * bool(pieces)
+    counts = [grouped(answered.tasks - pieces_in(answered.head)), pieces_words(answered.head)]
     tasks = "%s, in %s segments (recorded)%s" % (
-        ", and ".join(counts), grouped(answered.segments), "; " + verdict if verdict else "")
+        ", and ".join(filter(None, counts)), grouped(answered.segments), "; " + verdict if verdict else "")
     heading, *lines = first_lines(answered, tasks, takes_several=False)
     bounded = Bounded(answered.head, answered.work, answered.span, answered.tasks)
     return [heading] + lead_lines(large_lead(bounded, ASK)) + program_lines(program) + lines \

@@ -10,7 +10,7 @@ WHAT = {
     "inflation": "code on %(threads)d threads, recorded, less that on one",
     "recorder": "the recorder's own time in code",
     "held up": "in code, off the processor, asleep or waiting for locks",
-    "delayed": "idle though a task was ready",
+    "delayed": "idle though code was ready",
     "starved": "idle with nothing ready",
     "outside": "before the region's code and after it"}
 OF_PIECES = "the pieces of loops of a whole program are not timed one by one"

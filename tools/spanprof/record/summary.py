@@ -4,8 +4,8 @@ A person reads it to decide about a program, and what is proved is proved of the
 says of what, and where the head tells that the text is not the program the line says that in its place.
 """
 from spanprof.claims import (OTHERWISE, against_parallelism, against_span, gain_may_be_less, gain_may_be_more,
-                             is_divided, is_of_one_thread, is_partial, least_end, lock_binds, pieces_in, share_covered,
-                             tenths, why_not_of_more_threads)
+                             is_divided, is_of_one_thread, is_partial, least_end, lock_binds, pieces_words,
+                             share_covered, tasks_made, tenths, why_not_of_more_threads)
 from spanprof.head import part_of_program, with_function
 from spanprof.record.program_lines import program_line
 from spanprof.report.figures import rounded_down, rounded_up
@@ -49,11 +49,9 @@ def covers_line(head):
 
 def tasks_line(answers, verdict):
     head, whose = answers.head, "regions'" if answers.head.whole else "region's"
-    pieces = pieces_in(head)
-    parts = [(pieces, "pieces of loops"), (answers.parts, "parts of the %s own code" % whose)]
-    told = ["%s %s" % (grouped(count), what) for count, what in parts if count]
+    parts = "%s parts of the %s own code" % (grouped(answers.parts), whose) if answers.parts else ""
     return "%s, in %s segments (recorded)%s" % (
-        ", and ".join([grouped(answers.tasks - answers.parts - pieces)] + told),
+        ", and ".join(filter(None, [grouped(tasks_made(answers)), pieces_words(head), parts])),
         grouped(answers.span_numbers["segments"]), "; " + verdict if verdict else "")
 
 

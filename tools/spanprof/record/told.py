@@ -41,12 +41,14 @@ def text(told):
 
 def folds(told):
     """What can be done with a region that is too large."""
-    out = "parallelism is %s; make the program's own cutoff or blocks larger" % parallelism(told["work"], told["span"])
-    if not told["offers"]:
-        out += "; no fold fits, since tasks with depend are not folded"
+    has_pieces = told.get("pieces of loops", False)
+    ways = ["make the program's own cutoff or blocks larger"] * (not has_pieces)
     for one in told["offers"]:
-        out += ", or record with --fold %s=%d (%d tasks left, parallelism %s)" % (
-            one["fold"].lower(), one["value"], one["tasks"], parallelism(told["work"], one["span"]))
+        ways.append("record with --fold %s=%d (%d tasks left, parallelism %s)" % (
+            one["fold"].lower(), one["value"], one["tasks"], parallelism(told["work"], one["span"])))
+    out = "; ".join(filter(None, ["parallelism is " + parallelism(told["work"], told["span"]), ", or ".join(ways)]))
+    if not told["offers"]:
+        out += "; no fold fits" + ("" if has_pieces else ", since tasks with depend are not folded")
     if told["exact"]:
         out += "; with --fold exact work and span stay (%d tasks left)" % told["exact"]
     return out

@@ -5,12 +5,13 @@ from spanprof.report.figures import MEASURED, PROVED, badges
 from spanprof.report.markup import details, join, note, section, tag
 from spanprof.report.part_account import account_picture
 from spanprof.report.part_path import by_place
-from spanprof.report.part_tasks import MOST_PLACES, costs, creation
+from spanprof.report.part_tasks import MOST_PLACES, costs, creation, not_made
 from spanprof.report.part_timeline import colour_legend, controls
 from spanprof.report.summary_rest import division, kinds_explained, remarks
 from spanprof.report.summary_tiles import tiles
 from spanprof.report.summary_words import covered, lead_words, lock_words, on_the_threads, recorded, which_binds
 from spanprof.report.tables import place_cell, table
+from spanprof.whatif.candidates import NOT_SPLIT
 from spanprof.whatif.large_lead import TOGETHER
 
 PIECES = (recorded, covered, lead_words, account_picture, tiles, on_the_threads, lock_words, which_binds, remarks,
@@ -43,7 +44,7 @@ def tasks_part(view):
     shown = view.task_places[:MOST_PLACES]
     more = tag("span", len(view.task_places) - len(shown), class_="given")
     return section("tasks", "Tasks", note("By the construct that creates them. Count ", badges(view.shape_kind),
-                                          ", costs ", badges(view.cost_kind), "."),
+                                          ", costs ", badges(view.cost_kind), ".", not_made(view)),
                    table(heads, [task_row(view, place) for place in shown], numeric=range(1, 8), is_sortable=True),
                    note(more, " more places of tasks are left out.") if len(view.task_places) > len(shown) else "")
 
@@ -51,7 +52,8 @@ def tasks_part(view):
 def lines_to_ask(view):
     """Some single changes, the dearest places first; each is an answer of spanprof_large, which takes its time."""
     code = view.places[0].name if view.places else ""
-    asked = [("factor", code + "=0.5")] * bool(code) + [("split", code + "=4")] * bool(code)
+    asked = [("factor", code + "=0.5")] * bool(code)
+    asked += [("split", code + "=4")] * bool(code and not code.startswith(NOT_SPLIT))
     asked += [("join", "%s=%d" % (view.most_tasks, TOGETHER))] * bool(view.most_tasks)
     return [["spanprof-whatif", view.name, "--" + option, word, "--threads", str(view.answers.threads)]
             for option, word in asked]

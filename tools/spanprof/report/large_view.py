@@ -10,7 +10,7 @@ from spanprof.report.places import ROOTS, Place
 from spanprof.report.source import Sources
 from spanprof.report.units import Units
 from spanprof.report.view import Kinds
-from spanprof.text import named
+from spanprof.text import is_programs, named
 from spanprof.whatif.large_lead import Bounded, large_lead
 
 ASK = "the lines under Changes ask what one brings"
@@ -59,7 +59,8 @@ class LargeView(Kinds):
     @property
     def most_tasks(self):
         """The place of tasks with the most of them, as it is named; nothing without tasks."""
-        names = {place.name: len(place.costs) for place in self.task_places if place.name not in ROOTS}
+        names = {place.name: len(place.costs) for place in self.task_places
+                 if place.name not in ROOTS and is_programs(place.name)}
         name = max(names, key=names.get, default="")
         return name if name in ("", "a task") else named("task", name)
 

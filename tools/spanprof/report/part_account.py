@@ -6,10 +6,10 @@ from spanprof.report.tables import bar, place_cell, table
 
 MOST_PLACES = 10
 NAMES = {"code": "in your code", "recorder": "in the recorder", "preempted": "off the processor in the midst of code",
-         "asleep": "asleep in code", "at locks": "waiting for locks", "delayed": "idle though a task was ready",
+         "asleep": "asleep in code", "at locks": "waiting for locks", "delayed": "idle though code was ready",
          "starved": "idle with nothing ready", "outside": "before the region's code and after it"}
 WITHOUT_A_RECORDER = "off the processor in the midst of code, or in the recorder"
-KINDS = (("delayed", "Idle though a task was ready", "what was ready then"),
+KINDS = (("delayed", "Idle though code was ready", "what was ready then"),
          ("starved", "Idle with nothing ready", "what ran then, on the other threads"))
 HOW = "At each moment the idle threads are shared evenly among the segments that were ready, or that ran; the shares " \
       "add up to the whole. A plain program lays them to places; "

@@ -3,10 +3,11 @@ from spanprof.report.figures import PROVED, badges, percent
 from spanprof.report.graph import CREATES, DEPENDS, WAITS, critical_pairs, place_edges, task_edges
 from spanprof.report.graph_picture import Box, Joined, picture
 from spanprof.report.markup import join, note, section, tag
+from spanprof.report.part_tasks import not_made
 from spanprof.report.places import tasks
 from spanprof.report.tables import table
 from spanprof.report.units import grouped
-from spanprof.text import CALLED_FROM
+from spanprof.text import CALLED_FROM, is_share
 
 MOST_TASKS, MOST_EDGES = 60, 240
 MOST_PLACES, MOST_PLACE_EDGES, MOST_LINES = 16, 30, 40
@@ -77,7 +78,8 @@ def place_box(view, place, loop):
     answers, show, named = view.answers, view.figures, "task-place %d " % place.number
     share, of_span = percent(place.cost, answers.work), percent(place.critical_cost, answers.span)
     count = show.told("tspan", grouped(len(place.tasks)), [named + "count"])
-    lines = [*name_lines(place.name), [count, " tasks" if len(place.tasks) > 1 else " task"],
+    kind = "piece" if is_share(place.name) else "task"
+    lines = [*name_lines(place.name), [count, " " + kind + "s" * (len(place.tasks) > 1)],
              [show.told("tspan", "%.1f %% of the work" % share, ["percent " + named + "cost / span work"])],
              [show.told("tspan", "%.1f %% of the span" % of_span, ["percent " + named + "path / span span"])]]
     if loop:
@@ -122,4 +124,5 @@ def graph_part(view, of=""):
     is_small = answers.tasks < MOST_TASKS and len(edges) <= MOST_EDGES
     drawing, words = (by_task if is_small else by_place)(view, edges, critical)
     return section("graph", "What waits for what" + of.replace(" of ", " in "),
-                   note(words, " ", badges(view.shape_kind), ", critical path ", badges(PROVED)), drawing)
+                   note(words, not_made(view), " ", badges(view.shape_kind), ", critical path ", badges(PROVED)),
+                   drawing)

@@ -1,8 +1,11 @@
 """Work and span by the chain of constructs that created a task, as two flame graphs that hang down."""
+from spanprof.head import counted
 from spanprof.report.figures import badges, percent
 from spanprof.report.markup import join, note, section, tag
 from spanprof.report.nesting import nesting
+from spanprof.report.part_tasks import not_made
 from spanprof.report.places import tasks
+from spanprof.text import is_share
 
 LEAST, LETTER = 0.2, 0.6    # per cent of the width: of a box, and of a letter in it
 HIGH = 22       # pixels of a level
@@ -11,7 +14,7 @@ HIGH = 22       # pixels of a level
 def bar(view, node, value, whole, left, level, source):
     """A node's box; words stand in it where there is room."""
     place, wide = view.task_places[node.place], percent(value, whole)
-    count = "%d task%s" % (node.tasks, "" if node.tasks == 1 else "s")
+    count = counted(node.tasks, "piece" if is_share(place.name) else "task")
     share = view.figures.share(value, whole, source, view.cost_kind)
     has_room = wide >= LETTER * len(place.name + " 99.9 %")
     words = [tag("span", place.name, class_="given"), " ", share] if has_room else []
@@ -51,4 +54,4 @@ def nesting_part(view, of=""):
               tag("h3", "Span ", badges(view.cost_kind)), flame(view, root, "critical_cost", answers.span)]
     return section("nesting", "Which tasks create which" + of, note(
         "A box is as wide as what tasks cost with all that they created, below those that created them. Levels of a "
-        "recursion stand below one another."), join(pieces))
+        "recursion stand below one another.", not_made(view)), join(pieces))

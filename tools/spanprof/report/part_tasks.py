@@ -3,13 +3,20 @@ from spanprof.report.figures import PROVED, badges
 from spanprof.report.markup import note, section, tag
 from spanprof.report.places import ROOTS
 from spanprof.report.tables import place_cell, table
-from spanprof.text import OF_A_THREAD
+from spanprof.text import OF_A_THREAD, is_programs
 
 MOST_PLACES = 40
 
 HOW_TO_READ = ". A task's cost is that of its own segments; of an even number of tasks the lower of the two middle " \
     "costs is the median. Slack is the delay that a segment bears without a later end. Creating them: the segments " \
     "of other tasks that end by creating one of these, so the runtime's part in that and the code before it."
+NOT_MADE = "Turns of loops, sections and the code of a region's threads are tasks of the text: the program makes " \
+    "none of them."
+
+
+def not_made(view):
+    """A sentence on tasks of the text that are none of the program; empty where there are none."""
+    return "" if all(is_programs(place.name) for place in view.task_places) else " " + NOT_MADE
 
 
 def costs(view, place, named):
@@ -45,6 +52,6 @@ def tasks_part(view, of=""):
     rows = [row(view, place) for place in view.task_places[:MOST_PLACES]]
     more = tag("span", len(view.task_places) - len(rows), class_="given")
     kinds = ["Count ", badges(view.shape_kind), ", costs ", badges(view.cost_kind), ", slack ", badges(PROVED)]
-    return section("tasks", "Tasks" + of, note(*kinds, HOW_TO_READ),
+    return section("tasks", "Tasks" + of, note(*kinds, HOW_TO_READ, not_made(view)),
                    table(heads, rows, numeric=range(1, 11), is_sortable=True),
                    note(more, " more places of tasks are left out.") if len(view.task_places) > len(rows) else "")

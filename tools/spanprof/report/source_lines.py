@@ -10,8 +10,9 @@ from spanprof.text import CALLED_FROM
 
 WHERE = re.compile(r"([^\s:/]+):(\d+)(?:,.*)?$")
 STRING = re.compile(r'"(?:\\.|[^"\\])*"|\'(?:\\.|[^\'\\])*\'|//.*|/\*.*?\*/')
-WITH_A_STATEMENT = ("task at ", "after creating a task at ", "after taskgroup at ",
-                    "after the barrier of the region at ")
+OF_A_STATEMENT = ("task at ", "turns of the loop at ", "a section at ")
+WITH_A_STATEMENT = (*OF_A_STATEMENT, "after creating a task at ", "after taskgroup at ",
+                    "after the barrier of the region at ", "after the loop at ", "after the sections at ")
 LONGEST = 2000      # lines of a statement
 
 
@@ -86,7 +87,7 @@ def code_lines(place, line, lines):
         return first, first
     begin = after_directive(lines, line.number)
     end = statement_end(lines, begin)
-    if place.startswith("task at "):
+    if place.startswith(OF_A_STATEMENT):
         return min(first_code(lines, begin, begin), end), end
     first = first_code(lines, end + 1, line.number)
     return first, first

@@ -1,6 +1,6 @@
 """The tiles of the summary: work, span, parallelism, tasks, what the threads can give, and how many were busy."""
 from spanprof.claims import (against_parallelism, against_span, gain_may_be_less, gain_may_be_more, least_end,
-                             lock_binds, speaks_of)
+                             lock_binds, pieces_in, speaks_of, tasks_made)
 from spanprof.report.figures import MEASURED, PROVED, badge
 from spanprof.report.markup import join, tag
 
@@ -55,10 +55,12 @@ def parallelism_tile(view):
 def tasks_tile(view):
     answers, show = view.answers, view.figures
     segments = show.number(answers.span_numbers["segments"], "span segments", view.shape_kind)
-    own = " parts of the %s own code" % ("regions'" if answers.head.whole else "region's")
-    parts = [", and ", show.number(answers.parts, "parts", view.shape_kind), own]
-    return tile("Tasks", show.number(answers.tasks - answers.parts, "tasks - parts", view.shape_kind),
-                [view.shape_kind], join([segments, " segments", *(parts if answers.parts else [])]))
+    of_head, whose = answers.head, "regions'" if answers.head.whole else "region's"
+    pieces = [", and ", show.number(pieces_in(of_head), "pieces", view.shape_kind), " pieces of " + of_head.pieces_of]
+    parts = [", and ", show.number(answers.parts, "parts", view.shape_kind), " parts of the %s own code" % whose]
+    return tile("Tasks", show.number(tasks_made(answers), "tasks - parts - pieces", view.shape_kind),
+                [view.shape_kind], join([segments, " segments", *pieces * bool(pieces_in(of_head)),
+                                         *parts * bool(answers.parts)]))
 
 
 def least_source(view):

@@ -19,7 +19,7 @@ class Lines(unittest.TestCase):
     def test_four_lines(self):
         self.assertEqual(account_lines(account()), [
             "of 4 x 68.0 ms: 47.1 % in your code (measured)",
-            "41.2 % idle though a task was ready: beside task at a.c:3 (75 %), task at a.c:5 (25 %) (measured)",
+            "41.2 % idle though code was ready: beside task at a.c:3 (75 %), task at a.c:5 (25 %) (measured)",
             "8.8 % idle with nothing ready: there ran the beginning (100 %) (measured)",
             "2.9 % before the region's code and after it (measured); " + PROVED])
 

@@ -5,10 +5,13 @@ from spanprof.account import Account
 from spanprof.cause import cause
 from spanprof.head import Lock
 from spanprof.record.tests.made_up import Answers, Head
+from spanprof.remarks import read_remark
 
 
 def answers(work=100, end=30, tasks=8, **told):
-    made = Answers(work=work, span=20, tasks=tasks, head=Head(**dict(dict(elapsed=40, unit="ms"), **told)))
+    parts = told.pop("parts", 0)
+    made = Answers(work=work, span=20, tasks=tasks, parts=parts,
+                   head=Head(**dict(dict(elapsed=40, unit="ms"), **told)))
     for p in made.curve:
         made.curve[p].update(end=end, least=max(20, work // p))
     return made
@@ -56,12 +59,12 @@ class ByTheAccount(unittest.TestCase):
     def test_beside_what_they_idled(self):
         told = account(20, 76, 4)
         told.idle = ({"task at a.c:3": 76}, {})
-        self.assertIn("a task was ready, 100 % of it beside task at a.c:3 (measured)", cause(answers(), told).words)
+        self.assertIn("code was ready, 100 % of it beside task at a.c:3 (measured)", cause(answers(), told).words)
 
     def test_the_runtime_or_the_machine(self):
         found = cause(answers(), account(20, 76, 4))
-        self.assertEqual(found.words, "the runtime or the machine: for 76 % of the threads' time they idled though a "
-                                      "task was ready (measured)")
+        self.assertEqual(found.words, "the runtime or the machine: for 76 % of the threads' time they idled though "
+                                      "code was ready (measured)")
         self.assertFalse(found.changes)
         self.assertEqual(cause(answers(end=27), account(20, 76, 4)).later, ("factor",))
         self.assertIn("drop-wait", cause(answers(end=40), account(20, 76, 4)).later)
@@ -75,6 +78,43 @@ class ByTheAccount(unittest.TestCase):
     def test_pieces_of_loops_are_no_small_tasks(self):
         of_loops = answers(unit="us", tasks=50, whole="1 region", pieces=44)
         self.assertEqual(cause(of_loops, account(20, 76, 4)).kind, "kept")
+
+    def test_parts_of_regions_are_no_small_tasks(self):
+        of_regions = answers(unit="us", tasks=50, whole="1 region", parts=44)
+        self.assertEqual(cause(of_regions, account(20, 76, 4)).kind, "kept")
+
+    def shared(self, place, end=20, **head):
+        told, made = account(40, 40, 20), answers(whole="1 region", pieces=8, end=end, **head)
+        told.idle = ({place: 30, "code of one of the region's threads": 10}, {place: 20})
+        return cause(made, told)
+
+    def test_turns_of_a_loop_that_were_shared_out_badly(self):
+        found = self.shared("turns of the loop at tri.c:9")
+        self.assertEqual(found.words, "how turns of loops were shared out among the threads: for 40 % of their time "
+                                      "they idled though code was ready, 75 % of it beside turns of the loop at "
+                                      "tri.c:9 that others were to run (measured)")
+        self.assertEqual(found.instead, "the turns of the loop at tri.c:9 shared out otherwise, such as by "
+                                        "schedule(dynamic) or in smaller chunks: the greedy run of the recorded text, "
+                                        "where a thread that idles takes the next, ends 50 % sooner than this run "
+                                        "(measured, beside what is proved of the recorded text)")
+        self.assertEqual((found.kind, found.changes), ("shared out", ()))
+        remark = read_remark('{"remark": "equal turns", "times": 1, "span": "low"}')
+        remarked = self.shared("turns of the loop at tri.c:9", remarks=[remark])
+        self.assertTrue(remarked.instead.endswith("(the program's may be otherwise (remarks))"))
+
+    def test_sections_that_were_shared_out_badly(self):
+        found = self.shared("a section at tri.c:15")
+        self.assertTrue(found.words.startswith("how sections were shared out"))
+        self.assertTrue(found.instead.startswith("the sections at tri.c:15 shared out otherwise, such as in tasks: "))
+
+    def test_turns_that_no_run_shares_out_better(self):
+        self.assertEqual(self.shared("turns of the loop at tri.c:9", end=38).kind, "kept")
+        told = account(40, 20, 40)
+        told.idle = ({}, {"turns of the loop at tri.c:9": 30, "the beginning": 10})
+        found = cause(answers(whole="1 region", pieces=8), told)
+        self.assertEqual((found.kind, found.words), ("shape", "too little that can run at once: for 40 % of the "
+                         "threads' time they idled with nothing ready, 75 % of it while turns of the loop at tri.c:9 "
+                         "ran (measured)"))
 
     def test_before_and_after_the_code(self):
         self.assertEqual(cause(answers(), account(20, 10, 10, 60)).kind, "ends")
@@ -123,8 +163,16 @@ class WithoutAnAccount(unittest.TestCase):
         self.assertEqual(cause(answers(elapsed=60, end=60)).kind, "shape")
         found = cause(answers(elapsed=100))
         self.assertEqual(found.words, "the runtime or the machine: for 70 % of the threads' time they were off the "
-                                      "processor, or idled though a task was ready (measured, beside the greedy run "
+                                      "processor, or idled though code was ready (measured, beside the greedy run "
                                       "of the recorded text)")
+
+    def test_loops_beside_the_greedy_run(self):
+        found = cause(answers(elapsed=100, whole="1 region", pieces=8))
+        self.assertEqual(found.words, "how loops were shared out, the runtime or the machine: for 70 % of the threads' "
+                                      "time they were off the processor, or idled though code was ready or left to "
+                                      "other threads (measured, beside the greedy run of the recorded text)")
+        self.assertTrue(found.instead.startswith("loops shared out otherwise, if threads waited at their ends; else "
+                                                 "none of the program: "))
 
     def test_nothing_to_say(self):
         for told in (dict(elapsed=None), dict(threads=1), dict(threads=None), dict(work=0)):

@@ -4,9 +4,11 @@ import unittest
 from collections import Counter
 
 from spanprof import client, folders
-from spanprof.text import LONGEST_KNOWN, Statement, marks, statements, text_lines
+from spanprof.text import LONGEST_KNOWN, Statement, is_programs, marks, statements, text_lines, where
 from spanprof.whatif.tests.made_up import ROW, SORT, changed, read
 
+LOOP = "taskgroup {  # the loop at a.c:5\n task {  # turns of the loop at a.c:5\n  work 1\n }\n work 2\n}\nwork 3\n"
+SECTIONS = "taskgroup {  # the sections%(at)s\n task {  # a section%(at)s\n  work 1\n }\n work 2\n}\nwork 3\n"
 RECORDED = os.path.join(folders.TOP, "examples", "openmp", "recorded")
 
 
@@ -35,6 +37,31 @@ class Reading(unittest.TestCase):
             "the barrier of the region", "the barrier of the region at a.c:5", "a taskgroup"])
         again = list(read("".join(text_lines(found, 1))))
         self.assertEqual(list(again), found)
+
+    def test_turns_and_sections(self):
+        """Tasks that stand for them, and their groups, are none of the program."""
+        found = list(read("omptasks 1\n" + LOOP + SECTIONS % {"at": ""} + SECTIONS % {"at": " at a.c:9"}))
+        self.assertEqual([one.name for one in found if one.kind == "work"], [
+            "turns of the loop at a.c:5", "between turns of the loop at a.c:5", "after the loop at a.c:5",
+            "a section", "between sections", "after the sections",
+            "a section at a.c:9", "between sections at a.c:9", "after the sections at a.c:9"])
+        self.assertEqual([one.name for one in found if one.kind in ("task", "taskgroup")], [
+            "the loop at a.c:5", "turns of the loop at a.c:5", "the sections", "a section",
+            "the sections at a.c:9", "a section at a.c:9"])
+        self.assertEqual(where(found[0].name), "a.c:5")
+        self.assertEqual(list(read("".join(text_lines(found, 1)))), found)
+
+    def test_whose_a_task_is(self):
+        for comment in ("", "a.c:5", "the loop at a.c:5", "a sectional view", "turns of the loopback at b.c:3"):
+            self.assertTrue(is_programs(comment), comment)
+        for comment in ("turns of the loop", "turns of the loop, 3 tasks folded exactly", "a section at a.c:9",
+                        "one of the region's threads"):
+            self.assertFalse(is_programs(comment), comment)
+
+    def test_comments_of_ones_own(self):
+        self.assertEqual([one.name for one in read("omptasks 1 taskwait # the loop\nwork 1 task { # the loop\n}")
+                          if one.kind != "end"], ["taskwait at the loop", "after taskwait at the loop",
+                                                  "task at the loop"])
 
     def test_without_comments(self):
         names = [one.name for one in read("omptasks 1 task { work 1 } taskwait work 2 taskgroup { } work 3")]

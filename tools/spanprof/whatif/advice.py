@@ -2,8 +2,8 @@
 import json
 from typing import NamedTuple
 
-from spanprof.claims import gain_may_be_less, gain_may_be_more, is_partial, speaks_of, why_not_of_more_threads
-from spanprof.text import code_at
+from spanprof.claims import against_end, is_partial, speaks_of, why_not_of_more_threads
+from spanprof.text import TURNS, code_at
 from spanprof.whatif.tell import grouped, in_unit, numbers_json, yours_to_know
 
 LEAST_GAIN = 0.01       # of the end, from which on a change is put first
@@ -27,6 +27,8 @@ def with_article(wait):
 
 def in_words(request):
     place, _, number = request.word.rpartition("=")
+    if place.startswith(TURNS):
+        place = "the " + place
     if request.option in ("split", "join"):
         return IN_WORDS[request.option] % (code_at(place), number)
     if request.option == "drop-wait":
@@ -59,18 +61,11 @@ def others(tried, kinds, first):
         yield from (trial for trial in found if trial is not first and times * tried.gain(trial) >= tried.gain(first))
 
 
-def against(head, threads):
-    """Why what spanprof tells of the changed text need not be so of the program; empty where nothing is known."""
-    if not speaks_of(head, threads):
-        return why_not_of_more_threads(head)
-    return "the program's may be otherwise (remarks)" if gain_may_be_more(head) or gain_may_be_less(head) else ""
-
-
 def brings(trial, tried, kinds, head):
     """What a change lets one expect, with what speaks against it."""
     threads = tried.threads[0]
     part = ", a part of the program" if is_partial(head) else ""
-    reserve = against(head, threads) or "proved of the recorded text and of each changed one" + part
+    reserve = against_end(head, threads) or "proved of the recorded text and of each changed one" + part
     more = "".join("; %s: %.1f %%" % (in_words(other.request), 100 * tried.gain(other))
                    for other in others(tried, kinds, trial))
     return "%s: the greedy run on %d threads ends %.1f %% sooner%s (%s)" % (

@@ -1,6 +1,7 @@
 """Each single change that is tried: of each kind at each place."""
 from typing import NamedTuple, Tuple
 
+from spanprof.text import SECTION, TURNS
 from spanprof.whatif.requests import Request
 
 MOST_PLACES = 20
@@ -8,7 +9,9 @@ MOST_NAMES = 12     # of depend items; more are seldom names that somebody knows
 MOST_DEPTHS = 6
 NEIGHBOURS = 4
 HALF = "0.5"
-NO_TASK = ("task at", "a task", "after creating", "code of one", "starting one")    # is made of such code
+OF_SHARES = (TURNS, SECTION, "between " + TURNS, "between sections")
+NO_TASK = ("task at", "a task", "after creating", "code of one", "starting one", *OF_SHARES)    # is made of such code
+NOT_SPLIT = (TURNS, "between " + TURNS, "between sections")     # what is split is larger than what was shared out
 KINDS = ("factor", "drop-wait", "drop-depend", "drop-name", "split", "task", "join", "cutoff")
 
 
@@ -38,7 +41,7 @@ def candidates(seen, parts, kinds=KINDS, most=MOST_PLACES):
     words = {"factor": ["%s=%s" % (place, HALF) for place in code],
              "drop-wait": first(seen.waits, most, "waits", left_out),
              "drop-depend": first(seen.dependent, most, "places of tasks with depend items", left_out),
-             "split": ["%s=%d" % (place, parts) for place in code],
+             "split": ["%s=%d" % (place, parts) for place in code if not place.startswith(NOT_SPLIT)],
              "task": [place for place in code if not place.startswith(NO_TASK)],
              "join": ["%s=%d" % (place, NEIGHBOURS) for place in first(seen.tasks, most, "places of tasks", left_out)],
              "cutoff": [str(depth) for depth in range(1, min(seen.depth, MOST_DEPTHS + 1))],

@@ -10,7 +10,7 @@ class Bounded:
     beside = "what every greedy run of the recorded text reaches"
 
     def __init__(self, head, work, span, tasks):
-        self.head, self.work, self.tasks = head, work, tasks
+        self.head, self.work, self.tasks, self.parts = head, work, tasks, head.parts
         threads = head.threads or 1
         bound = (work + (threads - 1) * span) // threads
         self.curve = {threads: {"least": max(span, -(-work // threads)), "end": bound, "bound": bound}}

@@ -3,7 +3,7 @@
 `creating` is what the creation of a task costs: a new task brings so much, and one less takes away as much, or all of
 the code before it where that cost less.
 """
-from spanprof.text import Statement, where
+from spanprof.text import BLOCKS, Statement, is_share, is_shared_out, where
 from spanprof.whatif.changes import Change
 
 
@@ -82,8 +82,19 @@ class OwnTask(OfCode):
         return self.task(one.name, one.cost)
 
 
+def block(first, stream):
+    """All of a block, of which the stream has what follows its first statement."""
+    yield first
+    depth = 1
+    while depth:
+        one = next(stream)
+        depth += (one.kind in BLOCKS) - (one.kind == "end")
+        yield one
+
+
 class Cutoff(Creating):
-    """A task at this depth does all that is below it in its own code; tasks of the root have depth 1."""
+    """A task at this depth does all that is below it in its own code, but for what the program shares out among its
+    threads; tasks of the root have depth 1."""
     what = "%d task%s left out: those below %s"
 
     def __init__(self, depth, creating):
@@ -93,9 +104,15 @@ class Cutoff(Creating):
     def inside(self, first, stream):
         """What the code of a task at the depth costs, with all below it, up to its end."""
         depth, cost, last = 1, 0, 0     # `last`: the code before, of which a creation takes away
+        yield first
         for one in stream:
             if one.kind == "work":
                 last += one.cost
+                continue
+            if one.kind == "taskgroup" and is_shared_out(one.comment):
+                yield Statement("work", first.name, cost + last)
+                yield from block(one, stream)
+                cost = last = 0
                 continue
             if one.kind == "task":
                 self.count += 1
@@ -104,15 +121,17 @@ class Cutoff(Creating):
             depth += (one.kind == "task") - (one.of == "task")
             if depth == 0:
                 break
-        yield first
         yield Statement("work", first.name, cost)
         yield Statement("end", of="task")
 
     def __call__(self, stream):
-        depth, stream = 0, iter(stream)
+        is_level, stream = [], iter(stream)     # of each open task: turns and sections are no level of tasks
         for one in stream:
-            if one.kind == "task" and depth + 1 >= self.depth:
+            if one.kind == "task" and not is_share(one.comment) and sum(is_level) + 1 >= self.depth:
                 yield from self.inside(one, stream)
                 continue
-            depth += (one.kind == "task") - (one.of == "task")
+            if one.kind == "task":
+                is_level.append(not is_share(one.comment))
+            elif one.of == "task":
+                is_level.pop()
             yield one

@@ -1,6 +1,11 @@
-"""What there is in a text to change: its places, waits, depend items, and what creating a task cost."""
+"""What there is in a text to change: its places, waits, depend items, and what creating a task cost.
+
+Tasks that the program does not make, and the groups of its loops, are none that one can change.
+"""
 from collections import Counter
 from dataclasses import dataclass, field
+
+from spanprof.text import is_programs, is_share, is_shared_out
 
 
 @dataclass
@@ -33,7 +38,9 @@ class Surveyor:
         self.out = Survey()
         self.since = None           # what the code cost since a task's end; None after another thing
         self.has_items = [False]    # of each open task: whether it has made a task with depend items
+        self.is_level = []          # of each open task: turns of loops and sections are no level of tasks
         self.groups = []
+        self.depth = 0
 
     def work(self, one):
         self.out.costs[one.name] += one.cost
@@ -41,17 +48,23 @@ class Surveyor:
         self.since = None if self.since is None else self.since + one.cost
 
     def task(self, one):
+        if is_programs(one.comment):
+            self.made(one)
+        self.has_items.append(False)
+        self.is_level.append(not is_share(one.comment))
+        self.depth += self.is_level[-1]
+        self.out.depth = max(self.out.depth, self.depth)
+        self.since = None
+
+    def made(self, one):
         out = self.out
         out.tasks[one.name] += 1
         out.dependent[one.name] += bool(one.items)
         for _, name in one.items:
             out.items[name] += 1
         self.has_items[-1] |= bool(one.items)
-        self.has_items.append(False)
-        out.depth = max(out.depth, len(self.has_items) - 1)
         if self.since is not None:
             out.between[self.since] += 1
-        self.since = None
 
     def taskwait(self, one):
         self.out.waits[one.name] += 1
@@ -59,13 +72,15 @@ class Surveyor:
         self.since = None
 
     def taskgroup(self, one):
-        self.out.waits[one.name] += 1
+        if not is_shared_out(one.comment):
+            self.out.waits[one.name] += 1
         self.groups.append(one.name)
         self.since = None
 
     def end(self, one):
         if one.of == "task":
             self.has_items.pop()
+            self.depth -= self.is_level.pop()
             self.since = 0
         else:
             self.out.ordered[self.groups.pop()] += self.has_items[-1]

@@ -67,6 +67,8 @@ class Head:
     locks: list = field(default_factory=list)
     whole: str = ""
     pieces: int = 0
+    pieces_of: str = "loops"
+    parts: int = 0
     functions: dict = field(default_factory=dict)
 
     @property

@@ -27,7 +27,7 @@ class Summary(unittest.TestCase):
         sums = "threads 4\nelapsed 40000\nbusy 100000\ndelayed 20000\nstarved 40000\noutside 0\n"
         told = self.told(lambda words, path: sums)
         self.assertIn("account       of 4 x 40.0 us: 62.5 % in your code (measured)", told)
-        self.assertIn("              12.5 % idle though a task was ready (measured)", told)
+        self.assertIn("              12.5 % idle though code was ready (measured)", told)
 
     def test_why_there_is_no_account(self):
         def refused(words, path):

@@ -28,6 +28,8 @@ class Words(unittest.TestCase):
                          "make the program's own cutoff or blocks larger, or record with --fold depth=7 (254 tasks "
                          "left, parallelism 10.0); with --fold exact work and span stay (3000 tasks left)")
         self.assertIn("larger; no fold fits, since", told.in_words(dict(FOLDS, offers=[])))
+        self.assertIn("parallelism is 50.0; no fold fits; with --fold exact",
+                      told.in_words(dict(FOLDS, offers=[], **{"pieces of loops": True})))
         for advice, words in (("fewer items", "fewer depend items"), ("larger unit", "larger --unit"),
                               ("beginning only", "no fold is advised")):
             self.assertIn(words, told.in_words(dict(LARGE, advice=advice)))

@@ -101,6 +101,11 @@ class Program(Sums):
         """Tasks that stand for a thread's own code, by the comments of the text."""
         return len(re.findall(r"(?m)^\s*task\b.*\{.*# one of the region's threads$", self.text))
 
+    def pieces(self):
+        """Tasks that stand for turns of loops, or sections, by the head of the text."""
+        found = re.search(r'(?m)^# whole program: .*"pieces": (\d+)', self.text)
+        return int(found[1]) if found else 0
+
     def head(self, *name):
         return int(re.search(r"(?m)^# %s: (\d+)" % " ".join(name), self.text)[1])
 

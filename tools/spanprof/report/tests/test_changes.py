@@ -48,7 +48,7 @@ class Source(unittest.TestCase):
     def test_lines_with_shares(self):
         part = source_part(worked.view("mesh"))
         words = seen(part)
-        self.assertRegex(words, r"task, lines 10 to 12 29.3 % of the work, 38.7 % of the span")
+        self.assertRegex(words, r"task, lines 10 to 12 : 29.3 % of the work, 38.7 % of the span")
         self.assertIn("--heat:", part)
 
     def test_without_a_file(self):

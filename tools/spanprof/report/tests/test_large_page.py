@@ -87,10 +87,10 @@ class OfAnySize(unittest.TestCase):
 
     def test_where_the_time_of_the_threads_went(self):
         view = self.view()
-        self.assertNotIn("idle though a task was ready", page(view))
+        self.assertNotIn("idle though code was ready", page(view))
         view = self.view()
         view.account = Account(2, 100, 120, 40, 30, 10)
-        self.assertIn("idle though a task was ready", page(view))
+        self.assertIn("idle though code was ready", page(view))
 
     def test_without_a_path_it_says_so(self):
         with mock.patch("spanprof.report.large_answers.LargeAnswers.path_of", side_effect=Fault("no memory")):

@@ -20,7 +20,7 @@ class OfTheWorkedRun(unittest.TestCase):
     def test_idle_time_by_place(self):
         part = idle_part(self.view)
         self.assertIn("Idle with nothing ready, by what ran then", part)
-        self.assertNotIn("Idle though a task was ready", part)
+        self.assertNotIn("Idle though code was ready", part)
         self.assertIn("proved of the recorded text", part)
 
     def test_code_that_was_held_up(self):

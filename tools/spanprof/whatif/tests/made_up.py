@@ -37,6 +37,33 @@ work 7
 }
 taskwait  # row.c:5
 """
+LOOPS = """\
+omptasks 1
+work 4
+taskgroup {  # tri.c:7
+task depend(out: a) {  # one of the region's threads
+taskgroup {  # the loop at tri.c:9
+task depend(in: a) {  # turns of the loop at tri.c:9
+work 10
+}
+task {  # turns of the loop at tri.c:9
+work 20
+}
+}
+task {  # tri.c:12
+work 3
+task {  # tri.c:13
+work 6
+}
+}
+taskgroup {  # the sections at tri.c:15
+task {  # a section at tri.c:15
+work 30
+}
+}
+}
+}
+"""
 
 
 def read(text):

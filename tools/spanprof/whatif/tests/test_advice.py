@@ -8,7 +8,7 @@ from spanprof.whatif.candidates import candidates
 from spanprof.whatif.numbers import Numbers, OnThreads
 from spanprof.whatif.requests import Request
 from spanprof.whatif.survey import survey
-from spanprof.whatif.tests.made_up import SORT, read
+from spanprof.whatif.tests.made_up import LOOPS, SORT, read
 from spanprof.whatif.trials import Trial, Trials
 
 SHAPE = Cause("shape", "too few tasks", ("drop-wait", "factor"))
@@ -34,6 +34,14 @@ class Words(unittest.TestCase):
         self.assertEqual([advice.in_words(Request("drop-wait", name)).partition(",")[0]
                           for name in ("taskwait at a.c:3", "a taskgroup")],
                          ["without the taskwait at a.c:3", "without a taskgroup"])
+
+
+    def test_turns_and_sections_are_no_tasks(self):
+        requests = candidates(survey(read(LOOPS)), 4).requests
+        told = [advice.in_words(one) for one in requests if "tri.c:9" in one.word or "tri.c:15" in one.word]
+        self.assertEqual(told, ["half the cost of the turns of the loop at tri.c:9",
+                                "half the cost of a section at tri.c:15",
+                                "a section at tri.c:15 in 4 tasks, if it can be divided"])
 
 
 class First(unittest.TestCase):

@@ -13,7 +13,7 @@ class Leads(unittest.TestCase):
     def test_small_tasks(self):
         lead = led(tasks=4000, elapsed=9000, place="task at a.c:3")
         self.assertEqual(lead.cause, "tasks too small: 1.0 us of code each on average, and for 81 % of the threads' "
-                                     "time they were off the processor, or idled though a task was ready (measured, "
+                                     "time they were off the processor, or idled though code was ready (measured, "
                                      "beside what every greedy run of the recorded text reaches)")
         self.assertEqual(lead.first, "fewer, larger tasks, such as: task at a.c:3, of which 8 neighbours are one task; "
                                      "ask")

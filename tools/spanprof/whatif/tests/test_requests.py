@@ -5,7 +5,7 @@ from spanprof.whatif.creating import Costs
 from spanprof.whatif.listing import listing
 from spanprof.whatif.requests import Request, changes, find
 from spanprof.whatif.survey import survey
-from spanprof.whatif.tests.made_up import ROW, SORT, read
+from spanprof.whatif.tests.made_up import LOOPS, ROW, SORT, read
 
 SEEN = survey(read(SORT))
 COSTS = Costs(2, None, "")
@@ -70,6 +70,18 @@ class Seen(unittest.TestCase):
         self.assertEqual(+SEEN.ordered, {})
         grouped = "omptasks 1 taskgroup { # g\n task depend(in: x) { } } taskgroup { # h\n}"
         self.assertEqual(+survey(read(grouped)).ordered, {"taskgroup at g": 1, "taskgroup at h": 1})
+
+    def test_only_what_the_program_has(self):
+        seen = survey(read(LOOPS))
+        self.assertEqual(seen.costs["turns of the loop at tri.c:9"], 30)
+        self.assertEqual(seen.tasks, {"task at tri.c:12": 1, "task at tri.c:13": 1})
+        self.assertEqual(seen.waits, {"the barrier of the region at tri.c:7": 1})
+        self.assertEqual((+seen.dependent, seen.items, +seen.ordered, seen.depth), ({}, {}, {}, 3))
+        self.assertIsNone(seen.creating())
+        self.assertEqual(made("factor", "turns of the loop at tri.c:9=0.5", seen).place, "turns of the loop at tri.c:9")
+        for option, word in (("join", "turns=4"), ("drop-wait", "the loop"), ("drop-depend", "turns")):
+            with self.assertRaisesRegex(Fault, "no task"):
+                made(option, word, seen)
 
     def test_what_creating_a_task_costs(self):
         self.assertEqual(SEEN.creating(), 1)

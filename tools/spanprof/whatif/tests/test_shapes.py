@@ -3,7 +3,7 @@ import unittest
 from spanprof.text import statements, text_lines
 from spanprof.whatif.join import Join
 from spanprof.whatif.shapes import Cutoff, Grain, OwnTask, Split
-from spanprof.whatif.tests.made_up import ROW, SORT, changed
+from spanprof.whatif.tests.made_up import LOOPS, ROW, SORT, changed
 
 ROWS = "omptasks 1\n" + "".join("work 3\ntask { # a\nwork %d\n}\n" % cost for cost in (10, 20, 30, 40, 50))
 TREE = "omptasks 1 work 1 task { work 2 task { work 3 } work 4 task { work 5 task { work 6 } } taskwait work 7 } work 8"
@@ -57,6 +57,15 @@ class Fewer(unittest.TestCase):
 
     def test_what_is_not_created_costs_less(self):
         self.assertEqual(changed(TREE, Cutoff(1, 3)), "work 1 task { work %d } work 8" % (27 - 2 - 3 - 3))
+
+    def test_what_threads_share_stays_below_a_cutoff(self):
+        loop = "taskgroup { task depend(in: a) { work 10 } task { work 20 } } "
+        sections = "taskgroup { task { work 30 } } "
+        thread = "work 4 taskgroup { task depend(out: a) { "
+        one, two = Cutoff(1, 0), Cutoff(2, 0)
+        self.assertEqual(changed(LOOPS, one), thread + loop + "work 9 " + sections + "} }")
+        self.assertEqual(changed(LOOPS, two), thread + loop + "task { work 9 } " + sections + "} }")
+        self.assertEqual((one.count, two.count), (2, 1))
 
     def test_a_group_below_a_cutoff(self):
         self.assertEqual(changed("omptasks 1 task { taskgroup { task { work 2 } work 3 } } work 1", Cutoff(1, 0)),
