@@ -2,8 +2,8 @@
 """Compares the man pages of tools/man with what they tell of, and has groff read them.
 
 spanprof.1 has every command, error line, kind of fault and exit status of docs/FORMATS.md, and no other; the pages of
-the tools have every option and exit status that --help lists, and no other. spanprof.3 has the functions of include/spanprof.h, and
-no name that the header has not.
+the tools have every option and exit status that --help lists, and no other. spanprof.3 has the functions of
+include/spanprof.h, and no name that the header has not.
 """
 import os
 import re

@@ -48,14 +48,8 @@ void Stretches::read(void *bytes, std::size_t count) {
 }
 
 void Stretches::put_task(const Task &t) {
-  Stored stored{reinterpret_cast<uint64_t>(t.code),
-                t.part,
-                t.undeferred,
-                t.of_loop,
-                t.pieces != 0,
-                static_cast<uint64_t>(t.origin),
-                t.steps.size(),
-                t.items.size()};
+  Stored stored{reinterpret_cast<uint64_t>(t.code), t.part,         t.undeferred,  t.of_loop, t.pieces != 0,
+                static_cast<uint64_t>(t.origin),    t.steps.size(), t.items.size()};
   write(&stored, sizeof stored);
   for (Step step : t.steps) {
     if (step.kind == Kind::Create) step = Step::number(step.child()->first_number);

@@ -137,7 +137,8 @@ def add_bench_options(name, parser):
     add("--timeout", type=positive, default=10, help="seconds until a run counts as hung (10)")
     add("--jobs", type=positive, default=max(1, (os.cpu_count() or 1) // 2),
         help="programs that are tried side by side (half as many as processors)")
-    add("--match", type=pattern, default="*", metavar="PATTERN", help="only the directed programs whose names fit it (*)")
+    add("--match", type=pattern, default="*", metavar="PATTERN",
+        help="only the directed programs whose names fit it (*)")
     add("--keep", default="", metavar="FOLDER", help="keep the built programs there, and take those that are there")
     add("--report", type=report_files, default="", help=REPORT)
     if name in ("shrink", "bisect"):

@@ -19,7 +19,7 @@ def table(heads, rows, numeric=(), is_sortable=False, class_=None):
 
 
 def place_cell(name, lines=(), colour=None):
-    """A place with the lines of its source, or other words on it, and the colour that stands for it in the timelines."""
+    """A place with the lines of its source, or other words on it, and the colour that stands for it in timelines."""
     key = tag("i", class_="key square c%d" % colour) if colour is not None else Markup("")
     place = tag("span", breakable(name), class_="place")
     return tag("span", key, place, *[line if isinstance(line, Markup) else tag("code", line) for line in lines],

@@ -68,7 +68,8 @@ class Whole(unittest.TestCase):
 class Callers(unittest.TestCase):
     def test_a_box_has_a_line_for_each_call(self):
         lines = [seen(line) for line, in name_lines(CALLED, "7  ")]
-        self.assertEqual(lines, ["7  a.c:30", "called from smooth_and_restrict_t… at a.c:42", "called from main at a.c:55"])
+        self.assertEqual(lines, ["7  a.c:30", "called from smooth_and_restrict_t… at a.c:42",
+                                 "called from main at a.c:55"])
         self.assertTrue(all(len(line) <= LONGEST for line in lines))
         self.assertEqual([seen(line) for line, in name_lines("a.c:30")], ["a.c:30"])
 

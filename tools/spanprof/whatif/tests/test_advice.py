@@ -35,6 +35,14 @@ class Words(unittest.TestCase):
                           for name in ("taskwait at a.c:3", "a taskgroup")],
                          ["without the taskwait at a.c:3", "without a taskgroup"])
 
+    def test_code_after_a_construct_is_called_code(self):
+        for option, word, words in (
+                ("factor", "after taskwait at a.c:4=0.5", "half the cost of the code after taskwait at a.c:4"),
+                ("split", "after taskwait at a.c:4=4", "the code after taskwait at a.c:4 in 4 tasks, if it can be "
+                                                       "divided"),
+                ("task", "the beginning", "the beginning as a task of its own, if it can run beside what follows"),
+                ("drop-wait", "taskwait at a.c:4", "without the taskwait at a.c:4, if the program stays right")):
+            self.assertEqual(advice.in_words(Request(option, word)), words)
 
     def test_turns_and_sections_are_no_tasks(self):
         requests = candidates(survey(read(LOOPS)), 4).requests
@@ -116,17 +124,6 @@ proved of the text, and of each changed text: spanprof has read them all""")
         self.assertEqual(told["cause"]["kind"], "shape")
         self.assertEqual(told["changes"][0]["sooner"], {"4": 0.4, "16": 0.5})
         self.assertIsNone(json.loads(advice.as_json(ALL, None, Head()))["cause"])
-
-
-class Words(unittest.TestCase):
-    def test_code_after_a_construct_is_called_code(self):
-        for option, word, words in (
-                ("factor", "after taskwait at a.c:4=0.5", "half the cost of the code after taskwait at a.c:4"),
-                ("split", "after taskwait at a.c:4=4", "the code after taskwait at a.c:4 in 4 tasks, if it can be "
-                                                       "divided"),
-                ("task", "the beginning", "the beginning as a task of its own, if it can run beside what follows"),
-                ("drop-wait", "taskwait at a.c:4", "without the taskwait at a.c:4, if the program stays right")):
-            self.assertEqual(advice.in_words(Request(option, word)), words)
 
 
 class Tried(unittest.TestCase):
