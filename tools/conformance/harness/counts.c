@@ -20,6 +20,13 @@ unsigned sum_of_counts(const struct counts *counts) {
     return sum;
 }
 
+bool begins_endlessly(const struct counts *counts) {
+    enum { DOZENS = 50 };
+    for (unsigned segment = 0; segment < counts->segments; segment++)
+        if (counts->starts[segment] > DOZENS) return true;
+    return false;
+}
+
 static void say_event(struct output *output, const char *what, unsigned segment) {
     say(output, what);
     say_number(output, segment);

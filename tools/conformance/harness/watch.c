@@ -10,6 +10,7 @@
 #include <unistd.h>
 
 enum { LONGEST = 10 };    /* times as long as nothing may happen */
+static const unsigned long long MOST_MEMORY = 2ull << 30;
 enum { LOOKS = 3, SOONER = 3 }; /* that all threads sleep through, in one of so many parts of the time, are enough */
 
 void next_run(struct watch *watch) {
@@ -45,6 +46,21 @@ static bool all_sleep(void) {
     return all;
 }
 
+/* In bytes, as the kernel counts it; 0 where it does not tell. */
+static unsigned long long memory(void) {
+    unsigned long long all, resident = 0;
+    FILE *file = fopen("/proc/self/statm", "r");
+    if (!file) return 0;
+    if (fscanf(file, "%llu %llu", &all, &resident) < 2) resident = 0;
+    fclose(file);
+    return resident * (unsigned long long)sysconf(_SC_PAGESIZE);
+}
+
+static void look_whether_it_runs_away(const struct watch *watch) {
+    if (begins_endlessly(watch->counts)) watch->runs_away("runaway: a segment begins again and again");
+    if (memory() > MOST_MEMORY) watch->runs_away("runaway: more than two gigabytes of memory");
+}
+
 static void *watching(void *handed) {
     struct watch *watch = handed;
     unsigned run = 0, happened = 0, quiet = 0, age = 0;
@@ -54,6 +70,7 @@ static void *watching(void *handed) {
         unsigned run_now = atomic_load(&watch->run), happened_now = sum_of_counts(watch->counts);
         bool at_work = atomic_load(&watch->at_work);
         if (run_now != run || !at_work) age = 0;
+        if (at_work) look_whether_it_runs_away(watch);
         if (run_now != run || happened_now != happened || !at_work) {
             run = run_now;
             happened = happened_now;

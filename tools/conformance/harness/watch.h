@@ -1,5 +1,6 @@
 /* Sees that runs end. A run hangs where no segment begins or ends for so many seconds, or for a third of them while all
- * threads sleep, or where it goes on for ten times as long as that. */
+ * threads sleep, or where it goes on for ten times as long as that. It runs away where one begins again and again, or
+ * where the process takes more than two gigabytes of memory. */
 #ifndef WATCH_H
 #define WATCH_H
 #include "counts.h"
@@ -10,6 +11,7 @@ struct watch {
     const struct counts *counts;
     unsigned seconds;           /* without a begin or an end until a run hangs */
     void (*hangs)(bool asleep); /* called by a thread of its own; `asleep`: no thread ran in all that time */
+    void (*runs_away)(const char *how);
     atomic_uint run;            /* counts the runs, so that each has all of its time */
     atomic_bool at_work;        /* not while a log is written, which takes as long as its reader does */
 };

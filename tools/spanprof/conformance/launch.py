@@ -37,7 +37,8 @@ class Conditions:
 
 LONGEST = 11  # times as long as a run may log nothing: more than harness/watch.c gives it
 SANITIZED = "SUMMARY: "
-ENDS = {"done": "done", "hung": "hung", "signal": "crashed"}
+ENDS = {"done": "done", "hung": "hung", "signal": "crashed", "runaway:": "crashed"}
+RUNAWAY = "runaway:"  # and how; else the detail of a crash is a signal's number
 
 
 def cut_moment(line):
@@ -55,7 +56,7 @@ def read_logs(text):
             number, *more = rest.split()
             logs.append(Log(int(number), more[0] if more else "", unlogged="unlogged" in more[1:]))
         elif word in ENDS and logs:
-            logs[-1].end, logs[-1].detail = ENDS[word], rest
+            logs[-1].end, logs[-1].detail = ENDS[word], line if word == RUNAWAY else rest
         elif word == "stack" and logs:
             logs[-1].stacks.append(rest)
         elif word == "turn" and logs:
@@ -74,7 +75,7 @@ def launch(program, conditions, environment):
     if status != 0 and (not logs or logs[-1].end == "done"):
         logs.append(Log(len(logs)))
     for log in logs:
-        if log.end == "crashed":
+        if log.end == "crashed" and not log.detail.startswith(RUNAWAY):
             log.detail = breakdown(log.detail, status, complaints)
             log.end = "hung" if status is None else "crashed"
     return logs

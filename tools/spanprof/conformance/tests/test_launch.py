@@ -32,6 +32,10 @@ class Reading(unittest.TestCase):
             Log(2, "creation", ["overflow"], "crashed", "11"),
             Log(3, "scattered", [], "crashed", "")])
 
+    def test_runs_that_run_away(self):
+        log, = read_logs("run 2 plain\nstart 0 0\nrunaway: more than two gigabytes of memory\n")
+        self.assertEqual((log.end, log.detail), ("crashed", "runaway: more than two gigabytes of memory"))
+
     def test_events_with_their_moments(self):
         log, = read_logs("run 3 plain\nstart 0 0 1700\nfinish 0 0 1900\ndone 17\n")
         self.assertEqual((log.events, log.moments), (["start 0 0", "finish 0 0"], [1700, 1900]))
