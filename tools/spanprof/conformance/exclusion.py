@@ -100,6 +100,11 @@ def has_finished(events, segment):
     return any(what == "finish" and int(one) == segment for what, _, one in map(str.split, events))
 
 
+def is_below_exclusive(task):
+    """Whether a task has `mutexinoutset` items or is below one that has."""
+    return bool(task.exclusive) or task.parent is not None and is_below_exclusive(task.parent)
+
+
 def rule_of(words):
     """What tells failures apart of which `overlapping` tells."""
     return "overlapping" + PARENT_ENDED * words.endswith(PARENT_ENDED)

@@ -23,6 +23,7 @@ KINDS = {
 }
 MOST_RUNNING, MOST_READY = 3, 5  # segments that are named
 CUT_SHORT = "rest of an untied task beside a cancelled group"
+OF_EXCLUSIVE = ", of a task with mutexinoutset or one below it"
 
 
 @dataclass
@@ -57,12 +58,24 @@ def refused(table, detail, log):
     begin += table.name_of(int(segment)) if int(segment) < len(table.cost) else f"segment {segment}"
     if kind != "NotReady":
         rule, meaning = KINDS.get(kind, (kind, kind))
+        rule += OF_EXCLUSIVE * (rule == "twice" and exclusion.is_below_exclusive(table.task_of[int(segment)]))
         return Explanation(rule, f"{begin}, which is {kind}. The rule: {meaning}.")
     need = table.need(int(others[0]), int(segment))
     rule, why = (need.rule, reason_of(table, need, int(segment))) if need else ("order", "by several rules together")
     short = CUT_SHORT if is_cut_short(table, int(others[0]), started_in(log)) else rule
+    short += of_exclusive(table, need, int(segment), log) if short == rule else ""
     return Explanation(short, f"{begin} before {table.name_of(int(others[0]))} has finished: {why}. "
                               f"The rule: {RULES[rule]}.")
+
+
+def of_exclusive(table, need, segment, log):
+    """What is added to a rule where a region ended before a task with mutexinoutset, or one below it, that never began;
+    or where one begins that this run has not created."""
+    rule = need.rule if need else ""
+    ended_before = rule == "taskgroup" and need.construct == "parallel" and need.before not in started_in(log)
+    left = need.before if ended_before else segment
+    is_left = (ended_before or rule == "creation") and exclusion.is_below_exclusive(table.task_of[left])
+    return OF_EXCLUSIVE * is_left
 
 
 def started_in(log):

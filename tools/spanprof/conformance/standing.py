@@ -37,6 +37,8 @@ class Standing:
             return cut.construct + BELOW * self.is_below_waiter(task) if cut.construct else "after a task"
         if task.parent and task.parent.detached:
             return "begin of the child of detach" + NO_WAITER * self.is_nothing_waited_for()
+        if task.exclusive and task.parent.segments[-1] in self.finished:
+            return "begin of a task with mutexinoutset whose parent has ended"
         return "begin of a task with depend" if task.items else "begin of a task"
 
     def is_nothing_waited_for(self):

@@ -1,7 +1,7 @@
 """What is said of a run that was not accepted."""
 import unittest
 
-from spanprof.conformance.explain import CUT_SHORT, RULES, explain
+from spanprof.conformance.explain import CUT_SHORT, OF_EXCLUSIVE, RULES, explain
 from spanprof.conformance.judge import Verdict
 from spanprof.conformance.launch import Log
 from spanprof.conformance.reader import read_program
@@ -87,6 +87,34 @@ class Untied(unittest.TestCase):
         kinds = {rule.rule for rule in (explain(text, Verdict("incomplete"), Log(0, "plain", some, "done"))
                                         for some in (events, events[:-2]))}
         self.assertEqual(kinds, {CUT_SHORT, "incomplete"})
+
+
+class LeftOver(unittest.TestCase):
+    """Tasks with mutexinoutset that never began, or that began though only an earlier run had created them."""
+    text = "omptasks 2 taskgroup { #: parallel\n task { task depend(inoutset: x) { #: mutexinoutset\n task { } } } }"
+
+    def rule(self, detail, event, text=text):
+        return told(text, f"event 1: {detail}", event).rule
+
+    def test_each_rule(self):
+        table = Table(read_program(self.text))
+        outer, exclusive, below = (task.segments for task in table.tasks[1:])
+        end = f"start 0 {table.tasks[0].segments[-1]}"
+        plain = self.text.replace("mutexinoutset", "")
+        for rule, detail, event in (("taskgroup", f"NotReady {exclusive[-1]}", end),
+                                    ("taskgroup", f"NotReady {below[0]}", end),
+                                    ("creation", f"NotReady {outer[0]}", f"start 1 {exclusive[0]}"),
+                                    ("twice", "AlreadyStarted", f"start 1 {below[0]}")):
+            self.assertEqual(self.rule(detail, event), rule + OF_EXCLUSIVE, event)
+            self.assertEqual(self.rule(detail, event, plain), rule, event)
+
+    def test_other_tasks_and_groups(self):
+        table = Table(read_program(self.text))
+        end = table.tasks[0].segments[-1]
+        self.assertEqual(self.rule("AlreadyStarted", "start 0 0"), "twice")
+        self.assertEqual(self.rule(f"NotReady {table.tasks[1].segments[-1]}", f"start 0 {end}"), "taskgroup")
+        group = self.text.replace("#: parallel\n", "")
+        self.assertEqual(self.rule(f"NotReady {table.tasks[3].segments[0]}", f"start 0 {end}", group), "taskgroup")
 
 
 class Stops(unittest.TestCase):

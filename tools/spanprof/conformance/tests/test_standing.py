@@ -31,6 +31,14 @@ class Places(unittest.TestCase):
         depends = "task depend(out: x) { } task depend(in: x) { } taskwait"
         self.assertEqual(standing(depends, 0, 1, 2, 4).places(), "begin of a task with depend")
 
+    def test_a_task_with_mutexinoutset_that_is_left_over(self):
+        text = "taskgroup { task { task depend(inoutset: x) { #: mutexinoutset\n } } }"
+        left = "begin of a task with mutexinoutset whose parent has ended"
+        self.assertEqual(standing(text, 0, 1, 3, 4).places(), left)
+        self.assertEqual(standing(text, 0, 1, 4).places(), "after a task, begin of a task with depend")
+        plain = text.replace("mutexinoutset", "")
+        self.assertEqual(standing(plain, 0, 1, 3, 4).places(), "begin of a task with depend")
+
     def test_several_places(self):
         text = "task { task { } taskwait } taskgroup { task { } }"
         self.assertEqual(standing(text, 0, 1, 2, 3, 5, 6, 7).places(), "taskgroup, taskwait")
