@@ -13,6 +13,7 @@ from spanprof.conformance.emit_c import c_text
 from spanprof.conformance.expected import Expectations
 from spanprof.conformance.exclusion import overlapping
 from spanprof.conformance.explain import explain
+from spanprof.conformance.forms import is_of_regions
 from spanprof.conformance.judge import Verdict
 from spanprof.conformance.launch import Conditions, launch
 from spanprof.conformance.segments import Table
@@ -38,6 +39,11 @@ class Case:
     body: tuple
     variant: str
     unit: int  # what a cost of 1 lasts, in nanoseconds
+
+
+def team_of(body, conditions):
+    """How many threads the team has that runs a program: there is one outside of any region."""
+    return 1 if conditions.setting == "orphaned" and not is_of_regions(body) else conditions.threads
 
 
 @dataclass
@@ -197,7 +203,7 @@ class Bench:
             verdict, tried = examined.verdict(log, conditions)
             tally.coverage.update(tried)
             if not verdict.accepted:
-                told = explain(examined.text, verdict, log, conditions.threads)
+                told = explain(examined.text, verdict, log, team_of(examined.case.body, conditions))
                 tally.failures.append(Failure(examined.case, conditions, verdict, told.rule, told.words, log))
             if verdict.kind == "incomplete":  # what was left over may run in later runs
                 break

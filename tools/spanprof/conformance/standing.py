@@ -5,6 +5,7 @@ MOST_SEARCHED = 1000  # segments of a program whose ready segments are looked fo
 MOST_NAMED = 3        # constructs that tell hangs apart
 BELOW = " below its waiter"
 NO_WAITER = " that no thread waits for"
+LATE = " that came while its group slept"
 
 
 class Standing:
@@ -16,6 +17,8 @@ class Standing:
         pairs = [line.split() for line in events if line != "overflow"]
         self.last = {table.task_of[int(s)].number: (place, worker) for place, (_, worker, s) in enumerate(pairs)
                      if int(s) < len(table.task_of)}  # of each task, its last event's place and thread
+        self.latest = {worker: place for place, (_, worker, _) in enumerate(pairs)}
+        self.ended = {int(segment): place for place, (what, _, segment) in enumerate(pairs) if what == "finish"}
         self.started = [int(segment) for what, _, segment in pairs if what == "start"]
         self.finished = {int(segment) for what, _, segment in pairs if what == "finish"}
         self.running = [s for s in self.started if s not in self.finished]
@@ -36,10 +39,33 @@ class Standing:
         if segment != task.segments[0]:
             return cut.construct + BELOW * self.is_below_waiter(task) if cut.construct else "after a task"
         if task.parent and task.parent.detached:
-            return "begin of the child of detach" + NO_WAITER * self.is_nothing_waited_for()
+            return "begin of the child of detach" + self.left_alone(task)
         if task.exclusive and task.parent.segments[-1] in self.finished:
             return "begin of a task with mutexinoutset whose parent has ended"
         return "begin of a task with depend" if task.items else "begin of a task"
+
+    def left_alone(self, task):
+        """Why no thread of the team begins the child of a task with `detach`, where that is known."""
+        if self.is_nothing_waited_for():
+            return NO_WAITER
+        return LATE * self.is_late(task)
+
+    def is_late(self, task):
+        """Whether each thread of the team waits for tasks that cannot begin, or has waited at the end of a group around
+        the task since before that was created."""
+        stacks = {} if self.unlogged else self.stacks
+        waiting = [stack for thread, stack in stacks.items() if stack and (
+            self.waits_in_vain(stack[-1])
+            or self.latest[thread] < self.ended[task.creator] and self.waits_in_group(stack[-1], task))]
+        return 0 < self.threads <= len(waiting)
+
+    def waits_in_group(self, waiter, task):
+        """Whether a task that has begun is at the end of a group that a task belongs to."""
+        left = next((s for s in waiter.segments if s not in self.finished), None)
+        if left is None or left in self.started or left in self.ready:
+            return False
+        cut = self.table.cut[left]
+        return cut.construct not in ("", "parallel", "taskwait") and any(other is task for other in cut.tasks)
 
     def is_nothing_waited_for(self):
         """Whether each thread of the team waits inside of a task, and none at a barrier, for tasks that cannot begin.

@@ -6,12 +6,12 @@ import tempfile
 import unittest
 from unittest import mock
 
-from spanprof.conformance.cases import Bench, Plan
+from spanprof.conformance.cases import Bench, Plan, team_of
 from spanprof.conformance.exclusion import first_overlap
 from spanprof.conformance.judge import Record, Verdict
 from spanprof.conformance.launch import Log
 from spanprof.conformance.toolchain import BuildFailed
-from spanprof.conformance.tests.helpers import PLAN, case_of
+from spanprof.conformance.tests.helpers import PLAN, body_of, case_of, conditions
 from spanprof.conformance.variants import VARIANTS
 
 LOG = "start 0 0\nfinish 0 0\nstart 1 1\nstart 0 2\nfinish 0 2\nfinish 1 1\nstart 0 3\nfinish 0 3\n"
@@ -53,6 +53,14 @@ class StubJudge:
         if "\n".join([*log.events, ""]) == EARLY:
             return Verdict("refused", "event 5: NotReady 1")
         return Verdict("accepted") if log.events else Verdict("incomplete", "finished 0 of 4 segments")
+
+
+class Teams(unittest.TestCase):
+    def test_outside_of_regions_there_is_one_thread(self):
+        tasks, regions = body_of("task { } taskwait"), body_of("taskgroup { #: parallel\n task { } }")
+        self.assertEqual(team_of(tasks, conditions(4)), 4)
+        self.assertEqual(team_of(tasks, conditions(4, "orphaned")), 1)
+        self.assertEqual(team_of(regions, conditions(4, "orphaned")), 4)
 
 
 class Plans(unittest.TestCase):
