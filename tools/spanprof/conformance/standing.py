@@ -5,7 +5,7 @@ MOST_SEARCHED = 1000  # segments of a program whose ready segments are looked fo
 MOST_NAMED = 3        # constructs that tell hangs apart
 BELOW = " below its waiter"
 NO_WAITER = " that no thread waits for"
-LATE = " that came while its group slept"
+IN_GROUP = " in a group whose end waits"
 
 
 class Standing:
@@ -17,8 +17,6 @@ class Standing:
         pairs = [line.split() for line in events if line != "overflow"]
         self.last = {table.task_of[int(s)].number: (place, worker) for place, (_, worker, s) in enumerate(pairs)
                      if int(s) < len(table.task_of)}  # of each task, its last event's place and thread
-        self.latest = {worker: place for place, (_, worker, _) in enumerate(pairs)}
-        self.ended = {int(segment): place for place, (what, _, segment) in enumerate(pairs) if what == "finish"}
         self.started = [int(segment) for what, _, segment in pairs if what == "start"]
         self.finished = {int(segment) for what, _, segment in pairs if what == "finish"}
         self.running = [s for s in self.started if s not in self.finished]
@@ -45,44 +43,40 @@ class Standing:
         return "begin of a task with depend" if task.items else "begin of a task"
 
     def left_alone(self, task):
-        """Why no thread of the team begins the child of a task with `detach`, where that is known."""
-        if self.is_nothing_waited_for():
+        """Why no thread of the team begins the child of a task with `detach`, where that is known: each waits inside of
+        a task, and none at a barrier, for tasks that cannot begin, or for those of a group around the child."""
+        if self.is_each_thread(self.waits_in_vain):
             return NO_WAITER
-        return LATE * self.is_late(task)
+        in_group = self.is_each_thread(lambda waiter: self.waits_in_vain(waiter) or self.waits_in_group(waiter, task))
+        return IN_GROUP * in_group
 
-    def is_late(self, task):
-        """Whether each thread of the team waits for tasks that cannot begin, or has waited at the end of a group around
-        the task since before that was created."""
-        stacks = {} if self.unlogged else self.stacks
-        waiting = [stack for thread, stack in stacks.items() if stack and (
-            self.waits_in_vain(stack[-1])
-            or self.latest[thread] < self.ended[task.creator] and self.waits_in_group(stack[-1], task))]
-        return 0 < self.threads <= len(waiting)
-
-    def waits_in_group(self, waiter, task):
-        """Whether a task that has begun is at the end of a group that a task belongs to."""
-        left = next((s for s in waiter.segments if s not in self.finished), None)
-        if left is None or left in self.started or left in self.ready:
-            return False
-        cut = self.table.cut[left]
-        return cut.construct not in ("", "parallel", "taskwait") and any(other is task for other in cut.tasks)
-
-    def is_nothing_waited_for(self):
-        """Whether each thread of the team waits inside of a task, and none at a barrier, for tasks that cannot begin.
-        Where the threads are not known, so many tasks have to wait so."""
+    def is_each_thread(self, waits):
+        """Whether each thread of the team is in a task that waits so. Where the threads are not known, so many tasks
+        have to wait so."""
         innermost = [stack[-1] for stack in self.stacks.values() if stack]
         if self.unlogged:
             innermost = [task for stack in self.stacks.values() for task in stack]
-        return 0 < self.threads <= sum(map(self.waits_in_vain, innermost))
+        return 0 < self.threads <= sum(map(waits, innermost))
+
+    def waited_for(self, task):
+        """What a task that has begun waits for, as the cut before its next segment says, or None."""
+        left = next((s for s in task.segments if s not in self.finished), None)
+        if left is None or left in self.started or left in self.ready:
+            return None
+        return self.table.cut[left]
+
+    def waits_in_group(self, waiter, task):
+        """Whether a task that has begun is at the end of a group that another one belongs to."""
+        cut = self.waited_for(waiter)
+        return cut is not None and cut.construct not in ("", "parallel", "taskwait") and \
+            any(other is task for other in cut.tasks)
 
     def waits_in_vain(self, task):
         """Whether a task that has begun is at a wait for tasks that cannot begin. The end of a region is no wait
         inside of a task."""
-        left = next((s for s in task.segments if s not in self.finished), None)
-        if left is None or left in self.started or left in self.ready:
-            return False
-        cut = self.table.cut[left]
-        return cut.construct not in ("", "parallel") and not any(t.segments[0] in self.ready for t in cut.tasks)
+        cut = self.waited_for(task)
+        return cut is not None and cut.construct not in ("", "parallel") and \
+            not any(other.segments[0] in self.ready for other in cut.tasks)
 
     def is_below_waiter(self, task):
         """Whether the thread that has left a task has gone on with an untied one that waits for it: then the first lies

@@ -87,23 +87,24 @@ class Places(unittest.TestCase):
         self.assertEqual(place(2, text.removesuffix(" taskwait")), "begin of the child of detach")
         self.assertEqual(place(2, unlogged=False), "begin of the child of detach")
 
-    def test_the_child_of_detach_that_came_while_its_group_slept(self):
+    def test_the_child_of_detach_in_a_group(self):
         # Thread 0 is at the end of the group, thread 1 at the taskwait of the task that created the one with detach.
         text = "taskgroup { task { task { #: detach\n task if(0) { } } taskwait } }"
-        table = Table(body_of(text))
-        outer, detached = table.tasks[1], table.tasks[2]
-        root = table.task_of[0].segments
-        group = [f"{what} 0 {s}" for s in root[:-1] for what in ("start", "finish")]
-        inner = [f"{what} 1 {s}" for s in (outer.segments[0], outer.segments[1], detached.segments[0])
-                 for what in ("start", "finish")]
 
-        def place(threads, events, unlogged=False):
+        def place(threads, text=text, unlogged=False):
+            table = Table(body_of(text))
+            root, outer, detached = (task.segments for task in table.tasks[:3])
+            runs = [(0, s) for s in root[:2]] + [(1, s) for s in (*outer[:2], detached[0])]
+            events = [f"{what} {thread} {s}" for thread, s in runs for what in ("start", "finish")]
             return Standing(table, events, threads, unlogged).places()
 
-        self.assertEqual(place(2, group + inner), "begin of the child of detach that came while its group slept")
-        for found in (place(0, group + inner), place(3, group + inner), place(2, group + inner, True),
-                      place(2, group[:-2] + inner + group[-2:])):
-            self.assertEqual(found, "begin of the child of detach")
+        for unlogged in (False, True):
+            self.assertEqual(place(2, unlogged=unlogged), "begin of the child of detach in a group whose end waits")
+            for threads in (0, 3):
+                self.assertEqual(place(threads, unlogged=unlogged), "begin of the child of detach")
+        # Thread 0 is at the barrier.
+        self.assertEqual(place(2, "task { task { #: detach\n task if(0) { } } taskwait }"),
+                         "begin of the child of detach")
 
     def test_without_anything_ready(self):
         self.assertEqual(standing("work 1", 0).places(), "end of the region")
