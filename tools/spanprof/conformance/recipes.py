@@ -135,12 +135,13 @@ class Recipes:
         return task(*body, items=[item("in", "a", 0)] if self.rng.random() < .6 else [])
 
     def cancelled(self):
-        """Groups of which a task is cancelled, one after another, among tasks that are not in them."""
+        """Groups of which a task is cancelled, one after another, among tasks that are not in them. These are over when
+        a group begins: a task that is left out does not wait for what it depends on."""
         if "cancel" in self.without:
             return self.makers()
         body = [task(Work(self.rng.choice((1, 20))), items=[item("out")])]
         for _ in range(self.rng.choice((1, 2, 6))):
-            body += [self.cancelled_group(), task(items=[item("in")])]
+            body += [Wait(), self.cancelled_group(), task(items=[item("in")])]
         return self.around(body)
 
     def cancelled_group(self):

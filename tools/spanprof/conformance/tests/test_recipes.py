@@ -3,6 +3,7 @@ import random
 import unittest
 
 from spanprof.conformance.constructs import constructs
+from spanprof.conformance.forms import is_cancelled
 from spanprof.conformance.generate import RECIPES
 from spanprof.conformance.program import Group, Loop, Task, Wait, Work, nodes, segment_count
 from spanprof.conformance.reader import read_program
@@ -32,6 +33,13 @@ class Made(unittest.TestCase):
     def test_without_loops(self):
         for name in RECIPES:
             self.assertFalse([node for body in made(name, ["loop"]) for node in nodes(body) if isinstance(node, Loop)])
+
+    def test_no_sibling_is_under_way_where_a_cancelled_group_begins(self):
+        for body in made("cancel"):
+            for statements in [body, *(getattr(node, "body", ()) for node in nodes(body))]:
+                for before, node in zip((None, *statements), statements):
+                    if isinstance(node, Group) and is_cancelled(node):
+                        self.assertIsInstance(before, Wait)
 
     def test_more_ready_tasks_than_are_queued(self):
         for body in made("many"):
