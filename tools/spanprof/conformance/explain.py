@@ -69,13 +69,12 @@ def refused(table, detail, log):
 
 
 def of_exclusive(table, need, segment, started):
-    """What is added to a rule where a region ended before a task with mutexinoutset, or one below it, had begun; or where
-    one begins that this run has not created. What has started by then is told."""
+    """What is added to a rule where a region ended before a task with mutexinoutset had begun, or before one below it;
+    or where one begins that this run has not created. What has started by then is told."""
     rule = need.rule if need else ""
-    ended_before = rule == "taskgroup" and need.construct == "parallel" and need.before not in started
-    left = need.before if ended_before else segment
-    is_left = (ended_before or rule == "creation") and exclusion.is_below_exclusive(table.task_of[left])
-    return OF_EXCLUSIVE * is_left
+    if rule == "taskgroup" and need.construct == "parallel":
+        return OF_EXCLUSIVE * exclusion.is_below_exclusive(table.task_of[need.before], started)
+    return OF_EXCLUSIVE * (rule == "creation" and exclusion.is_below_exclusive(table.task_of[segment]))
 
 
 def started_in(events):
