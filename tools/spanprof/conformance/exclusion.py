@@ -101,7 +101,7 @@ def has_finished(events, segment):
 
 
 def is_below_exclusive(task, started=()):
-    """Whether a task has `mutexinoutset` items or is below one that has, and that has not begun, by what has started."""
+    """Whether a task has `mutexinoutset` items or is below one that has, which has not begun by what has started."""
     is_here = bool(task.exclusive) and task.segments[0] not in started
     return is_here or task.parent is not None and is_below_exclusive(task.parent, started)
 
