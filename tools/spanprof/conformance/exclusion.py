@@ -100,9 +100,10 @@ def has_finished(events, segment):
     return any(what == "finish" and int(one) == segment for what, _, one in map(str.split, events))
 
 
-def is_below_exclusive(task):
-    """Whether a task has `mutexinoutset` items or is below one that has."""
-    return bool(task.exclusive) or task.parent is not None and is_below_exclusive(task.parent)
+def is_below_exclusive(task, started=()):
+    """Whether a task has `mutexinoutset` items or is below one that has, which has not begun by what has started."""
+    is_here = bool(task.exclusive) and task.segments[0] not in started
+    return is_here or task.parent is not None and is_below_exclusive(task.parent, started)
 
 
 def rule_of(words):

@@ -62,25 +62,24 @@ def refused(table, detail, log):
         return Explanation(rule, f"{begin}, which is {kind}. The rule: {meaning}.")
     need = table.need(int(others[0]), int(segment))
     rule, why = (need.rule, reason_of(table, need, int(segment))) if need else ("order", "by several rules together")
-    short = CUT_SHORT if is_cut_short(table, int(others[0]), started_in(log)) else rule
-    short += of_exclusive(table, need, int(segment), log) if short == rule else ""
+    short = CUT_SHORT if is_cut_short(table, int(others[0]), started_in(log.events)) else rule
+    short += of_exclusive(table, need, int(segment), started_in(log.events[:int(place)])) if short == rule else ""
     return Explanation(short, f"{begin} before {table.name_of(int(others[0]))} has finished: {why}. "
                               f"The rule: {RULES[rule]}.")
 
 
-def of_exclusive(table, need, segment, log):
-    """What is added to a rule where a region ended before a task with mutexinoutset, or one below it, that never began;
-    or where one begins that this run has not created."""
+def of_exclusive(table, need, segment, started):
+    """What is added to a rule where a region ended before a task with mutexinoutset had begun, or before one below it;
+    or where one begins that this run has not created. What has started by then is told."""
     rule = need.rule if need else ""
-    ended_before = rule == "taskgroup" and need.construct == "parallel" and need.before not in started_in(log)
-    left = need.before if ended_before else segment
-    is_left = (ended_before or rule == "creation") and exclusion.is_below_exclusive(table.task_of[left])
-    return OF_EXCLUSIVE * is_left
+    if rule == "taskgroup" and need.construct == "parallel":
+        return OF_EXCLUSIVE * exclusion.is_below_exclusive(table.task_of[need.before], started)
+    return OF_EXCLUSIVE * (rule == "creation" and exclusion.is_below_exclusive(table.task_of[segment]))
 
 
-def started_in(log):
-    """The segments that have begun in a log."""
-    return {int(event.split()[2]) for event in log.events if event.startswith("start ")}
+def started_in(events):
+    """The segments that have begun in some events."""
+    return {int(event.split()[2]) for event in events if event.startswith("start ")}
 
 
 def is_cut_short(table, segment, started):

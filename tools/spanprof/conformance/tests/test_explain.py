@@ -108,6 +108,14 @@ class LeftOver(unittest.TestCase):
             self.assertEqual(self.rule(detail, event), rule + OF_EXCLUSIVE, event)
             self.assertEqual(self.rule(detail, event, plain), rule, event)
 
+    def test_a_task_that_begins_after_its_region(self):
+        table = Table(read_program(self.text))
+        exclusive, end = f"start 1 {table.tasks[2].segments[0]}", f"start 0 {table.tasks[0].segments[-1]}"
+        for events, added in ((["start 0 0", end, exclusive], OF_EXCLUSIVE), (["start 0 0", exclusive, end], "")):
+            detail = f"event {events.index(end)}: NotReady {table.tasks[2].segments[-1]}"
+            found = explain(self.text, Verdict("refused", detail), Log(0, "plain", events, "done"))
+            self.assertEqual(found.rule, "taskgroup" + added)
+
     def test_other_tasks_and_groups(self):
         table = Table(read_program(self.text))
         end = table.tasks[0].segments[-1]
