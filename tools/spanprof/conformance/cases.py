@@ -8,13 +8,13 @@ from dataclasses import dataclass, field, replace
 
 from spanprof.conformance.chunks import wrong_chunks
 from spanprof.conformance.coverage import Coverage
-from spanprof.conformance.discarding import completed, record_of, without_discarded
+from spanprof.conformance.discarding import completed, may_discard, record_of, without_discarded
 from spanprof.conformance.emit_c import c_text
 from spanprof.conformance.expected import Expectations
 from spanprof.conformance.exclusion import overlapping
 from spanprof.conformance.explain import explain
 from spanprof.conformance.forms import is_of_regions
-from spanprof.conformance.judge import Verdict
+from spanprof.conformance.judge import TOO_MANY, Verdict
 from spanprof.conformance.launch import Conditions, launch
 from spanprof.conformance.segments import Table
 from spanprof.conformance.text import text_of
@@ -125,6 +125,8 @@ class Examined:
         Where the events have an order: whether tied tasks stayed on their threads, whether tasks that exclude one
         another ran one at a time and, where the runtime was not told otherwise, whether threads began tied tasks only
         where they may."""
+        if "overflow" in log.events and may_discard(self.table):  # spanprof would miss the events of discarded tasks
+            return TOO_MANY
         self.judged_logs += not log.unlogged
         verdict = self.judge.verdict(self.text, record_of(self.record, self.table, log), log)
         if not verdict.accepted:

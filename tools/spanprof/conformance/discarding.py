@@ -39,9 +39,13 @@ class Discarded:
         return found
 
 
+def may_discard(table):
+    return any(task.cancellers for task in table.tasks)
+
+
 def completed(table, log):
-    """The log with the events of the tasks that were discarded."""
-    if not any(task.cancellers for task in table.tasks):
+    """The log with the events of the tasks that were discarded; one that is cut short stays as it is."""
+    if not may_discard(table):
         return log
     events = [event for event in log.events if event != "overflow"]
     known = all(int(event.split()[2]) < len(table.cost) for event in events)

@@ -22,6 +22,9 @@ class Verdict:
         return self.kind == "accepted"
 
 
+TOO_MANY = Verdict("refused", "more events than the program can have")
+
+
 class Missing(Fault):
     """Something that was asked for is not there."""
 
@@ -82,7 +85,7 @@ class Judge:
         if replayed.kind == "refused":
             return replayed
         if len(events) < len(log.events):
-            return Verdict("refused", "more events than the program can have")
+            return TOO_MANY
         if log.end != "done":
             return Verdict(log.end, log.detail)
         if replayed.accepted and log.detail not in ("", record.digest):

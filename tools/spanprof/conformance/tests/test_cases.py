@@ -6,9 +6,9 @@ import tempfile
 import unittest
 from unittest import mock
 
-from spanprof.conformance.cases import Bench, Plan, team_of
+from spanprof.conformance.cases import Bench, Examined, Plan, team_of
 from spanprof.conformance.exclusion import first_overlap
-from spanprof.conformance.judge import Record, Verdict
+from spanprof.conformance.judge import TOO_MANY, Record, Verdict
 from spanprof.conformance.launch import Log
 from spanprof.conformance.toolchain import BuildFailed
 from spanprof.conformance.tests.helpers import PLAN, body_of, case_of, conditions
@@ -53,6 +53,16 @@ class StubJudge:
         if "\n".join([*log.events, ""]) == EARLY:
             return Verdict("refused", "event 5: NotReady 1")
         return Verdict("accepted") if log.events else Verdict("incomplete", "finished 0 of 4 segments")
+
+
+class CutShort(unittest.TestCase):
+    def judged(self, *events):
+        judge, case = StubJudge(), case_of(text="taskgroup { task { #: cancels\n } task { } }")
+        return Examined(case, judge).judged(Log(0, "plain", list(events), "done"), True), judge.asked
+
+    def test_a_log_without_events_of_discarded_tasks_is_not_judged(self):
+        self.assertEqual(self.judged("start 0 0", "overflow"), (TOO_MANY, 0))
+        self.assertEqual(self.judged("start 0 0"), (Verdict("accepted"), 1))
 
 
 class Teams(unittest.TestCase):
