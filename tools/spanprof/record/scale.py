@@ -9,6 +9,7 @@ from typing import Dict, List, NamedTuple, Optional
 
 from spanprof.account import Account, account_beside
 from spanprof.answers import Answers
+from spanprof.claims import tasks_made
 from spanprof.errors import Fault
 from spanprof.head import Head, head_text, read_head
 from spanprof.record.console import say, tell
@@ -22,7 +23,7 @@ class Region:
     """What a recording tells of one region."""
     name: str   # of the text
     head: Head
-    tasks: int
+    tasks: int  # that the program makes
     work: int
     account: Optional[Account] = None
     why: str = ""   # there is no account
@@ -141,7 +142,7 @@ def costs_by_place(answers):
 
 def region_of(answers):
     account, why = account_beside(answers)
-    return Region(answers.name, answers.head, answers.tasks, answers.work, account, why, answers.path,
+    return Region(answers.name, answers.head, tasks_made(answers), answers.work, account, why, answers.path,
                   costs_by_place(answers))
 
 
