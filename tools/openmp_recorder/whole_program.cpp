@@ -13,6 +13,13 @@ int64_t own_cost(const Task &t) {
   return cost;
 }
 
+// Whether a part creates tasks of the program, beside pieces of loops.
+bool makes_tasks(const Task &part) {
+  return part.children && std::any_of(part.steps.begin(), part.steps.end(), [](const Step &step) {
+           return step.kind == Kind::Create && !step.child()->pieces;
+         });
+}
+
 void add_differing(Differing &all, const Differing &more) {
   all.cost += more.cost;
   all.off += more.off;
@@ -51,7 +58,7 @@ void count_loops(WholeProgram &whole) {
 void count_parts(WholeProgram &whole, const Region &region) {
   for (const Part &part : region.parts)
     if (part.task->pieces) whole.in_loops += own_cost(*part.task), whole.pieces++;
-    else if (!part.task->children) whole.in_parts += own_cost(*part.task);
+    else if (!makes_tasks(*part.task)) whole.in_parts += own_cost(*part.task);
 }
 
 void finish_whole(Run &run, const RegionTime &time, int64_t unit) {

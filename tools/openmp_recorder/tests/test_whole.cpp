@@ -148,7 +148,7 @@ TEST(the_head_tells_what_a_whole_programs_text_has) {
 # covers: {"text": 24100, "program": 24200}
 # not covered: {"of the program": 100}
 )");
-  EXPECT_PART(head, "# in serial code: 100\n# in loops: 8000\n# in parts without tasks: 12000\n# in tasks: 4000\n");
+  EXPECT_PART(head, "# in serial code: 100\n# in loops: 8000\n# in parts without tasks: 16000\n# in tasks: 0\n");
   EXPECT_PART(head, R"(# divided: {"what": "code", "threads": 2, "parts": 2, "beside": 4000})");
   EXPECT_PART(head, "# remark: {\"remark\": \"equal turns\", \"times\": 1, \"span\": \"low\"}\n");
 }
