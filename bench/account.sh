@@ -1,5 +1,5 @@
 #!/usr/bin/env bash
-# Times `spanprof_large account` beside a plain Rust program of the same sweep, on greedy runs of 64 threads as timed runs,
+# Times `spanprof_large account` beside a plain Rust program of the same sweep, on greedy schedules of 64 threads as timed runs,
 # and tells the most memory that each held, in all and for a segment beside the document. Compares what both print first.
 #
 #     bench/account.sh [TASKS ..]      10000 100000 1000000, if none are given; LARGE names the program, if it is built
@@ -13,7 +13,7 @@ if [ -z "${LARGE:-}" ]; then
 fi
 rustc -O --edition 2024 -o "$scratch/plain" "$top/bench/plain/main.rs"
 
-# document NAME TASKS: a text and its greedy run. A segment that costs nothing has no thread: any will do.
+# document NAME TASKS: a text and its greedy schedule. A segment that costs nothing has no thread: any will do.
 document() {
     python3 "$top/bench/large_texts.py" "$1" "$2" > "$scratch/text"
     "$scratch/plain" greedy --threads 64 --any-size < "$scratch/text" > "$scratch/run"

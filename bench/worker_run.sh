@@ -3,7 +3,7 @@
 # a chain, a tree and a grid, once with kernels that do nothing and once with kernels of some ten microseconds; then a
 # chain of waits and 4.2 million edges; with each the processor time of the whole process in seconds. Needs rt, python3
 # and gcc. TURNS is what takes ten microseconds (700 where it is not set), TIMES how often each is run (20). Here OpenMP
-# keeps no record: recorded_runs.sh times whole processes that keep one.
+# keeps no record.
 set -euo pipefail
 # shellcheck source=bench/common.sh
 . "$(dirname "$0")/common.sh"

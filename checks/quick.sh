@@ -3,8 +3,17 @@
 # against the sources, and the unit tests of the scripts and tools, as many at once as there are processors. It needs
 # neither the program nor a compiler, and half a minute. It prints a line for each, and what a check printed where it
 # failed; the status is 0 where none did.
+#
+#     checks/quick.sh                       all of them
+#     checks/quick.sh --changed [COMMIT]    those that the changes since a commit concern (origin/main), committed or not
 set -uo pipefail
 cd "$(dirname "$0")/.." || exit 1
+unset SPANPROF SPANPROF_LARGE   # no check here asks a program
+changed=
+if [ "${1:-}" = --changed ]; then
+    base=$(git merge-base "${2:-origin/main}" HEAD) || exit 2
+    changed=$(git diff --name-only "$base"; git ls-files --others --exclude-standard; echo)
+fi
 count=0
 answers=$(mktemp -d)
 trap 'rm -rf "$answers"' EXIT
@@ -20,8 +29,12 @@ answer() {
     fi
 }
 
+# concerns PATTERN: whether the checks that follow run: a changed file matches, or all are asked for.
+concerns() { if [ -z "$changed" ] || grep -qE "$1" <<< "$changed"; then wanted=1; else wanted=; fi; }
+
 # passes NAME WORD..: begins to run the words, as soon as there is a processor for it.
 passes() {
+    [ -n "$wanted" ] || return 0
     while [ "$(jobs -rp | wc -l)" -ge "$(nproc)" ]; do wait -n; done
     count=$((count + 1))
     answer "$@" > "$answers/$count" &
@@ -35,13 +48,11 @@ installed() {
 # tested FOLDER TOP: the unit tests of a folder, which import from TOP.
 tested() { passes "$1" python3 -B -m unittest discover -q -s "$1" -t "$2"; }
 
-for script in definitions proof_map; do
-    passes "$script.py" python3 -B "checks/sources/$script.py" --check
-done
-for script in crate_picture version signatures places clauses believed_lines left_edits repeated_lines sentences \
-    links speed_numbers waiting/lines style imports; do
-    passes "$script.py" python3 -B "checks/sources/$script.py"
-done
+python='\.py$|^checks/quick\.sh$'
+proofs='^crates|^docs/|^README\.md$|^CONTRIBUTING\.md$|^checks/(sources|edits)/'
+concerns "$python"
+passes style.py python3 -B checks/sources/style.py
+passes imports.py python3 -B checks/sources/imports.py
 installed pyflakes3 tools checks bench examples
 # E402 is an import below sys.path, and style.py looks at long lines.
 installed pycodestyle --ignore=E126,E402,E501,W291,W503,W504 tools checks bench examples
@@ -49,22 +60,46 @@ installed pycodestyle --ignore=E126,E402,E501,W291,W503,W504 tools checks bench 
 # are kept for what was measured.
 installed vulture --exclude '*/tests/*,*test_*.py' tools checks bench examples \
     --ignore-names 'write_*,dont_write_bytecode,__getattr__,namespace,option_string,only_first,FORMERLY'
+core='^tools/spanprof/(tests/)?[^/]+$'
+names=()
+for tests in tools/tests tools/spanprof/tests tools/spanprof/*/tests; do
+    case $tests in
+        tools/spanprof/*/tests) concerns "^${tests%tests}|$core" ;;
+        *) concerns "^${tests%tests}(tests/)?[^/]+\$" ;;
+    esac
+    for test in ${wanted:+"$tests"/test_*.py}; do test=${test#tools/} && test=${test%.py} && names+=("${test//\//.}"); done
+done
+for part in 0 1 2; do   # three processes for all of the tools
+    own=()
+    for ((i = part; i < ${#names[@]}; i += 3)); do own+=("${names[i]}"); done
+    wanted=${own:+1}
+    passes "tests of the tools, part $((part + 1))" env -C tools python3 -B -m unittest -q "${own[@]}"
+done
+concerns "$proofs"
+for script in definitions proof_map; do
+    passes "$script.py" python3 -B "checks/sources/$script.py" --check
+done
+for script in crate_picture signatures places clauses believed_lines left_edits limits repeated_lines waiting/lines; do
+    passes "$script.py" python3 -B "checks/sources/$script.py"
+done
+concerns '\.md$|^VERSION$|^bench/|^docs/|^crates|^checks/sources/'
+for script in version sentences retired_words links speed_numbers; do passes "$script.py" python3 -B "checks/sources/$script.py"; done
+concerns '\.sh$|^demo$|^\.ci/'
 # shellcheck disable=SC2046
 installed shellcheck -S warning demo .ci/run $(git ls-files '*.sh')
+concerns '^tools/openmp_recorder/'
 passes cpp_format.sh checks/sources/cpp_format.sh
 for test in checks/*/test_*.py checks/sources/waiting/test_*.py checks/agree/large_recordings/test_*.py bench/test_*.py \
     bench/recording/test_*.py; do
+    concerns "^${test%/*}/|$core"
     passes "$test" python3 -B "$test"
 done
+concerns '^checks/sources/believed'
 tested checks/sources/believed/tests checks/sources
-for tests in checks/llvm/tests checks/programs/*/tests checks/recorders/*/tests; do
+for tests in checks/llvm/tests checks/real/tests checks/programs/*/tests checks/recorders/*/tests; do
+    concerns "^${tests%/tests}/|^checks/llvm/|$core"
     tested "$tests" "${tests%/tests}"
-done
-tested tools/tests tools
-tested tools/spanprof/tests tools
-for folder in record path predict whatif report conformance; do
-    tested "tools/spanprof/$folder/tests" tools
 done
 wait
 for ((number = 1; number <= count; number++)); do cat "$answers/$number"; done
-! grep -q '^FAILED  ' "$answers"/*
+! grep -qs '^FAILED  ' "$answers"/*

@@ -5,7 +5,7 @@
    pointer may be null. What a call fills may not overlap what it reads or fills besides.
 
    A call answers SPANPROF_DONE, or the number of a refusal. It also writes *place: where the refusal lies. After a
-   refusal, what else it was to fill may hold anything.
+   refusal, what else it was to fill is as it was.
 
    Nothing is kept between calls, so threads may call at the same time. A call takes memory from malloc and gives all of
    it back. It may not be made from a signal handler. */
@@ -122,13 +122,13 @@ uint32_t spanprof_analyse(const uint8_t *text, size_t bytes, bool any_size, cons
                           uint64_t *starts, size_t starts_length, uint64_t *slacks, size_t slacks_length,
                           uint32_t *path, size_t path_length, spanprof_analysed *told, spanprof_place *place);
 
-/* The greedy run on 1 to 1,024 threads: when each segment starts and on which thread, from 0 on, and when the last one
+/* The greedy schedule on 1 to 1,024 threads: when each segment starts and on which thread, from 0 on, and when the last one
    ends. */
 uint32_t spanprof_greedy(const uint8_t *text, size_t bytes, bool any_size, const uint64_t *costs, size_t count,
                          uint32_t thread_count, uint64_t *starts, size_t starts_length,
                          uint32_t *threads, size_t threads_length, uint64_t *end, spanprof_place *place);
 
-/* The ends of the greedy runs on 1, 2, .. ends_length threads: 1 to 1,024. */
+/* The ends of the greedy schedules on 1, 2, .. ends_length threads: 1 to 1,024. */
 uint32_t spanprof_curve(const uint8_t *text, size_t bytes, bool any_size, const uint64_t *costs, size_t count,
                         uint64_t *ends, size_t ends_length, spanprof_place *place);
 

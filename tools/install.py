@@ -10,6 +10,7 @@ import shutil
 import sys
 
 from spanprof.errors import Fault
+from spanprof.proof import SUFFIX
 from spanprof.version import commit_of
 
 TOOLS = os.path.dirname(os.path.abspath(__file__))
@@ -19,8 +20,9 @@ VERSION = "share/spanprof/VERSION"
 LIBRARY = os.path.join(TOOLS, "..", "out", "library")
 LIST = os.path.join("share", "spanprof", "installed")
 COMMANDS = ("spanprof-record", "spanprof-convert", "spanprof-report", "spanprof-path", "spanprof-whatif",
-            "spanprof-predict", "spanprof-conformance")
-EXECUTABLE = ("bin/", "lib/spanprof/convert_log", "lib/spanprof/calibrate")
+            "spanprof-predict", "spanprof-conformance")     # links to spanprof
+PROGRAM, LARGE_PROGRAM = "libexec/spanprof/spanprof", "libexec/spanprof/spanprof_large"
+EXECUTABLE = ("bin/", "libexec/", "lib/spanprof/convert_log", "lib/spanprof/calibrate")
 SHARED = ("*.py", "spanprof/*.py", "spanprof/*/*.py", "spanprof/report/template/*", "conformance/*.txt",
           "conformance/*.sh", "conformance/directed/*.tasks", "conformance/harness/*", "conformance/mutants/*")
 LEFT_OUT = ("install.py", "/tests/")
@@ -48,20 +50,26 @@ def of_library(folder):
 def of_module(folder):
     """The module for live pages, where it is made."""
     module = os.path.join(folder, "spanprof.wasm")
-    return [(module, "lib/spanprof.wasm")] if os.path.isfile(module) else []
+    return with_checksum(module, "lib/spanprof.wasm") if os.path.isfile(module) else []
+
+
+def with_checksum(program, path):
+    """A program, and the checksum that stands beside it where it was proved."""
+    pairs = [(program, path), (program + SUFFIX, path + SUFFIX)]
+    return pairs if os.path.isfile(program + SUFFIX) else pairs[:1]
 
 
 def plan(spanprof=SPANPROF, large=LARGE, library=LIBRARY):
     """Where each file goes: pairs of a file and its path below the prefix. The program for texts of any size goes there
-    where it is built, and so does the library."""
-    pairs = [(spanprof, "bin/spanprof")] + of_library(library) + of_module(library)
+    where it is built, and so does the library. What users call is a script; it calls the programs."""
+    pairs = [(os.path.join(TOOLS, "bin", "spanprof"), "bin/spanprof"), *with_checksum(spanprof, PROGRAM)]
+    pairs += of_library(library) + of_module(library)
     if os.path.isfile(large):
-        pairs += [(large, "bin/spanprof_large"),
+        pairs += [*with_checksum(large, LARGE_PROGRAM),
                   (os.path.join(TOOLS, "completion", "spanprof.bash"),
                    "share/bash-completion/completions/spanprof_large"),
                   (os.path.join(TOOLS, "man", "spanprof.1"), "share/man/man1/spanprof_large.1"),
                   (os.path.join(TOOLS, "man", "spanprof-account.1"), "share/man/man1/spanprof-account.1")]
-    pairs += [(os.path.join(TOOLS, name), "bin/" + name) for name in COMMANDS]
     pairs += [(os.path.join(TOOLS, "openmp_recorder", "librecorder.so"), "lib/spanprof/librecorder.so"),
               (os.path.join(TOOLS, "openmp_recorder", "convert_log"), "lib/spanprof/convert_log"),
               (os.path.join(TOOLS, "openmp_recorder", "calibrate"), "lib/spanprof/calibrate")]
@@ -73,8 +81,14 @@ def plan(spanprof=SPANPROF, large=LARGE, library=LIBRARY):
                     (os.path.join(TOOLS, "..", "VERSION"), VERSION)]
 
 
+def links(large=LARGE):
+    """The other names: pairs of what a link names and its path below the prefix."""
+    of_large = [(os.path.join("..", LARGE_PROGRAM), "bin/spanprof_large")] if os.path.isfile(large) else []
+    return [("spanprof", "bin/" + name) for name in COMMANDS] + of_large
+
+
 def mode(path):
-    return 0o755 if path.startswith(EXECUTABLE) else 0o644
+    return 0o755 if path.startswith(EXECUTABLE) and not path.endswith(SUFFIX) else 0o644
 
 
 def make_folders(root, path, made):
@@ -88,16 +102,21 @@ def make_folders(root, path, made):
         made.append(folder + "/")
 
 
-def install(root, pairs):
+def check_sources(pairs):
     for source, path in pairs:
         if not os.path.isfile(source):
             shown = os.path.relpath(source, os.path.join(TOOLS, ".."))
-            raise Fault("%s: no such %s" % (shown, "program; README.md tells how spanprof is built"
-                                            if path == "bin/spanprof" else "file"))
+            raise Fault("%s: no such %s" % (shown, "program; README.md says how to build spanprof"
+                                            if path == PROGRAM else "file"))
+
+
+def install(root, pairs, named=()):
+    """Puts the files there, and the links."""
+    check_sources(pairs)
     uninstall(root)
     made = [] if os.path.isdir(root) else ["./"]
     os.makedirs(root, exist_ok=True)
-    places = [path for _, path in pairs] + [LIST]
+    places = [path for _, path in pairs] + [path for _, path in named] + [LIST]
     for path in places:
         make_folders(root, path, made)
     with open(os.path.join(root, LIST), "w", encoding="utf-8") as file:
@@ -107,7 +126,9 @@ def install(root, pairs):
         os.chmod(os.path.join(root, path), mode(path))
         if path == VERSION:
             add_commit(os.path.join(root, path), commit_of(TOOLS))
-    print("%d files below %s" % (len(pairs) + 1, root))
+    for target, path in named:
+        os.symlink(target, os.path.join(root, path))
+    print("%d files below %s" % (len(places), root))
 
 
 def add_commit(path, commit):
@@ -148,7 +169,8 @@ def main():
     root = destination + os.path.normpath(prefix)
     try:
         if command == "install":
-            install(root, plan(os.environ.get("SPANPROF") or SPANPROF))
+            large = os.environ.get("SPANPROF_LARGE") or LARGE
+            install(root, plan(os.environ.get("SPANPROF") or SPANPROF, large), links(large))
         else:
             print("%d files taken from %s" % (uninstall(root), root))
     except Fault as fault:

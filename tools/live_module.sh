@@ -1,7 +1,8 @@
 #!/usr/bin/env bash
 # Makes FOLDER/spanprof.wasm for `spanprof-report --live`: proves spanprof_c as tools/library.sh does, keeps the LLVM
-# module that was compiled, and compiles this for WebAssembly with plain functions of a heap. It needs the packages lld
-# (LLVM 14) and binaryen. After the gate it takes a minute or two, in a new clone the time of tools/library.sh.
+# module that was compiled, and compiles this for WebAssembly with plain functions of a heap. Its checksum stands beside
+# it. It needs the packages lld (LLVM 14) and binaryen. After the gate it takes a minute or two, in a new clone the time
+# of tools/library.sh.
 #
 #     tools/live_module.sh [FOLDER]      out/library without it
 set -euo pipefail
@@ -31,4 +32,5 @@ wasm-ld -mwasm64 --no-entry --fatal-warnings --stack-first -z stack-size=1048576
 wasm-opt --enable-memory64 --enable-bulk-memory --memory64-lowering whole.wasm -o spanprof.wasm
 wasm-dis spanprof.wasm | sed -n 's/^ (\(import\|export\) "\([a-z_]*\)".*/\1 \2/p' | sort > names
 printf 'export %s\n' "${calls[@]}" give_back memory room | sort | cmp - names || fail "it has other functions"
-mv spanprof.wasm "$out"
+sha256sum spanprof.wasm > spanprof.wasm.sha256
+mv spanprof.wasm spanprof.wasm.sha256 "$out"

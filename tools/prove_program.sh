@@ -1,6 +1,7 @@
 #!/usr/bin/env bash
-# Proves a program alone, without tests and without edits that must be refused: crates/PROGRAM/out/PROGRAM. It is the gate
-# over a copy that has the program's crates and nothing else, every proof from nothing.
+# Proves a program alone, without tests and without edits that must be refused: crates/PROGRAM/out/PROGRAM, and its
+# checksum beside it, PROGRAM.sha256. It is the gate over a copy that has the program's crates and nothing else, every
+# proof from nothing.
 #
 #     tools/prove_program.sh [PROGRAM]      spanprof, if none is named, spanprof_large or spanprof_exclusion
 set -euo pipefail
@@ -32,3 +33,4 @@ done
 (cd "$copy" && rt ci)
 mkdir -p "$top/crates/$program/out"
 cp "$copy/crates/$program/out/$program" "$top/crates/$program/out/$program"
+(cd "$top/crates/$program/out" && sha256sum "$program" > "$program.sha256")

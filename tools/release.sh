@@ -1,17 +1,15 @@
 #!/usr/bin/env bash
 # Makes the packages of a release: a tarball that runs from anywhere, a .deb, and their checksums. The programs are
-# those that the gate has left in crates/*/out; SPANPROF and SPANPROF_LARGE name others.
+# those that the gate has left in crates/*/out, with their checksums; SPANPROF and SPANPROF_LARGE name others.
 #
 #     tools/release.sh [FOLDER]      where they go; out/release without it
 #
 # share/doc/spanprof/proofs has the checksums of the programs, and the logic with which the gate has proved them; of
-# programs that were named it says that nothing is known.
+# programs without a checksum beside them it says that nothing is known.
 set -euo pipefail
 case ${1:-} in -h | --help) sed -n '2,/^set/{/^set/!s/^# \{0,1\}//p}' "$0"; exit ;; esac
 top=$(cd "$(dirname "$0")/.." && pwd)
 out=$(realpath -m "${1:-$top/out/release}")
-proofs=
-[ -z "${SPANPROF:-}${SPANPROF_LARGE:-}" ] || proofs="programs that were named: nothing is said of their proofs"
 export SPANPROF=${SPANPROF:-$top/crates/spanprof/out/spanprof}
 large=${SPANPROF_LARGE:-$top/crates/spanprof_large/out/spanprof_large}
 { read -r version; read -r logic; } < "$top/VERSION"
@@ -33,19 +31,16 @@ root=$stage/root
 usr=$root/usr
 doc=$usr/share/doc/spanprof
 
-make -s -C "$top/tools" install PREFIX=/usr DESTDIR="$root" > /dev/null
-for name in bin/spanprof_large share/man/man1/spanprof_large.1 share/bash-completion/completions/spanprof_large; do
-    case $name in
-        bin/*) install -m 755 "$large" "$usr/$name" ;;
-        *.1) install -m 644 "$top/tools/man/spanprof.1" "$usr/$name" ;;
-        *) install -m 644 "$top/tools/completion/spanprof.bash" "$usr/$name" ;;
-    esac
-done
+SPANPROF_LARGE=$large make -s -C "$top/tools" install PREFIX=/usr DESTDIR="$root" > /dev/null
 rm "$usr/share/spanprof/installed"  # dpkg keeps its own list
 mkdir -p "$doc"
 install -m 644 "$top/LICENSE" "$doc/copyright"
 install -m 644 "$top/CHANGELOG.md" "$top/README.md" "$doc/"
-{ echo "${proofs:-$logic}"; (cd "$usr/bin" && sha256sum spanprof spanprof_large); } > "$doc/proofs"
+cd "$usr/libexec/spanprof"
+sha256sum --status -c spanprof.sha256 spanprof_large.sha256 2> /dev/null ||
+    logic="programs without their checksums: nothing is said of their proofs"
+{ echo "$logic"; sha256sum spanprof spanprof_large; } > "$doc/proofs"
+cd "$top"
 
 mkdir -p "$out"
 name=spanprof-$version-linux-$(uname -m)

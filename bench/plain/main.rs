@@ -3,8 +3,8 @@
 //!
 //!     plain COMMAND [--jobs N] [--any-size] < TEXT
 //!
-//! COMMAND is span, show, slack, greedy --threads P, curve --upto P, whatif SEG=COST .., run --workers N, certify,
-//! check, replay or account [--rows | --path].
+//! COMMAND is span, show, slack, greedy --threads P, curve --upto P, whatif SEG=COST .., run --workers N, graph,
+//! certify, check, replay or account [--rows | --path].
 //! `--jobs N` lets `curve` and `check` use N threads; without it everything is done on one, and `run` always is. With
 //! `--any-size` the limits are those of texts of any size, for the commands that spanprof_large has.
 
@@ -36,6 +36,7 @@ enum Command {
     Curve(u32),
     WhatIf(Vec<(usize, u64)>),
     Run,
+    Graph,
     Certify,
     Check,
     Replay,
@@ -64,6 +65,7 @@ fn command(words: &[String]) -> Option<Command> {
         "curve" => Command::Curve(threads(words.get(2))?),
         "whatif" => Command::WhatIf(words[1..].iter().map(change).collect::<Option<_>>()?),
         "run" => workers(words.get(2)).map(|_| Command::Run)?,
+        "graph" => Command::Graph,
         "certify" => Command::Certify,
         "check" => Command::Check,
         "replay" => Command::Replay,
@@ -118,6 +120,7 @@ fn answer(command: &Command, jobs: usize, limits: &Limits, input: &[u8]) -> Resu
         Command::Curve(upto) => Ok(report::curve(&graph, *upto, jobs)),
         Command::WhatIf(changes) => report::what_if(graph, changes),
         Command::Run => Ok(run::run(&graph)),
+        Command::Graph => Ok(report::graph(&table, &graph)),
         Command::Certify => Ok(certificate::write(&program, &graph)),
         Command::Show | Command::Check | Command::Replay | Command::Account(_) => unreachable!(),
     }

@@ -25,6 +25,16 @@ pub fn slack(table: &Table, graph: &Graph) -> Vec<u8> {
     text
 }
 
+pub fn graph(table: &Table, graph: &Graph) -> Vec<u8> {
+    let mut text = b"segment,task,cost,predecessors\n".to_vec();
+    for number in 0..graph.len() {
+        let preds: Vec<String> = graph.preds(number).iter().map(u32::to_string).collect();
+        let (task, cost) = (table.segments[number].task, graph.costs[number]);
+        writeln!(text, "{number},{task},{cost},{}", preds.join(" ")).unwrap();
+    }
+    text
+}
+
 pub fn greedy(graph: &Graph, threads: u32) -> Vec<u8> {
     let run = greedy::greedy(graph, &Successors::new(graph), threads);
     let mut text = b"segment,start,end,thread\n".to_vec();

@@ -24,6 +24,11 @@ class Measures(unittest.TestCase):
         self.assertEqual([one.get("OMP_TOOL_LIBRARIES") for one in told], [None, "/built/nothing.so", "/r.so", "/r.so"])
         self.assertEqual([one["SPANPROF_CLOCK"] for one in told], ["wall", "wall", "wall", "cpu"])
 
+    def test_gccs_runtime_loads_no_tool(self):
+        self.assertEqual(BUILT.ways_of("gcc-12"), [WAYS[0], WAYS[2]])
+        self.assertEqual(BUILT.ways_of("llvm-19"), list(WAYS[:3]))
+        self.assertEqual(environment("/r.so", WAYS[2], "o", "LD_PRELOAD")["LD_PRELOAD"], "/r.so")
+
     def test_another_recorder_is_one_way_more(self):
         both = Built("/built", "/r.so", "/convert", "/o.so")
         self.assertEqual(both.ways(), WAYS + (OTHER,))
@@ -31,10 +36,12 @@ class Measures(unittest.TestCase):
         self.assertEqual(environment("/o.so", OTHER, "o")["SPANPROF_CLOCK"], "wall")
 
     def test_what_is_more_is_told_turn_by_turn(self):
-        measured = {"without": [2.0, 4.0, 1.0], "a": [2.5, 4.25, 1.5]}
-        self.assertEqual(more_row("10 us", measured), "| 10 us | 2.00 | 0.50 (0.25 to 0.50), 1.25 times |")
-        self.assertEqual(more_row("one", {"without": [2.0], "a": [3.0]}),
-                         "| one | 2.00 | 1.00 (1.00 to 1.00), 1.50 times |")
+        ways = (WAYS[0], WAYS[1], WAYS[2])
+        measured = {WAYS[0]: [(2.0, 0), (4.0, 0), (1.0, 0)], WAYS[2]: [(2.5, 32), (4.25, 32), (1.5, 33)]}
+        self.assertEqual(more_row("10 us", ways, measured),
+                         "| 10 us | 2.00 |  | 0.50 (0.25 to 0.50), 1.50 times | 32 |")
+        self.assertEqual(more_row("one", ways, {WAYS[0]: [(2.0, 0)], WAYS[1]: [(2.0, 0)], WAYS[2]: [(3.0, 40)]}),
+                         "| one | 2.00 | 0.00 (0.00 to 0.00), 1.00 times | 1.00 (1.00 to 1.00), 1.50 times | 40 |")
         self.assertEqual(table("a", "b"), "| a | b |\n| --- | --- |")
 
     def test_the_size_of_a_log(self):

@@ -1,6 +1,6 @@
 #!/usr/bin/env python3
 """Compares spanprof_large account with a plain program that goes moment by moment, on timed runs of random programs,
-legal and not, and on greedy runs, which delay nothing: those that `spanprof greedy` tells, and those of
+legal and not, and on greedy schedules, which delay nothing: those that `spanprof greedy` tells, and those of
 `spanprof_large greedy` on more tasks than the ten commands take.
 
     checks/agree/accounts.py [COUNT [LARGE [SPANPROF]]]   COUNT random runs (1000); the built programs if none are given
@@ -126,7 +126,7 @@ def compare_case(seed, large, spanprof):
     return wanted[()][0] != 0
 
 
-# ---- greedy runs as timed runs
+# ---- greedy schedules as timed runs
 
 def draw_many(rng, least):
     """A text of at least so many tasks: random ones in a row, each inside a task."""
@@ -156,7 +156,7 @@ def sums_of_greedy(rows, threads):
 
 
 def compare_greedy(seed, large, program, text):
-    """The greedy run of a text by one program as a timed run, in a random order, and without one of its lines."""
+    """The greedy schedule of a text by one program as a timed run, in a random order, and without one of its lines."""
     rng = random.Random(seed)
     threads = rng.randint(1, 5)
     rows = greedy_rows(program, text, threads)
@@ -167,7 +167,7 @@ def compare_greedy(seed, large, program, text):
                           (lines[:-1], (1, f"error: NotTimed {left_out}\n"))):
         told = run([large, "account"], text + "\n".join(["---", first, *shown]) + "\n")
         if told != wanted:
-            raise Wrong(f"the greedy run of seed {seed} on {threads}: wanted {wanted}, told {told}\n{text[:500]}")
+            raise Wrong(f"the greedy schedule of seed {seed} on {threads}: wanted {wanted}, told {told}\n{text[:500]}")
 
 
 def stretched(rows):
@@ -216,7 +216,7 @@ def compare_many(seed, large):
 
 
 def compare_all(count, large, spanprof):
-    """How many runs are refused; also greedy runs of one text in ten, and of one in a hundred with more tasks."""
+    """How many runs are refused; also greedy schedules of one text in ten, and of one in a hundred with more tasks."""
     with ProcessPoolExecutor() as pool:
         greedy = [pool.submit(compare_many, seed, large) for seed in range(count // 100)]
         greedy += [pool.submit(compare_small, seed, large, spanprof) for seed in range(count // 10)]
@@ -239,7 +239,7 @@ def main(words):
     except Wrong as wrong:
         print(f"accounts.py: {wrong}", file=sys.stderr)
         return 1
-    print(f"{count} runs, {refused} of them refused: as the plain program tells; {count // 10} greedy runs delay "
+    print(f"{count} runs, {refused} of them refused: as the plain program tells; {count // 10} greedy schedules delay "
           f"nothing, nor do {count // 100} of more than {MOST_TASKS} tasks; stretched, these delay what a sweep tells")
     return 0
 

@@ -2,8 +2,8 @@
 """Compares spanprof_large with the commands of spanprof on the examples and on random programs, and with numbers known
 beforehand on programs of a million tasks, of which it also tells time and memory. `show`, `certify`, `slack`,
 `greedy`, `curve`, `whatif`, `replay` and `check` of the two programs agree to the byte, on certificates with another
-number too, and a list of changes is answered as its changes are among the words. The rows of `bounds` are compared with
-a plain computation, and on the smaller programs with the bounds of `spanprof curve`.
+number too, a list of changes is answered as its changes are among the words, and `graph` prints the edges of `run`. The
+rows of `bounds` are compared with a plain computation, and on the smaller programs with the bounds of `spanprof curve`.
 
     checks/agree/any_size.py [COUNT [LARGE [SPANPROF]]]   COUNT random texts of each version (300); else the built ones
 
@@ -157,6 +157,21 @@ def compare_replays(what, text, segments, large, spanprof):
             raise Wrong(f"{what}: replay of {document!r}: spanprof {one}, and spanprof_large {other}")
 
 
+def graph_of(slack, run):
+    """The graph, by a table of slacks and what a run records."""
+    heads = [",".join(row.split(",")[:3]) for row in slack.splitlines()[1:]]
+    preds = [line.partition(" ")[2].partition(" ")[2] for line in run.splitlines()[3:]]
+    return "segment,task,cost,predecessors\n" + "".join("%s,%s\n" % row for row in zip(heads, preds, strict=True))
+
+
+def compare_graphs(what, text, large, spanprof):
+    """What `graph` prints, and what slacks and a run of spanprof say."""
+    status, slack = ask(spanprof, text, "slack")
+    wanted = slack if status else graph_of(slack, ask(spanprof, text, "run", "--workers", "1")[1])
+    if ask(large, text, "graph") != (status, wanted):
+        raise Wrong(f"{what}: graph {ask(large, text, 'graph')}, and not {wanted!r}")
+
+
 def compare(what, text, large, spanprof):
     wanted = ask(spanprof, text)
     told = without_tasks(*ask(large, text))
@@ -173,6 +188,7 @@ def compare(what, text, large, spanprof):
             raise Wrong(f"{what}: {' '.join(words)}: spanprof {one}, and spanprof_large {other}")
         if words[0] == "whatif":
             compare_lists(what, text, words, one, large, spanprof)
+    compare_graphs(what, text, large, spanprof)
     compare_replays(what, text, segments_told(wanted[1]), large, spanprof)
 
 
@@ -239,7 +255,7 @@ def wrong_slacks(table, numbers):
 
 
 def wrong_run(table, numbers, threads):
-    """What is wrong with a greedy run: as many rows, and an end between the two bounds."""
+    """What is wrong with a greedy schedule: as many rows, and an end between the two bounds."""
     _, segments, work, span = numbers
     ends = [end for end, in columns(table, "end")]
     least, bound = max(span, -(-work // threads)), (work + (threads - 1) * span) // threads

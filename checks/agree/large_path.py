@@ -23,8 +23,9 @@ sys.dont_write_bytecode = True
 import any_size  # noqa: E402
 import whole_graph  # noqa: E402
 from plain_path import Wrong, check_rows, rows_of, sums_by_place  # noqa: E402
+from spanprof.answers import Answers  # noqa: E402
+from spanprof.client import HOW, program, takes_any_size  # noqa: E402
 from spanprof.errors import Fault  # noqa: E402
-from spanprof.measure import HOW, measure, spanprof_large  # noqa: E402
 from spanprof.path.found import find_path  # noqa: E402
 
 COMMAND = TOP / "tools" / "spanprof-path"
@@ -51,7 +52,7 @@ def compare(large, file):
     costs, starts, chain = rows_of(told)
     graph = whole_graph.read(text.splitlines())
     check_rows(graph, costs, starts, chain)
-    path = find_path(large, str(file), measure(large, str(file)))
+    path = find_path(Answers(str(file)))
     if [path.numbers[name] for name in ("work", "span")] != [graph.work, graph.span]:
         raise Wrong("%s, and by the whole graph work %d and span %d" % (path.numbers, graph.work, graph.span))
     wanted, found = sums_by_place(text, costs, chain), sorted(map(tuple, path.places))
@@ -131,9 +132,9 @@ def check(large, count):
 
 
 def main():
-    large = spanprof_large()
-    if not large:
+    if not takes_any_size():
         sys.exit("large_path: " + HOW)
+    large = program()
     os.environ["SPANPROF_LARGE"] = " ".join(large)
     try:
         check(large, int(sys.argv[1]) if len(sys.argv) > 1 else 100)

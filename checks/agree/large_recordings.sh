@@ -1,8 +1,7 @@
 #!/usr/bin/env bash
 # Records programs of 160,000 to 1,000,000 tasks with LLVM's runtime: a tree, a grid with depend, a row of independent
 # tasks. Compares what spanprof_large tells of each recording with a plain program that keeps the whole graph
-# (checks/agree/large_recordings), and spanprof on the exact fold of a second recording. Tells how long recording took. Build
-# spanprof_large first; where spanprof is not built, exact folds are read by the plain program alone.
+# (checks/agree/large_recordings). Tells how long recording took. Build spanprof_large first.
 # large_recordings.sh [NAME=NUMBER ..]: these programs, such as tree=18. Ends with status 1 where one is wrong.
 set -euo pipefail
 cd "$(dirname "$0")/../.."

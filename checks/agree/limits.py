@@ -75,7 +75,7 @@ def compare(name, text, replay):
         if not int(row["least"]) <= int(row["end"]) <= int(row["bound"]):
             raise SystemExit(f"FAILED: {name}: curve: {row}")
     greedy = rows(ask(["greedy", "--threads", str(THREADS)], text))
-    expect(f"{name}: the end of the greedy run", max(int(row["end"]) for row in greedy), int(curve[-1]["end"]))
+    expect(f"{name}: the end of the greedy schedule", max(int(row["end"]) for row in greedy), int(curve[-1]["end"]))
 
     last = segments - 1
     tried = lines(ask(["whatif", f"{last}={int(slack[last]['cost']) + int(slack[last]['slack']) + 7}"], text))

@@ -27,7 +27,7 @@ class Faults(unittest.TestCase):
         self.assertEqual(words_of_first_line("span   7,133  1\n"), words_of_first_line("span  12,133  1\n"))
 
     def test_remarks_are_passed_over(self):
-        self.assertEqual(fault("work 12\n", "remark: asleep, 2 times at a.c:3\nwork 15\n", 0), "")
+        self.assertEqual(fault("work 12\n", "warning: asleep, 2 times at a.c:3\nwork 15\n", 0), "")
 
 
 class Programs(unittest.TestCase):

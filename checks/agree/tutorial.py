@@ -66,7 +66,7 @@ def run_all(pairs, folder):
 
 def words_of_first_line(text):
     """But for what a recording on a busy machine remarks; a column is as wide as its numbers."""
-    lines = [line for line in text.split("\n") if not line.startswith(("remark: ", "lock "))]
+    lines = [line for line in text.split("\n") if not line.startswith(("warning: ", "lock "))]
     return re.sub(r" +", " ", re.sub(r"[0-9][0-9,.]*", "N", (lines or [""])[0]))
 
 

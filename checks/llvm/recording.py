@@ -1,15 +1,28 @@
-"""What the checks share that record programs: the recorder, the converter, and a program that LLVM builds.
+"""What the checks share that record programs: the recorder, a program that LLVM builds, and what is made of a log.
 
-RECORDER in the environment names another recorder's library, LLVM the version of the compiler.
+A recording that the library alone makes is NAME.spanprof, with a log and no text. The converter makes texts of its
+regions, NAME.tasks and so on, or of the whole program; what it is asked for stands in its environment. RECORDER in the
+environment names another recorder's library, LLVM the version of the compiler. RUNTIME=gnu: gcc's compiler and runtime.
 """
+import glob
 import os
+import shutil
 import subprocess
+import sys
 
 from versions import asked
 
 TOP = os.path.dirname(os.path.dirname(os.path.dirname(os.path.abspath(__file__))))
+sys.path.append(os.path.join(TOP, "tools"))
+from spanprof.converting import convert, converter, has_failed  # noqa: E402
+from spanprof.record.told import in_words  # noqa: E402
+
 RECORDER = os.path.abspath(os.environ.get("RECORDER", os.path.join(TOP, "tools/openmp_recorder/librecorder.so")))
-CONVERT = os.path.join(TOP, "tools", "spanprof-convert")
+ENDING = ".spanprof"
+
+
+ON_GCC = os.environ.get("RUNTIME") == "gnu"
+LOADED = {"LD_PRELOAD" if ON_GCC else "OMP_TOOL_LIBRARIES": RECORDER}   # how the recorder comes into a program
 
 
 class Wrong(Exception):
@@ -19,6 +32,52 @@ class Wrong(Exception):
 def build(source, folder):
     """The program of this source."""
     program = os.path.join(folder, "program")
-    compiler = asked(os.environ.get("LLVM", ""))[0].compiler()
+    compiler = ["gcc"] if ON_GCC else asked(os.environ.get("LLVM", ""))[0].compiler()
     subprocess.run(compiler + ["-O2", "-g", "-fopenmp", source, "-o", program], check=True)
     return program
+
+
+def counted_clock(folder):
+    """A library for LD_PRELOAD: a processor's clock that counts its readings, the same however busy the machine is."""
+    library = os.path.join(folder, "counted_clock.so")
+    source = os.path.join(TOP, "checks", "recorders", "openmp_cases", "clock", "counted_clock.c")
+    subprocess.run(["cc", "-O2", "-shared", "-fPIC", source, "-o", library], check=True)
+    return library
+
+
+def log_of(name):
+    """Where the log of a recording lies."""
+    return os.path.join(name + ENDING, "log")
+
+
+def names_of(name):
+    """Those of the recordings that a run made: the program's own first, then its children's."""
+    found = glob.glob(glob.escape(name) + "*" + os.path.join(ENDING, "log"))
+    return sorted((log[:-len(os.path.join(ENDING, "log"))] for log in found),
+                  key=lambda path: (path.count("."), path))
+
+
+def told_of(log, out, settings):
+    return convert(converter(print), log, out, dict(os.environ, **settings))
+
+
+def texts(name, settings=(), out=None):
+    """Makes texts of all logs of a run, each with the name of its recording. What the converter says, and whether it
+    failed."""
+    told = [one for each in names_of(name) for one in told_of(log_of(each), out or each, dict(settings))]
+    said = [in_words(one) for one in told]
+    return "".join(line + "\n" for line in said), has_failed(told)
+
+
+def made_texts(name, settings=(), out=None):
+    """The same, where all of it has to succeed."""
+    said, failed = texts(name, settings, out)
+    if failed:
+        raise Wrong("the log is not converted: " + said)
+    return said
+
+
+def remove(name):
+    """Recordings and texts of this name."""
+    for path in glob.glob(glob.escape(name) + "*"):
+        shutil.rmtree(path) if os.path.isdir(path) else os.remove(path)

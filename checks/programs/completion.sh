@@ -8,7 +8,7 @@ bash_file=$top/tools/completion/spanprof.bash zsh_folder=$top/tools/completion
 if [ $# -gt 0 ]; then
     bash_file=$1/share/bash-completion/completions/spanprof-record zsh_folder=$1/share/zsh/site-functions
 else
-    export PATH=$top/tools:$PATH
+    export PATH=$top/tools/bin:$top/tools:$PATH
 fi
 folder=$(mktemp -d)
 trap 'rm -rf "$folder"' EXIT
@@ -39,8 +39,15 @@ spanprof gre|greedy
 spanprof greedy --|--threads
 spanprof curve --|--upto
 spanprof run --|--workers
-spanprof_large --|--upto
+spanprof rec|record
+spanprof record --uni|--unit
+spanprof report mi|mine.tasks
+spanprof test run --tasks un|untied
+spanprof whatif mine.tasks --cut|--cutoff
+spanprof help gre|greedy
+spanprof_large --u|--upto
 spanprof_large bo|bounds
+spanprof_large gra|graph
 spanprof_large greedy --|--threads
 spanprof_large account --r|--rows
 spanprof_large whatif --|--listed
@@ -66,7 +73,10 @@ spanprof-conformance run --pre|--preload
 LINES
 
 every=$(in_bash 'spanprof ')
-expect bash "$every" 'span show slack greedy curve whatif certify check run replay' 'spanprof '
+for command in record report whatif predict path graph convert test span show slack greedy curve certify check run \
+    replay bounds account; do
+    [[ " $every " = *" $command "* ]] || { echo "  bash: no $command"; wrong=$((wrong + 1)); }
+done
 for name in record report path whatif; do
     listed=$(spanprof-$name --help | grep -oE -e '(^| )--[a-z-]+' | tr -d ' ' | sort -u)
     expect bash "$(in_bash "spanprof-$name --" | tr ' ' '\n' | grep -e '--.' | sort -u)" "$listed" "spanprof-$name --"

@@ -64,10 +64,11 @@ test_slow_reader() {
 
 # A run in which all threads sleep takes a third of its time to hang.
 test_asleep() {
-    local begun=$SECONDS
+    local begun
     ../spanprof-conformance emit directed/taskwait_at_each_level.tasks > "$folder/asleep.c"
     cc -O1 -fopenmp -Iharness "$folder/asleep.c" harness/*.c -o "$folder/asleep"
     cc -O1 -fPIC -shared mutants/gomp.c -o "$folder/mutants.so" -ldl
+    begun=$SECONDS
     MUTANT=hang LD_PRELOAD=$folder/mutants.so "$folder/asleep" 2 9 0 0 30 > "$folder/asleep.log" || true
     grep -q '^hung asleep$' "$folder/asleep.log" && ((SECONDS - begun < 25))
 }

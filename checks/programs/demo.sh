@@ -23,7 +23,8 @@ has() { grep -qF -- "$1" "$folder/told" || fail "$2: no line '$1'"; }
 SPANPROF=$spanprof ./demo > "$folder/told" 2>&1 || fail "the demo fails"
 has 'needs clang libomp-dev make binutils python3: all there' "the demo"
 has 'sorted 1048576' "the demo"
-has 'span by place' "the demo"
+has 'merge_sort: ' "the demo"
+has 'sure  1 run' "the demo"
 grep -q '</html>' out/demo/merge_sort.html || fail "no page"
 echo "with a program"
 
@@ -34,11 +35,12 @@ if [ -n "$rust" ]; then
     ln -s "$rust" "$folder/bin/rustc"
     PATH=$folder/bin:/usr/bin:/bin ./demo > "$folder/told" 2>&1 || fail "the demo fails without rt"
     has "unproved: rt, Rattle's toolchain, is not on the PATH" "without rt"
-    has 'computed by an unproved build, of the recorded text' "without rt"
-    has 'the four sums are computed by an unproved build' "without rt"
     ! grep -q '(proved' "$folder/told" || fail "without rt: a line says proved"
-    grep -q 'computed by an unproved build, and not proved' out/demo/merge_sort.html ||
-        fail "without rt: the page does not say it"
+    # The last line records a program of one's own, as it is printed.
+    cp out/demo/merge_sort mine
+    tail -n 1 "$folder/told" | bash > "$folder/own" 2>&1 || { fail "the last line fails"; cat "$folder/own"; }
+    grep -q '^mine: ' "$folder/own" || { fail "the last line shows no diagnosis"; cat "$folder/own"; }
+    grep -q 'computed by plain, not verified' out/demo/merge_sort.html || fail "without rt: the page does not say it"
     echo "without rt"
 fi
 

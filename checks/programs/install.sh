@@ -21,7 +21,7 @@ list() { (cd "$1" && find . | sort); }
 
 # A word where the program is not built, and where the prefix is none.
 make -s -C tools SPANPROF="$folder/none" install PREFIX="$prefix" 2> "$folder/told" && fail "no program is installed"
-grep -q 'none: no such program; README.md tells how spanprof is built' "$folder/told" || fail "no word of the program"
+grep -q 'none: no such program; README.md says how to build spanprof' "$folder/told" || fail "no word of the program"
 make_in_tools install PREFIX=usr 2> "$folder/told" && fail "a prefix that is no whole path is taken"
 grep -q "PREFIX is a whole path" "$folder/told" || fail "no word of the prefix"
 [ ! -e "$folder/usr" ] || fail "something is installed"
@@ -35,19 +35,18 @@ echo 'omptasks 1 work 5 task { work 3 } work 2 taskwait work 1' > worked.tasks
 gcc -g -O1 -fopenmp "$top/checks/recorders/record/program.c" -o mine
 installed spanprof-record --html record.html -- ./mine < worked.tasks > printed 2> told || fail "spanprof-record fails"
 cmp -s worked.tasks printed || fail "the program's standard output"
-grep -q '^threads .*(proved of the recorded text' told || { fail "no summary"; cat told; }
+grep -q '^mine: .* on [0-9]* threads of gcc' told && grep -q '^sure  1 run' told || { fail "no diagnosis"; cat told; }
 grep -q '</html>' record.html || fail "no page of the recording"
-installed spanprof-report mine.tasks -o mine.html --trace mine.json || fail "spanprof-report fails"
+installed spanprof-report mine.spanprof -o mine.html --trace mine.json || fail "spanprof-report fails"
 grep -q '</html>' mine.html || fail "no page"
 installed spanprof-conformance run --cc gcc --tasks tied --threads 2 --runs 1 --settings free --programs 2 \
     --no-directed > tested || { fail "spanprof-conformance fails"; cat tested; }
 [ "$(installed spanprof-conformance list | wc -l)" -gt 100 ] || fail "the directed programs"
-env -i PATH=/usr/bin:/bin "$prefix/bin/spanprof-report" mine.tasks -o far.html || fail "no page without the PATH"
-large=${SPANPROF_LARGE:-$prefix/bin/spanprof_large} words='work 11, span 9, .*, 3 of 4 segments' wanted=0 status=0
-[ -x "$large" ] || large='' words='spanprof_large, which measures it, is not found' wanted=1
-installed SPANPROF_LARGE="$large" spanprof-path worked.tasks > found 2> told || status=$?
-cat found told | grep -q "$words" || { fail "spanprof-path"; cat found told; }
-[ $status -eq $wanted ] || fail "spanprof-path ends with $status"
+env -i PATH=/usr/bin:/bin "$prefix/bin/spanprof-report" mine.spanprof -o far.html || fail "no page without the PATH"
+installed spanprof-path worked.tasks > found 2> told || fail "spanprof-path fails"
+grep -q 'work 11, span 9, .*, 3 of 4 segments' found || { fail "spanprof-path"; cat found told; }
+[ "$(installed spanprof path worked.tasks)" = "$(cat found)" ] || fail "spanprof path"
+installed spanprof --help | grep -q '^Usage: spanprof COMMAND' || fail "spanprof --help"
 installed spanprof-whatif worked.tasks --drop-wait taskwait > found 2> told || fail "spanprof-whatif fails"
 grep -q '^span *9 *8 ' found || { fail "spanprof-whatif"; cat found told; }
 for name in spanprof spanprof-record spanprof-convert spanprof-report spanprof-path spanprof-predict spanprof-whatif spanprof-conformance; do

@@ -43,7 +43,7 @@ def told_in_formats():
     text = read("docs", "FORMATS.md")
     table = section(text, "Errors")
     faults = re.findall(r"\d+\s+`([A-Z][A-Za-z]+)`", text[text.index("The kinds are numbered"):])
-    words = re.findall(r"(?m)^\| `([^`]*)` \|", section(text, "Commands, their words and what they print"))
+    words = re.findall(r"(?m)^\| `([^`]*)` \|", section(text, "The ten commands"))
     return {"error lines": set(ERROR.findall(table)), "kinds": set(faults) | set(NAME.findall(table)),
             "commands": {line.split(" ")[0] for line in words},
             "exit statuses": set(re.findall(r"(?m)^\| [^|]* \| (\d) \|", table))}

@@ -42,7 +42,7 @@ record() { # NAME CLOCK WORD ..: a program of examples/openmp, which `compile` h
     SPANPROF_QUIET=1 OMP_TOOL_LIBRARIES=$PWD/tools/openmp_recorder/librecorder.so OMP_NUM_THREADS=4 SPANPROF_UNIT=us \
         SPANPROF_CLOCK=$clock SPANPROF_OUT=$folder/$name-$clock "$folder/$name" "$@" > "$folder/said" 2>&1 ||
         fail "$name cannot be recorded: $(tail -1 "$folder/said")"
-    SPANPROF_UNIT=us tools/spanprof-convert --times "$folder/$name-$clock.log" > "$folder/said" 2>&1 ||
+    SPANPROF_UNIT=us SPANPROF_TIMES=1 checks/llvm/texts.py "$folder/$name-$clock" > "$folder/said" 2>&1 ||
         fail "$name cannot be converted: $(tail -1 "$folder/said")"
 }
 
@@ -62,46 +62,47 @@ cholesky 4
 PROGRAMS
 }
 
-record_causes() { # each program of checks/programs/whatif/causes as its users would, with the page
-    "clang-$llvm" -O2 -g -fopenmp checks/programs/whatif/causes/causes.c -o "$folder/causes" "${llvm_flags[@]}"
-    for cause in small serial wait lock machine dear balanced; do
-        tools/spanprof-record --out "$folder/cause_$cause" --unit us --threads 4 \
-            --html "$folder/cause_$cause.html" -- "$folder/causes" "$cause" > "$folder/said" 2>&1 ||
-            fail "$cause cannot be recorded: $(tail -1 "$folder/said")"
+record_causes() { # programs of checks/programs/causes as their users would, with the page
+    for cause in serial dependence wait lock; do
+        "clang++-$llvm" -O2 -g -fopenmp "checks/programs/causes/$cause.cpp" -o "$folder/$cause" "${llvm_flags[@]}"
+        (cd checks/programs/causes && ../../../tools/spanprof-record --out "$folder/cause_$cause" --threads 4 \
+            --html "$folder/cause_$cause.html" -- "$folder/$cause") > /dev/null 2> "$folder/cause_$cause.said" ||
+            fail "$cause cannot be recorded: $(tail -1 "$folder/cause_$cause.said")"
     done
-    checks/programs/page/first_screens.py "$folder" || fail "first screens"
+    checks/programs/page/first_screens.py "$folder" cause_serial cause_dependence cause_wait cause_lock ||
+        fail "first screens"
 }
 
 record_scale() { # a small program on several numbers of threads; it is one of the texts then
     tools/spanprof-record --scale 1,2,4 --runs 2 --out "$folder/scaled" --unit us -- "$folder/cholesky" 4 \
         > "$folder/said" 2>&1 || fail "no scale is recorded: $(tail -1 "$folder/said")"
+    page_of_recording scaled "$folder/scaled.spanprof"
+}
+
+page_of_recording() { # NAME RECORDING [OPTION ..]: its page, and its numbers
+    tools/spanprof-report "$2" -o "$(dirname "$2")/$1.html" "${@:3}" || { fail "$1 has no page"; return; }
+    (cd tools && python3 -m spanprof.report.tests.compare "$(dirname "$2")/$1.html" "$2/program.tasks") \
+        > "$folder/compared" || { fail "$1:"; head -20 "$folder/compared"; }
+    echo "$1: $(tail -1 "$folder/compared"), $(wc -c < "$(dirname "$2")/$1.html") bytes"
 }
 
 several_regions() { # a program of 121 regions at three places, with its page, as its users would
     mkdir -p "$folder/several"
     "clang-$llvm" -O2 -g -fopenmp checks/programs/page/regions.c -o "$folder/regions" "${llvm_flags[@]}"
     tools/spanprof-record --out "$folder/several/regions" --unit us --threads 4 \
-        --html "$folder/several/regions.html" -- "$folder/regions" > "$folder/said" 2>&1 ||
-        fail "regions cannot be recorded: $(tail -1 "$folder/said")"
-    (cd tools && python3 -m spanprof.report.tests.compare "$folder/several/regions.html") > "$folder/compared" ||
-        { fail "regions:"; head -20 "$folder/compared"; }
-    echo "regions: $(tail -1 "$folder/compared"), $(wc -c < "$folder/several/regions.html") bytes"
+        -- "$folder/regions" > "$folder/said" 2>&1 || fail "regions cannot be recorded: $(tail -1 "$folder/said")"
+    page_of_recording regions "$folder/several/regions.spanprof"
     visit "$folder/several" regions
 }
 
-callers_and_whole() { # a program whose tasks have several callers: the page of its region, and that of all of it
+callers_and_whole() { # a program whose tasks have several callers
     mkdir -p "$folder/callers"
     "clang-$llvm" -O1 -g -fopenmp checks/programs/page/callers.c -o "$folder/callers/callers" "${llvm_flags[@]}"
     (cd "$folder/callers" && "$OLDPWD/tools/spanprof-record" --call-paths --unit us --threads 4 -- ./callers) \
         > "$folder/said" 2>&1 || fail "callers cannot be recorded: $(tail -1 "$folder/said")"
-    for name in callers callers.whole; do
-        tools/spanprof-report "$folder/callers/$name.tasks" --source checks/programs/page || fail "$name has no page"
-        (cd tools && python3 -m spanprof.report.tests.compare "$folder/callers/$name.html" \
-            "$folder/callers/$name.tasks") > "$folder/compared" || { fail "$name:"; head -20 "$folder/compared"; }
-        echo "$name: $(tail -1 "$folder/compared")"
-    done
-    checks/programs/page/worded.py "$folder/callers" || fail "words of the pages on callers and on a whole program"
-    visit "$folder/callers" callers callers.whole
+    page_of_recording callers "$folder/callers/callers.spanprof" --source checks/programs/page
+    checks/programs/page/worded.py "$folder/callers" || fail "words of the page on callers"
+    visit "$folder/callers" callers
 }
 
 visit() { # FOLDER NAME ..

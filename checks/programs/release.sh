@@ -27,7 +27,7 @@ runs() {
     inside() { env -i HOME="$folder" PATH="$1/bin:/usr/bin:/bin" "${@:2}"; }
     [ "$(inside "$1" spanprof span < examples/worked.tasks | sed -n 1p)" = "segments 4" ] || fail "$2: spanprof"
     [ "$(inside "$1" spanprof_large < examples/worked.tasks | sed -n 1p)" = "tasks 1" ] || fail "$2: spanprof_large"
-    for tool in spanprof-{record,convert,report,path,predict,whatif,conformance}; do
+    for tool in spanprof{,-record,-convert,-report,-path,-predict,-whatif,-conformance}; do
         inside "$1" "$tool" --version | grep -q "^$tool $version (logic " || fail "$2: $tool --version"
         inside "$1" "$tool" --help > /dev/null || fail "$2: $tool --help"
     done
@@ -35,7 +35,10 @@ runs() {
     for file in lib/spanprof/librecorder.so share/man/man1/spanprof_large.1; do
         [ -e "$1/$file" ] || fail "$2: no $file"
     done
-    (cd "$1/bin" && sed 1d ../share/doc/spanprof/proofs | sha256sum --quiet -c) || fail "$2: other programs"
+    (cd "$1/libexec/spanprof" && sed 1d ../../share/doc/spanprof/proofs | sha256sum --quiet -c) ||
+        fail "$2: other programs"
+    [ ! -e "$SPANPROF_LARGE.sha256" ] || inside "$1" spanprof-path examples/worked.tasks | grep -q '^proved of this text' ||
+        fail "$2: the proved program is not known"
     echo "$2"
 }
 
@@ -55,7 +58,7 @@ on_root -i "$folder"/release/*.deb > "$folder/told" 2>&1 || { fail "dpkg -i"; ca
 runs "$root/usr" "the package"
 dpkg --admindir="$root/var/lib/dpkg" -s spanprof | grep -q "^Version: $version$" || fail "dpkg -s"
 on_root -r spanprof > "$folder/told" 2>&1 || { fail "dpkg -r"; cat "$folder/told"; }
-left=$(find "$root" -path "$root/var" -prune -o -type f -print)
+left=$(find "$root" -path "$root/var" -prune -o ! -type d -print)
 [ -z "$left" ] || fail "dpkg -r leaves $left"
 echo "$wrong wrong"
 [ "$wrong" -eq 0 ]

@@ -1,8 +1,7 @@
 #!/usr/bin/env bash
 # Records programs before and after a change that was really made, by the processor's clock, and holds what
 # spanprof-whatif tells of the change against the rewritten program's own text: the greedy ends on 4 and on 16 threads
-# to a twentieth, and the shape. Then programs that are slow for a known cause, and what the lead of the summary says of
-# them. Build spanprof first.
+# to a twentieth, and the shape. Build spanprof first.
 #
 #     checks/programs/whatif.sh [kept]      kept: of the recordings in examples/openmp/recorded alone, on a busy machine too
 # Variables: SPANPROF (crates/spanprof/out/spanprof), LLVM (the newest version that has compiler and runtime),
@@ -30,10 +29,8 @@ done
 for name in wavefront wavefront_overlapped merge_sort merge_sort_split; do
     compile "examples/openmp/$name.c" "$name"
 done
-compile checks/programs/whatif/causes/causes.c causes
 make -s -C tools/openmp_recorder LLVM="$llvm"
 echo "LLVM $llvm"
 wrong=0
 python3 -B checks/programs/whatif/rewrites.py "$folder" || wrong=1
-python3 -B checks/programs/whatif/leads.py "$folder/causes" || wrong=1
 exit $wrong

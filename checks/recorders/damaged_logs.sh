@@ -1,7 +1,8 @@
 #!/usr/bin/env bash
-# Damages logs of the recorder at random, and converts them by a converter that the compiler has put checks of memory
-# and arithmetic into (damaged_logs/damaged.py). Each is refused with a word, or becomes texts that spanprof takes.
-# damaged_logs.sh [COUNT]: 300 without it. Build spanprof first. SEED: the damage; KEEP: a folder for logs that failed.
+# Damages logs of the recorder at random, on LLVM's runtime and on gcc's, and converts them by a converter that the
+# compiler has put checks of memory and arithmetic into (damaged_logs/damaged.py). Each is refused with a word, or becomes
+# texts that spanprof takes. damaged_logs.sh [COUNT]: 300 of each without it. Build spanprof first. SEED: the damage; KEEP:
+# a folder for logs that failed.
 set -euo pipefail
 cd "$(dirname "$0")/../.."
 # shellcheck source=checks/needs.sh
@@ -10,4 +11,6 @@ needs_llvm
 needs_spanprof
 python3 -m unittest discover -q -s checks/recorders/damaged_logs/tests -t checks/recorders/damaged_logs
 make -s -C tools/openmp_recorder LLVM="$llvm" librecorder.so convert_log_checked
-exec python3 checks/recorders/damaged_logs/damaged.py tools/openmp_recorder/convert_log_checked "${1:-300}"
+for runtime in llvm gnu; do
+    RUNTIME=$runtime python3 checks/recorders/damaged_logs/damaged.py tools/openmp_recorder/convert_log_checked "${1:-300}"
+done

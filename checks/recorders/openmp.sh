@@ -1,7 +1,7 @@
 #!/usr/bin/env bash
 # Records real OpenMP programs: builds the recorder and examples/openmp, runs each program on 1, 2 and 4 threads, and
-# has spanprof accept every recorded run whole. Segments are compared with counts by hand; a span, two folds and a limit
-# are tried too. Build spanprof first. Another program than crates/spanprof/out/spanprof may be named.
+# has spanprof accept every recorded run of a region whole. Segments are compared with counts by hand; a span and
+# spanprof-convert on a large recording are tried too. Build spanprof first. Another program than crates/spanprof/out/spanprof may be named.
 set -euo pipefail
 cd "$(dirname "$0")/../.."
 # shellcheck source=checks/needs.sh
@@ -28,9 +28,9 @@ compile() { # SOURCE: to a program of the folder
         "${llvm_flags[@]}"
 }
 record() { # NAME WORD ..: runs a program of the folder
-    rm -rf "$folder"/out.*
+    rm -rf "$folder"/out.* "$folder"/part.*
     "$folder/$1" "${@:2}" > "$folder/printed" 2> "$folder/told" || fail "$* fails on $OMP_NUM_THREADS threads"
-    tools/spanprof-convert "$folder/out.log" 2>> "$folder/told" || fail "$*: its log is not converted"
+    checks/llvm/texts.py "$folder/out" 2>> "$folder/told" || fail "$*: its log is not converted"
 }
 number() { # WORD: the number after it in what `span` prints
     "$program" span < "$folder/out.tasks" | sed -n "s/^$1 //p"
@@ -92,21 +92,14 @@ if [ "$(number span)" -lt 20 ] || [ "$(number work)" -lt $(($(number span) + 10)
 fi
 echo "a span by hand"
 
-# A fold keeps the run legal, and a limit that is passed is told.
+# A large recording by spanprof-convert, which a person calls.
 OMP_NUM_THREADS=2
-SPANPROF_FOLD_DEPTH=6 record fibonacci 27 12
-expect_whole "fold by depth"
-SPANPROF_FOLD_CHUNK=3 record taskloop 20000 8
-expect_whole "fold by chunks"
-SPANPROF_CLOCK=cpu SPANPROF_FOLD_COST=100000 record fibonacci 27 12
-expect_whole "fold by cost"
 record fibonacci 27 10
-grep -q 'is not written: .* tasks, and spanprof takes 4096' "$folder/told" || fail "no word of a limit"
-advised=$(grep -o -- '--fold [a-z]*=[0-9]*' "$folder/told" | head -1)
-# shellcheck disable=SC2086
-tools/spanprof-convert ${advised:?} "$folder/out.log" 2>> "$folder/told" || fail "the fold that was advised"
-expect_whole "the fold that was advised"
-echo "folds and a limit"
+tools/spanprof-convert --unit us "$folder/out.spanprof" 2>> "$folder/told" || fail "its text"
+place=$(sed -n '3s/.*,//p' "$folder/out.spanprof/regions")
+tools/spanprof-convert --region "$place" --out "$folder/part" "$folder/out.spanprof" 2>> "$folder/told" || fail "a region"
+[ -e "$folder/part.timed" ] || fail "a region has no times"
+echo "spanprof-convert"
 
 echo "$wrong wrong"
 [ "$wrong" -eq 0 ]

@@ -11,7 +11,7 @@ spanprof=$SPANPROF
 needs_llvm
 
 (cd tools && python3 -B -m unittest discover -s spanprof/record/tests -t .)
-export PATH=$PWD/tools:$PATH OMP_NUM_THREADS=2
+export PATH=$PWD/tools:$PATH OMP_NUM_THREADS=2 SPANPROF_MACHINE=/none
 top=$PWD
 folder=$(mktemp -d)
 trap 'rm -rf "$folder"' EXIT
@@ -34,21 +34,29 @@ expect_error() { # STATUS WORDS COMMAND ..: one line and nothing else
     expect "$words" "$1" "${@:3}"
     [ "$(cat err)" = "spanprof-record: $words" ] || { fail "the line is not '$words'"; cat err; }
 }
-expect_recording() { # NAME: that spanprof accepts its text and its run
-    "$spanprof" span < "$1.tasks" > counted || fail "$1.tasks is refused"
-    "$spanprof" replay < "$1.replay" > replayed || fail "$1.replay is refused"
+expect_recording() { # NAME: that it is whole, and spanprof accepts its text
+    tools=$top/tools python3 -B -c 'import os, sys
+sys.path.insert(0, os.environ["tools"])
+from spanprof.recording import open_recording
+open_recording(sys.argv[1])' "$1.spanprof" || fail "$1.spanprof is no recording"
+    "$spanprof" span < "$1.spanprof/program.tasks" > counted || fail "$1.spanprof: its text is refused"
+}
+expect_alone() { # WHAT NAME ..: that nothing else lies in this folder
+    local there
+    there=$(find . -mindepth 1 -maxdepth 1 -printf '%f\n' | sort | tr '\n' ' ')
+    [ "$there" = "$(printf '%s\n' "${@:2}" | sort | tr '\n' ' ')" ] || fail "$1: there are $there"
 }
 titles() { # what the summaries are of, in their order
-    grep -o '^[^ ]*\.tasks, [a-z]*' err | tr '\n' ' '
+    grep -o '^[^ ]*\.spanprof, [a-z]*' err | tr '\n' ' '
 }
 expect_titles() { # WHAT TITLES
     [ "$(titles)" = "$2 " ] || { fail "$1: the summaries are of '$(titles)', and not of '$2'"; cat err; }
 }
 expect_summary() { # WHAT: lines with their names
-    for name in covers tasks runs work span parallelism elapsed threads 'span by place' remarks; do
+    for name in covers tasks runs work span parallelism elapsed threads 'span by place' warnings; do
         grep -q "^$name  *[0-9a-z]" err || fail "$1: no line '$name'"
     done
-    expect_word "$1" 'its run was legal (proved of the recorded text and events)'
+    expect_word "$1" 'of the recorded text'
 }
 
 "clang-$llvm" -g -O1 -fopenmp "$top/checks/recorders/record/program.c" -o llvm "${llvm_flags[@]}"
@@ -71,26 +79,25 @@ done < <("$top/checks/llvm/versions.py")
 echo "LLVM $llvm"
 # shellcheck disable=SC2086
 for program in llvm gcc $others; do
-    expect "$program" 0 spanprof-record --unit us -- ./$program
+    expect "$program" 0 spanprof-record --all --force --unit us -- ./$program
     cmp -s in out || fail "$program: standard output is not the program's own"
     expect_word $program 'a line of the program'
     expect_summary $program
     expect_recording $program
     ! grep -qF 'spanprof recorder' err || fail "$program: the recorder's words stand on standard error"
-    expect "$program 3" 3 spanprof-record ./$program 3
+    expect_titles "$program" "$program.spanprof, the"
+    expect "$program 3" 3 spanprof-record --all --force ./$program 3
     expect_recording $program
-    expect "$program abort" 134 spanprof-record -- ./$program abort
+    expect "$program abort" 134 spanprof-record --all --force -- ./$program abort
     expect_word "$program abort" 'the program ended by SIGABRT'
     expect_recording $program
-    expect "$program two" 0 spanprof-record --out two -- ./$program two
-    expect_recording two.2
-    expect_word "$program two" 'two.2.tasks, region at program.c:'
-    expect_word "$program two" 'other regions two.tasks, region at program.c:'
+    expect "$program two" 0 spanprof-record --force --out two -- ./$program two
+    expect_recording two
     echo "$program"
 done
 
 # A signal goes to the program, which decides how both end.
-spanprof-record -- ./llvm wait < in > out 2> err &
+spanprof-record --force -- ./llvm wait < in > out 2> err &
 recorder=$!
 until grep -q waiting out; do sleep 0.1; done
 kill -TERM $recorder
@@ -100,143 +107,164 @@ wait $recorder || status=$?
 expect_word "SIGTERM" 'the program ended by SIGTERM'
 echo "a signal"
 
-expect "a fold" 0 spanprof-record --out folded --fold depth=1 --clock cpu --unit 100 -- ./llvm
-expect_word "a fold" 'folded task'
-expect_word "a fold" 'costs in 100 ns of processor time'
-expect "JSON" 0 spanprof-record --json told.json -- ./llvm
-grep -q '"text": "llvm.tasks"' told.json || fail "no JSON"
-expect "a page" 0 spanprof-record --html page.html -- ./llvm
+expect "a diagnosis" 0 spanprof-record --force -- ./llvm
+[ "$(grep -vc 'a line of the program' err)" -le 8 ] || { fail "a diagnosis has more than eight lines"; cat err; }
+[ "$(awk 'length > 100' err | wc -l)" = 0 ] || { fail "a diagnosis has lines of more than 100 columns"; cat err; }
+expect_word "a diagnosis" 'llvm: '
+grep -q '^sure  1 run' err || fail "a diagnosis: how sure it is"
+echo "the diagnosis"
+
+expect "a unit" 0 spanprof-record --all --out unit --clock cpu --unit 100 -- ./llvm
+expect_word "a unit" 'costs in 100 ns of processor time'
+expect "JSON" 0 spanprof-record --all --force --json told.json -- ./llvm
+grep -q '"text": "llvm.spanprof"' told.json || fail "no JSON"
+expect "a page" 0 spanprof-record --all --force --html page.html -- ./llvm
 grep -q '</html>' page.html || fail "no page"
 cat > browser <<'SH'
 #!/bin/sh
 echo "$1" > opened
 SH
 chmod +x browser
-BROWSER="$folder/browser %s" expect "a browser" 0 spanprof-record --open -- ./llvm
-for _ in 1 2 3 4 5 6 7 8 9 10; do [ -e opened ] || sleep 0.2; done
+BROWSER="$folder/browser %s" expect "a browser" 0 spanprof-record --force --open -- ./llvm
+for _ in {1..150}; do [ -s opened ] || sleep 0.2; done
 [ "$(cat opened)" = "file://$folder/llvm.html" ] || fail "the browser gets $(cat opened)"
 printf '#!/bin/sh\nexec ./llvm\n' > script
 chmod +x script
-expect "a script" 0 spanprof-record -- ./script
+expect "a script" 0 spanprof-record --all -- ./script
 expect_recording script
 if command -v script > /dev/null; then
-    script -qec 'spanprof-record -- ./llvm < in' /dev/null > terminal
-    grep -q 'spanprof-record: reading llvm.tasks' terminal || fail "no progress on a terminal"
+    script -qec 'spanprof-record --force -- ./llvm < in' /dev/null > terminal
+    grep -q 'spanprof-record: reading llvm.spanprof' terminal || fail "no progress on a terminal"
 fi
 grep -q reading err && fail "progress where there is no terminal"
 echo "options"
 
-expect "five runs" 0 spanprof-record --runs 5 --out five -- ./llvm
+expect "five runs" 0 spanprof-record --all --runs 5 --out five -- ./llvm
 [ "$(wc -l < out)" = 25 ] || fail "not every run reads standard input"
 expect_recording five
-expect_word "five runs" 'each cost is the median of 5 recordings'
-! grep -q 'run[0-9].*: [0-9]* tasks' err || fail "five runs: the single runs stand in the summary"
-[ -e five.runs/run5.tasks ] || fail "the fifth run is not kept"
-expect_word "five runs" 'five.whole.tasks: the runs have no median, and this is the one with the median work: five.runs/run'
-expect "a run that fails" 3 spanprof-record --runs 2 --out failing -- ./llvm 3
-expect_word "a run that fails" 'run 1 of 2 is the last, and there is no median: the program ended with status 3'
+expect_word "five runs" 'runs          5, and each cost is that of the run with the median elapsed time'
+[ "$(grep -c '"work_ns"' five.spanprof/recording.json)" = 5 ] || fail "five runs: not all are told"
+expect "a run that fails" 3 spanprof-record --all --runs 2 --out failing -- ./llvm 3
+expect_word "a run that fails" 'run 1 of 2 is the last, and no recording is kept: the program ended with status 3'
+[ ! -e failing.spanprof ] || fail "a run that fails: it is kept"
 echo "several runs"
 
-expect "the whole program" 0 spanprof-record --out outside --json outside.json -- ./llvm outside
-expect_titles "the whole program" 'outside.whole.tasks, the outside.tasks, region'
+mkdir names
+cp in names
+cd names
+expect "a first recording" 0 spanprof-record --all --out mine -- ../llvm
+expect_alone "a first recording" in out err mine.spanprof
+for number in 2 3; do
+    expect "recording $number" 0 spanprof-record --all --out mine -- ../llvm
+    expect_word "recording $number" "mine.spanprof is there already: this recording is mine-$number.spanprof (--force replaces"
+done
+expect "one that replaces it" 0 spanprof-record --all --force --out mine -- ../llvm
+expect_alone "one that replaces it" in out err mine.spanprof mine-2.spanprof mine-3.spanprof
+for number in 1 2 3 4; do spanprof-record --out once -- ../llvm < in > /dev/null 2>&1 & done
+wait
+expect_alone "four at once" in out err {mine,mine-2,mine-3,once,once-2,once-3,once-4}.spanprof
+OMP_TOOL_LIBRARIES=$top/tools/openmp_recorder/librecorder.so SPANPROF_OUT=mine expect "the library alone" 0 ../llvm
+expect_word "the library alone" 'mine-4.spanprof/log'
+expect "its text" 0 spanprof-convert mine-4.spanprof
+expect_recording mine-4
+cd ..
+rm -r names
+echo "names"
+
+expect "the whole program" 0 spanprof-record --all --out outside --json outside.json -- ./llvm outside
+expect_titles "the whole program" 'outside.spanprof, the'
 expect_summary "the whole program"
 [ "$(grep -c '^program  *[0-9]' err)" = 1 ] || fail "the whole program: how its time divides is told more than once"
-grep -q '"whole program": {' outside.json || fail "no JSON of the whole program"
-"$spanprof" span < outside.whole.tasks > counted || fail "outside.whole.tasks is refused"
 expect_recording outside
-expect "the region alone" 0 spanprof-record --no-whole --out outside -- ./llvm outside
-expect_titles "the region alone" 'outside.tasks, region'
-[ ! -e outside.whole.tasks ] || fail "the region alone: the whole program's text of the run before is left"
-expect "a program without tasks" 0 spanprof-record --out loops -- ./llvm none
-expect_titles "a program without tasks" 'loops.tasks, the'
-expect_word "a program without tasks" 'no parallel region with tasks'
-"$spanprof" span < loops.tasks > counted || fail "loops.tasks is refused"
-expect "the whole program alone" 0 spanprof-record --whole --out outside -- ./llvm outside
-expect_titles "the whole program alone" 'outside.tasks, the'
-[ ! -e outside.whole.tasks ] || fail "the whole program alone has two texts"
-expect "a region that is all" 0 spanprof-record --out all -- ./llvm long
-is_part='import sys; from spanprof.record.whole import is_wanted; sys.exit(is_wanted("all"))'
-if PYTHONPATH=$top/tools python3 -B -c "$is_part"; then
-    expect_titles "a region that is all" 'all.tasks, region'
-    [ ! -e all.whole.tasks ] || fail "a region that is all has a text of the whole program beside it"
-else
-    expect_titles "a region that is nearly all" 'all.whole.tasks, the all.tasks, region'
-    echo "a region that is all: not judged, since the program took long to begin"
-fi
+expect "a program without tasks" 0 spanprof-record --all --out loops -- ./llvm none
+expect_titles "a program without tasks" 'loops.spanprof, the'
+expect_recording loops
 echo "the whole program"
 
-expect "a scale" 0 spanprof-record --scale 1,2 --runs 3 --json scale.json --out scaled -- ./llvm
+expect "a scale" 0 spanprof-record --all --scale 1,2 --runs 3 --json scale.json --out scaled -- ./llvm
 [ "$(wc -l < out)" = 60 ] || fail "a scale: not every run reads standard input"
 expect_recording scaled
-expect_recording scaled.scale/threads1
-expect_recording scaled.scale/threads2-2
+for text in threads1 threads2-2; do
+    "$spanprof" span < scaled.spanprof/scale/$text.tasks > counted || fail "a scale: $text.tasks is refused"
+done
 expect_summary "a scale"
 expect_word "a scale" '3 unrecorded runs on each number, in turns: elapsed time of the whole program'
-grep -q '^true times *threads .*speed-up' err || fail "a scale: no table"
+grep -q '^true times *threads .*speedup' err || fail "a scale: no table"
 grep -q '^gap  *' err || fail "a scale: no gap"
-for file in scale.json scaled.scale.json; do grep -q '"speed-up"' $file || fail "a scale: no $file"; done
-expect "a failing scale" 3 spanprof-record --scale 1,2 --out failing -- ./llvm 3
-expect_word "a failing scale" 'unrecorded run 1 of 5 on 1 thread ended with status 3: no speed-up is told'
-expect "no scale" 125 spanprof-record --scale 2,4 -- ./llvm
-expect_word "no scale" '2,4 has to have 1, against which a speed-up is told, and another number'
+for file in scale.json scaled.spanprof/scale.json; do grep -q '"speedup"' $file || fail "a scale: no $file"; done
+expect "a failing scale" 3 spanprof-record --all --scale 1,2 --out failing -- ./llvm 3
+expect_word "a failing scale" 'unrecorded run 1 of 5 on 1 thread ended with status 3: no speedup'
+expect "no scale" 125 spanprof-record --all --scale 2,4 -- ./llvm
+expect_word "no scale" '2,4 has to have 1, the base of the speedup, and another number'
 echo "a scale"
 
-expect "another fold of a log" 0 spanprof-convert --fold depth=1 --unit us --out again llvm.log
-expect_word "another fold of a log" 'spanprof-convert: again.tasks and again.replay: 8 tasks, '
-expect_recording again
-expect "the times of a log" 0 spanprof-convert --times --out timed llvm.log
-expect_word "the times of a log" 'timed.tasks and timed.replay and timed.timed: '
-grep -q '^times 2 0 [0-9]*$' timed.timed || fail "no times"
-expect "the times of a fold" 0 spanprof-convert --times --fold depth=1 --out timed llvm.log
-expect_word "the times of a fold" '; no times, since tasks are folded: '
-[ ! -e timed.timed ] || fail "a fold has times"
-expect "no log" 125 spanprof-convert none.log
-expect_word "no log" 'spanprof-convert: none.log: no such folder; a log is the folder NAME.log that spanprof-record leaves'
-echo "a log once more"
+expect "another unit" 0 spanprof-convert --unit us llvm.spanprof
+expect_word "another unit" 'spanprof-convert: llvm.spanprof/program.tasks and llvm.spanprof/times: '
+expect_recording llvm
+grep -q '^times 2 0 [0-9]*$' llvm.spanprof/times || fail "no times"
+place=$(sed -n '3s/.*,//p' llvm.spanprof/regions)
+expect "a region" 0 spanprof-convert --region "$place" --out region llvm.spanprof
+"$spanprof" span < region.tasks > counted || fail "region.tasks is refused"
+[ -e region.timed ] || fail "a region has no times"
+expect "another region" 125 spanprof-convert --region none.c:1 llvm.spanprof
+expect_word "another region" "llvm.spanprof: there is no region with tasks at none.c:1; those are at $place"
+expect "the text" 0 spanprof-convert --text llvm.spanprof
+cmp -s out llvm.spanprof/program.tasks || fail "the text that is printed is another one"
+for tool in report path predict whatif; do
+    cp -r llvm.spanprof cut.spanprof
+    rm cut.spanprof/times
+    asked=(cut.spanprof)
+    [ $tool != whatif ] || asked+=(--places)
+    expect "spanprof-$tool of one that is cut short" 1 "spanprof-$tool" "${asked[@]}"
+    expect_word "spanprof-$tool" "spanprof-$tool: cut.spanprof: the recording is not complete: times is missing; "
+    cp two.spanprof/times cut.spanprof
+    expect "spanprof-$tool of two runs" 1 "spanprof-$tool" "${asked[@]}"
+    expect_word "spanprof-$tool" "cut.spanprof: times is not the file that was recorded: its checksum differs; "
+    rm -r cut.spanprof
+done
+expect "no recording" 125 spanprof-convert none.spanprof
+expect_word "no recording" 'spanprof-convert: none.spanprof: no such folder; a recording is the folder NAME.spanprof'
+echo "a recording once more"
 
 "clang-$llvm" -g -O1 -fopenmp "$top/checks/agree/large_recordings/program.c" -o many "${llvm_flags[@]}"
-cat > large <<'SH'
-#!/bin/sh
-cat > /dev/null
-case $1 in
-    --upto) echo threads,least,bound; for i in $(seq "$2"); do echo "$i,30,90"; done ;;
-    account) printf 'threads 2\nelapsed 90\nbusy 90\ndelayed 30\nstarved 30\noutside 30\n' ;;
-    *) printf 'tasks 8190\nsegments 20476\nwork 90\nspan 30\n' ;;
-esac
-SH
-chmod +x large
-# By the processor's clock and without parts, since a busy machine would move the numbers or add to the tasks.
-export SPANPROF_PARTS=none
-SPANPROF_LARGE=$folder/large expect "a large recording" 0 spanprof-record --clock cpu -- ./many tree 13
-expect_word "a large recording" 'many.large.tasks, region at program.c:'
-expect_word "a large recording" '30 ns: it ends no sooner on any number of threads (proved of the recorded text'
-expect_word "a large recording" 'in 20,476 segments (recorded); its run was legal (proved of the recorded text and events)'
-SPANPROF_LARGE=$folder/large expect "a page of it" 0 spanprof-record --clock cpu --html large.html -- ./many tree 13
-expect_word "a page of it" 'written: large.html'
-grep -q 'span by place is left out: ' large.html || fail "a page of a large recording"
-expect_word "a large recording" 'many.tasks is not written: 8190 tasks, and spanprof takes 4096; parallelism is'
-[ -e many.large.tasks ] && [ -e many.large.replay ] && [ ! -e many.tasks ] || fail "a large recording: other files"
-SPANPROF_LARGE=/none expect "no spanprof_large" 125 spanprof-record -- ./many tree 13
-expect_word "no spanprof_large" 'spanprof-record: spanprof_large: '
-expect "an exact fold" 0 spanprof-record --fold exact -- ./many tree 13
-expect_word "an exact fold" 'exact fold'
-"$spanprof" span < many.tasks > counted || fail "an exact fold is refused"
-[ ! -e many.large.tasks ] || fail "an exact fold: the large text of the run before is left"
-unset SPANPROF_PARTS
+large=${SPANPROF_LARGE:-$top/crates/spanprof_large/out/spanprof_large}
+if [ -x "$large" ]; then
+    export SPANPROF_LARGE=$large
+    expect "a large recording" 0 spanprof-record --all --clock cpu -- ./many tree 13
+    expect_titles "a large recording" 'many.spanprof, the'
+    expect_word "a large recording" 'of the recorded text'
+    expect "a page of it" 0 spanprof-record --all --force --clock cpu --html large.html -- ./many tree 13
+    expect_word "a page of it" 'written: large.html'
+    unset SPANPROF_LARGE
+else
+    echo "skipped: a summary of a large recording: no program $large"
+fi
+expect "a large recording by spanprof alone" 0 spanprof-record --all --force --clock cpu -- ./many tree 13
+expect_titles "a large recording by spanprof alone" 'many.spanprof, the'
+expect_word "a large recording by spanprof alone" 'spanprof_large, which measures it, is not found'
+# A text is longer than its log, so that a limit between both stands for a full disk.
+limit=$(($(du -k many.spanprof/log/* | sort -n | tail -1 | cut -f1) + 100))
+(ulimit -f $limit; expect "no room for the text" 125 spanprof-record --out full -- ./many tree 16)
+expect_word "no room for the text" 'full.spanprof/program.tasks cannot be written: File too large'
+expect_word "no room for the text" 'full.spanprof has the log alone; spanprof-convert makes its text, with --out elsewhere'
+expect "a log alone" 1 spanprof-report full.spanprof
+expect_word "a log alone" 'the recording is not complete, as it has no recording.json; spanprof-convert full.spanprof writes'
+expect "its text elsewhere" 0 spanprof-convert --out elsewhere full.spanprof
+[ -e elsewhere.spanprof/program.tasks ] || fail "its text elsewhere"
 echo "recordings of any size"
 
 if command -v mpicc > /dev/null && command -v mpirun > /dev/null; then
     export OMPI_ALLOW_RUN_AS_ROOT=1 OMPI_ALLOW_RUN_AS_ROOT_CONFIRM=1
     mpicc -g -O1 -fopenmp "$top/checks/recorders/record/ranks.c" -o ranks
-    expect "a launcher" 0 spanprof-record --unit us -- mpirun --oversubscribe -n 3 ./ranks
+    expect "a launcher" 0 spanprof-record --all --unit us -- mpirun --oversubscribe -n 3 ./ranks
     expect_word "a launcher" 'other ranks   ranks.rank'
-    [ "$(grep -c 'ranks.rank[0-2].tasks, region at' err)" = 3 ] || fail "a launcher: not a line for each rank"
+    [ "$(grep -c 'ranks.rank[0-2].spanprof, the whole program' err)" = 3 ] || fail "a launcher: not a line for each rank"
     for rank in 0 1 2; do expect_recording ranks.rank$rank; done
     rm -r ranks.rank*
-    expect "ranks" 0 mpirun --oversubscribe -n 3 spanprof-record --unit us -- ./ranks
-    [ "$(grep -c '^ranks.rank[0-2].tasks, region at' err)" = 3 ] || fail "ranks: not a line for each"
+    expect "ranks" 0 mpirun --oversubscribe -n 3 spanprof-record --all --unit us -- ./ranks
+    [ "$(grep -c '^ranks.rank[0-2].spanprof, the whole program' err)" = 3 ] || fail "ranks: not a line for each"
     for rank in 0 1 2; do expect_recording ranks.rank$rank; done
-    [ ! -e ranks.tasks ] || fail "ranks: a file without a number"
+    [ ! -e ranks.spanprof ] || fail "ranks: a recording without a number"
     expect_error 125 '--runs takes no launcher; as in: mpirun -n 4 spanprof-record --runs 5 -- PROGRAM' \
         spanprof-record --runs 2 -- mpirun -n 3 ./ranks
     echo "processes of MPI"
@@ -249,22 +277,19 @@ expect_error 127 'llvm: no such program on the PATH; llvm of this folder is ./ll
 expect_error 126 './in: not executable' spanprof-record -- ./in
 expect_error 126 '/tmp: a folder, and no program' spanprof-record -- /tmp
 words="./plain has no OpenMP in it: it is linked neither with gcc's runtime (libgomp) nor with LLVM's runtime "
-words+='(libomp); was it compiled with -fopenmp? (--runtime FILE runs it on that library all the same)'
+words+='(libomp), and loads no library by itself; was it compiled with -fopenmp?'
 expect_error 125 "$words" spanprof-record -- ./plain
 words='./static is linked statically, and no recorder can be loaded into it; link it without -static'
 expect_error 125 "$words" spanprof-record -- ./static
 words="./inside has gcc's runtime (libgomp) inside; link it with the shared library, or compile it with clang"
 expect_error 125 "$words" spanprof-record -- ./inside
-words='nothing is recorded: its OpenMP runtime did not load the recorder; it begins only where a program meets a '
-expect_error 125 "${words}construct of OpenMP" spanprof-record -- ./llvm never
-expect "no tasks" 125 spanprof-record --no-whole -- ./llvm none
-words='spanprof-record: nothing is recorded: no parallel region with tasks; without --no-whole loops and serial code are '
-expect_word "no tasks" "${words}recorded"
+words='nothing is recorded: no OpenMP runtime loaded the recorder; it begins only where a program meets a '
+expect_error 125 "${words}construct of OpenMP" spanprof-record --out never -- ./llvm never
 expect_error 125 '--out no/x: there is no folder no' spanprof-record --out no/x -- ./llvm
 expect_error 125 '--runtime none: no such file' spanprof-record --runtime none -- ./llvm
-expect "wrong words" 125 spanprof-record --unit hours -- ./llvm
+expect "wrong words" 125 spanprof-record --all --unit hours -- ./llvm
 expect_word "wrong words" 'a unit is ns, us, ms, or nanoseconds up to 1000000000'
-SPANPROF=/none expect "no spanprof" 125 spanprof-record -- ./llvm
+SPANPROF=/none expect "no spanprof" 125 spanprof-record --all -- ./llvm
 expect_word "no spanprof" '/none: No such file or directory'
 echo "errors"
 

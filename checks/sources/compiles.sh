@@ -19,7 +19,7 @@ reads() {
 syntax=("-fsyntax-only" "-Qunused-arguments" "-fopenmp" "${llvm_flags[@]}")
 for file in tools/conformance/{found,mutants}/*.c examples/openmp/*.c bench/{recording,worker_run}/*.c \
     checks/hostile/*.c; do
-    reads "clang-$llvm" "${syntax[@]}" -Itools/conformance/harness -Itools/hand_recorder "$file"
+    reads "clang-$llvm" "${syntax[@]}" -Itools/conformance/harness "$file"
 done
 for file in checks/recorders/runtime_calls/*.cpp; do reads "clang++-$llvm" "${syntax[@]}" -std=c++17 "$file"; done
 reads "clang-$llvm" -fsyntax-only --target=wasm64-unknown-unknown -ffreestanding tools/live/heap.c

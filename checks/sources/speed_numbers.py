@@ -1,7 +1,6 @@
 #!/usr/bin/env python3
-"""Compares the numbers that README.md tells with the tables of bench/README.md that they are taken from, and the rows
-over 1.5 times there with those for which the page tells why. A row of README.md may have `–` in place of numbers that
-the table does not have yet.
+"""Compares the numbers in README.md with the tables of bench/tables.txt. A row of README.md may have `–` in place of
+numbers that the table does not have yet.
 
     checks/sources/speed_numbers.py [--write]
 With `--write` the rows of README.md are made anew from the table first.
@@ -15,10 +14,7 @@ TOP = pathlib.Path(__file__).resolve().parents[2]
 SECTION = re.compile(r"^### How fast it is$(.*?)^##", re.MULTILINE | re.DOTALL)
 COUNTS = re.compile(r"^## Instructions$(.*?)(?:^## |\Z)", re.MULTILINE | re.DOTALL)
 MEASURED = re.compile(r"^(\w+) +(\w[-\w ]*?) {2,}(\d+\.\d) +(\d+\.\d) +(\d+\.\d\d)$", re.MULTILINE)
-LIMIT = decimal.Decimal("1.5")
 UNTOLD = "–"
-WHY = re.compile(r"^## Where it takes over 1\.5 times .*?$(.*?)^## ", re.MULTILINE | re.DOTALL)
-REASON = re.compile(r"^- `([-\w ]+)` (?:on|of) `(\w+)`: (\d+\.\d) times", re.MULTILINE)
 TIMES = re.compile(r"^## Times and memory$(.*?)(?:^## |\Z)", re.MULTILINE | re.DOTALL)
 TIMED = re.compile(r"^(\w+) +(\w[-\w ]*?) {2,}\d+\.\d +\d+\.\d +(\d+\.\d\d) ", re.MULTILINE)
 RANGE = re.compile(r"these\s+rows\s+took\s+(\d+\.\d)\s+to\s+(\d+\.\d)\s+times\s+as\s+long")
@@ -76,18 +72,6 @@ def written(readme, table):
     return readme[:section.start()] + text + readme[section.end():]
 
 
-def reason_differences(bench):
-    """A line for each row over 1.5 times for which no reason is told, and for each reason that tells another number."""
-    times = {(row[1], row[2]): row[5] for row in MEASURED.finditer(COUNTS.search(bench)[1])}
-    told = {(text, command): number for command, text, number in REASON.findall(WHY.search(bench)[1])}
-    for row, number in times.items():
-        if decimal.Decimal(number) > LIMIT and row not in told:
-            yield "%s %s: %s times, and no reason is told" % (*row, number)
-    for row, number in told.items():
-        if row not in times or number != nearest_tenth(times[row]) or decimal.Decimal(times[row]) <= LIMIT:
-            yield "%s %s: a reason for %s times, and %s were counted" % (*row, number, times.get(row, "none"))
-
-
 def rounded(tenths):
     whole, tenth = tenths.split(".")
     return int(whole) + (int(tenth) >= 5)
@@ -129,16 +113,16 @@ def range_differences(readme, rows, table):
 
 
 def main():
-    readme, bench = ((TOP / path).read_text(encoding="utf-8") for path in ("README.md", "bench/README.md"))
+    readme, bench = ((TOP / path).read_text(encoding="utf-8") for path in ("README.md", "bench/tables.txt"))
     if sys.argv[1:] == ["--write"]:
         readme = written(readme, measured(bench))
         (TOP / "README.md").write_text(readme, encoding="utf-8")
     told = quoted(readme)
     wrong = [*differences(told, measured(bench)), *untold(readme, measured(bench)),
-             *range_differences(readme, told, timed(bench)), *reason_differences(bench)]
+             *range_differences(readme, told, timed(bench))]
     for line in wrong:
         print(line)
-    print("%d texts and commands, a range and reasons compared: %d wrong" % (len(told), len(wrong)))
+    print("%d texts and commands and a range compared: %d wrong" % (len(told), len(wrong)))
     sys.exit(bool(wrong) or not told)
 
 

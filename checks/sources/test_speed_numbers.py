@@ -4,8 +4,8 @@ import sys
 import unittest
 
 sys.path.insert(0, str(pathlib.Path(__file__).resolve().parent))
-from speed_numbers import (differences, measured, nearest_tenth, quoted, range_differences, reason_differences,
-                           rounded, timed, untold, written)
+from speed_numbers import (differences, measured, nearest_tenth, quoted, range_differences, rounded, timed, untold,
+                           written)
 
 README = """\
 ### How fast it is
@@ -32,14 +32,6 @@ chain          span                       9.4       3.5   2.69
 chain          curve --upto 64         1531.5      27.4  55.89
 fan            span                      75.0      45.0   1.67
 fan            check                    197.7     131.4   1.51
-
-## Where it takes over 1.5 times the plain program's instructions, and why
-
-- `curve --upto 64` on `chain`: 55.9 times. It makes
-  all runs.
-- `span` of `chain`: 2.7 times, on 9.4 million.
-- `span` of `fan`: 1.7 times.
-- `whatif`, which the table leaves out, on `chain`: 1.6 times.
 
 ## Times and memory
 
@@ -106,25 +98,6 @@ class Places(unittest.TestCase):
     def test_half_a_pair_is_no_place(self):
         with self.assertRaises(ValueError):
             quoted(README.replace("| 75 | 45 |", "| 75 | – |"))
-
-
-class Reasons(unittest.TestCase):
-    def test_all_rows_over_the_limit_and_no_others(self):
-        self.assertEqual(list(reason_differences(TABLE)), ["fan check: 1.51 times, and no reason is told"])
-        self.assertEqual(list(reason_differences(TABLE.replace("  1.51\n", "  1.50\n"))), [])
-
-    def test_reasons_that_no_longer_hold(self):
-        for number in ("1.49", "1.50"):
-            changed = TABLE.replace("  1.51\n", "  1.40\n").replace("   1.67\n", "   %s\n" % number)
-            self.assertEqual(list(reason_differences(changed)),
-                             ["fan span: a reason for 1.7 times, and %s were counted" % number])
-
-    def test_reasons_with_other_numbers(self):
-        changed = TABLE.replace("  1.51\n", "  1.40\n").replace("55.9 times", "55.8 times")
-        self.assertEqual(list(reason_differences(changed.replace("of `fan`", "of `fans`"))), [
-            "fan span: 1.67 times, and no reason is told",
-            "chain curve --upto 64: a reason for 55.8 times, and 55.89 were counted",
-            "fans span: a reason for 1.7 times, and none were counted"])
 
 
 class Times(unittest.TestCase):

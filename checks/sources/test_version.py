@@ -2,7 +2,7 @@
 """Tests of version.py."""
 import unittest
 
-from version import faults
+from version import ABOUT, faults
 
 VERSION = "0.1.0\nlogic 0123456789abcdef\n"
 CHANGES = "# Changes\n\n## 0.1.0 (not released)\n"
@@ -14,6 +14,8 @@ class Versions(unittest.TestCase):
         self.assertEqual(list(faults(VERSION, CHANGES, PACKAGE, {"a.md": "with `logic 0123456789abcdef`"})), [])
 
     def test_another_logic(self):
+        self.assertEqual(list(faults(VERSION, CHANGES, PACKAGE, {ABOUT: '"spanprof_large 0.2.0 (none)"'})),
+                         [ABOUT + " has not version 0.1.0 with its logic"])
         self.assertEqual(list(faults(VERSION, CHANGES, PACKAGE, {"a.md": "logic 1123456789abcdef"})),
                          ["a.md names logic 1123456789abcdef"])
 

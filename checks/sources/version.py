@@ -8,6 +8,7 @@ import re
 import sys
 
 TOP = pathlib.Path(__file__).resolve().parents[2]
+ABOUT = "crates/large_command/src/about.rt"     # what `spanprof_large --version` prints
 LOGIC = re.compile(r"\blogic ([0-9a-f]{16})\b")
 
 
@@ -23,12 +24,15 @@ def faults(version, changes, package, documents):
         yield "CHANGELOG.md begins with %s, and VERSION has %s" % (newest[1] if newest else "nothing", number)
     if 'version = "%s"\n' % number not in package:
         yield "tools/pyproject.toml has not version %s" % number
+    if ABOUT in documents and '"spanprof_large %s (%s)' % (number, logic) not in documents[ABOUT]:
+        yield "%s has not version %s with its logic" % (ABOUT, number)
     for name, text in documents.items():
         yield from ("%s names logic %s" % (name, one) for one in LOGIC.findall(text) if "logic " + one != logic)
 
 
 def main():
-    read = {path: path.read_text(encoding="utf-8") for path in [*TOP.glob("*.md"), *(TOP / "docs").glob("*.md")]}
+    paths = [*TOP.glob("*.md"), *(TOP / "docs").glob("*.md"), TOP / ABOUT]
+    read = {path: path.read_text(encoding="utf-8") for path in paths}
     documents = {str(path.relative_to(TOP)): text for path, text in sorted(read.items())}
     version, package = ((TOP / name).read_text(encoding="utf-8") for name in ("VERSION", "tools/pyproject.toml"))
     wrong = list(faults(version, documents["CHANGELOG.md"], package, documents))

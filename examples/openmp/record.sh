@@ -34,8 +34,8 @@ record() {
     else
         OMP_TOOL_LIBRARIES=$top/tools/openmp_recorder/librecorder.so OMP_NUM_THREADS=4 SPANPROF_OUT=out \
             SPANPROF_QUIET=1 SPANPROF_CLOCK=cpu "$@" > /dev/null
-        "$top/tools/spanprof-convert" --parts "$parts" --unit "$unit" out.log > out.messages 2>&1
     fi
+    SPANPROF_PARTS=$parts SPANPROF_UNIT=$unit "$top/checks/llvm/texts.py" out > out.messages 2>&1
 }
 
 # weight_of LEAST TEXT: its region's time, or the sum of its costs (work); far more where it has a remark.
@@ -46,14 +46,13 @@ weight_of() {
 
 keep() { # NAME WHAT: the recording, if it weighs less than the one that is kept
     local text weight
-    text=$(find . -name 'out*.tasks' ! -name out.whole.tasks -printf '%f')
+    text=$(find . -maxdepth 1 -name 'out*.tasks' -printf '%f')
     weight=$(weight_of "$2" "$text")
     if [ "$weight" -lt "$least" ]; then
         least=$weight
         cp "$text" "$kept/$1${text#out}"
         [ ! -e out.replay ] || cp out.replay "$kept/$1.replay"
-        [ ! -e out.whole.tasks ] || cp out.whole.tasks "$kept/$1.whole.tasks"
-        [ ! -e out.said ] || sed "s/\bout\.\(whole\.\)\?tasks/$1.\1tasks/" out.said > "$kept/$1.said"
+        [ ! -e out.said ] || sed "s/\bout\.spanprof/$1.spanprof/" out.said > "$kept/$1.said"
     fi
     rm -rf out.*
 }

@@ -20,12 +20,29 @@ _spanprof_options() { # WORD ..: the options that a command's --help lists
     "$@" --help 2> /dev/null | grep -oE '^ +(-[a-z],? )?([A-Za-z.]+, )?--[a-z-]+' | grep -oE -e '--[a-z-]+'
 }
 
+_spanprof_tool() { # TOOL: what follows `spanprof COMMAND` is completed as behind spanprof-TOOL
+    COMP_WORDS=("${COMP_WORDS[0]}-$1" "${COMP_WORDS[@]:2}")
+    COMP_CWORD=$((COMP_CWORD - 1))
+    "_spanprof_$1"
+}
+
 _spanprof() {
     local current=${COMP_WORDS[COMP_CWORD]} before=${COMP_WORDS[COMP_CWORD - 1]}
+    if [ "$COMP_CWORD" -gt 1 ]; then
+        case ${COMP_WORDS[1]} in
+            record | convert | report | path | predict | whatif) _spanprof_tool "${COMP_WORDS[1]}"; return ;;
+            test | conformance) _spanprof_tool conformance; return ;;
+        esac
+    fi
     case $before in
         '<' | '>') _spanprof_files "$current" ;;
-        spanprof | */spanprof)
-            _spanprof_among "$current" span show slack greedy curve whatif certify check run replay ;;
+        graph) _spanprof_among "$current" --dot ;;
+        account) _spanprof_among "$current" --rows --path ;;
+        bounds) _spanprof_among "$current" --upto ;;
+        spanprof | */spanprof | help)
+            _spanprof_among "$current" record report whatif predict path graph convert test \
+                span show slack greedy curve certify check run replay bounds account help ;;
+        --dot) _spanprof_files "$current" .tasks ;;
         greedy) _spanprof_among "$current" --threads ;;
         curve) _spanprof_among "$current" --upto ;;
         run) _spanprof_among "$current" --workers ;;
@@ -37,7 +54,8 @@ _spanprof_large() {
     case $before in
         '<' | '>') _spanprof_files "$current" ;;
         spanprof_large | */spanprof_large)
-            _spanprof_among "$current" span bounds slack greedy curve whatif show certify account replay check --upto ;;
+            _spanprof_among "$current" span bounds slack greedy curve whatif graph show certify account replay \
+                check --upto --help --version ;;
         account) _spanprof_among "$current" --rows --path ;;
         whatif) _spanprof_among "$current" --listed ;;
         greedy) _spanprof_among "$current" --threads ;;
@@ -50,7 +68,7 @@ _spanprof_record_program() { # the place of the program among the words; none wh
     for ((i = 1; i < COMP_CWORD; i++)); do
         case ${COMP_WORDS[i]} in
             --) echo $((i + 1)); return ;;
-            --open | --online | --whole | --no-whole | --call-paths | --calibrate | --version | -h | --help) ;;
+            --open | --online | --all | --full | --force | --call-paths | --calibrate | --version | -h | --help) ;;
             -*) ((i++)) ;;
             *) echo "$i"; return ;;
         esac
@@ -70,9 +88,8 @@ _spanprof_record() {
         --clock) _spanprof_among "$current" wall cpu ;;
         --html) _spanprof_files "$current" .html ;;
         --json) _spanprof_files "$current" .json ;;
-        --out | --runtime) _spanprof_files "$current" ;;
-        --fold) _spanprof_among "$current" exact depth= cost= chunk=; compopt -o nospace 2> /dev/null ;;
-        --threads | --runs | --scale) ;;
+        --out | --runtime | --against) _spanprof_files "$current" ;;
+        --threads | --runs | --scale | --fail-above) ;;
         *) case $current in
             -*) _spanprof_among "$current" -- "$(_spanprof_options "${COMP_WORDS[0]}")" ;;
             *) _spanprof_files "$current" ;;
@@ -84,10 +101,8 @@ _spanprof_convert() {
     local current=${COMP_WORDS[COMP_CWORD]} before=${COMP_WORDS[COMP_CWORD - 1]}
     case $before in
         --unit) _spanprof_among "$current" ns us ms ;;
-        --parts) _spanprof_among "$current" heavy all none all-or-none ;;
         --out) _spanprof_files "$current" ;;
-        --fold) _spanprof_among "$current" exact depth= cost= chunk=; compopt -o nospace 2> /dev/null ;;
-        --regions) ;;
+        --region) ;;
         *) case $current in
             -*) _spanprof_among "$current" "$(_spanprof_options "${COMP_WORDS[0]}")" ;;
             *) _spanprof_folders "$current" ;;

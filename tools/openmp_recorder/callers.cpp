@@ -30,12 +30,17 @@ bool is_in_called_function(const void *code) {
 }
 }  // namespace
 
-CodeRange runtime_code;
+CodeRange runtime_code, recorder_code;
 
-void find_runtime(const void *function) {
+namespace {
+void find(const void *function, CodeRange &code) {
   CodeRange range{reinterpret_cast<uintptr_t>(function), 0};
-  if (dl_iterate_phdr(find_segment, &range)) runtime_code = range;
+  if (dl_iterate_phdr(find_segment, &range)) code = range;
 }
+}  // namespace
+
+void find_runtime(const void *function) { find(function, runtime_code); }
+void find_recorder() { find(reinterpret_cast<const void *>(find_recorder), recorder_code); }
 
 const void *nearest_in_program() {
   constexpr int most_frames = 12;
@@ -48,4 +53,6 @@ const void *nearest_in_program() {
 
 // The caller of such a call, from the stack. After a tail call of the program the told place is in no such function,
 // and the caller is lost; a taskloop has too many arguments for one.
-const void *caller_in_program(const void *code) { return is_in_called_function(code) ? nearest_in_program() : nullptr; }
+const void *caller_in_program(const void *code) {
+  return !recorder_code.has(code) && is_in_called_function(code) ? nearest_in_program() : nullptr;
+}

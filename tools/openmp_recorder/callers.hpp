@@ -10,8 +10,9 @@ struct CodeRange {
   }
 };
 
-extern CodeRange runtime_code;
+extern CodeRange runtime_code, recorder_code;
 void find_runtime(const void *function);  // the module of this function is the runtime
-inline bool in_runtime(const void *code) { return runtime_code.has(code); }  // false for no place
+void find_recorder();  // whose functions stand before the runtime's
+inline bool in_runtime(const void *code) { return runtime_code.has(code) || recorder_code.has(code); }  // not for none
 const void *caller_in_program(const void *code);  // of a place inside the runtime; null where it cannot be known
 const void *nearest_in_program();  // the place that called the runtime, from the stack; null without one

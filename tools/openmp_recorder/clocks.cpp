@@ -8,8 +8,6 @@
 #include <utility>
 
 namespace {
-constexpr int64_t shortest_switch = 1000;  // nanoseconds: none takes the thread off its processor for less
-
 int64_t read_clock(clockid_t id) {
   timespec t;
   clock_gettime(id, &t);
@@ -33,6 +31,25 @@ int64_t time_of_reading(const Clock &clock) {
   return taken[taken.size() / 2];
 }
 
+Look look_now() {
+  Look now{{wall_time(), processor_time()}};
+  rusage use;
+  if (!getrusage(RUSAGE_THREAD, &use)) now.given_up = use.ru_nvcsw, now.taken = use.ru_nivcsw;
+  return now;
+}
+
+Passed passed_between(const Look &first, const Look &last) {
+  return {last.given_up != first.given_up, last.at.wall - first.at.wall, last.at.processor - first.at.processor,
+          last.taken != first.taken};
+}
+
+void BothClocks::begin_at(const Look &first) {
+  last = at = first.at;
+  before_wait = {};
+  given_up = first.given_up;
+  taken = first.taken;
+}
+
 // By the processor's clock both are read at each call: what passed before the last of them is left out where the way
 // from there is far by itself.
 bool BothClocks::is_far(const Times &now) {
@@ -54,7 +71,7 @@ void BothClocks::count_switches(Passed &since) {
 std::optional<Passed> BothClocks::at_record(const Times &now) {
   if (!is_far(now)) return {};
   Passed since{false, at.wall - last.wall + before_wait.wall, at.processor - last.processor + before_wait.processor};
-  if (since.off() >= shortest_switch) count_switches(since);
+  if (since.is_off()) count_switches(since);
   bool is_first = !last.wall;
   last = at;
   before_wait = {};

@@ -13,12 +13,15 @@ int64_t wall_time();
 int64_t processor_time();  // of the calling thread
 int64_t time_of_reading(const Clock &clock);  // measured, on the clock itself
 
+constexpr int64_t shortest_switch = 1000;  // nanoseconds: none takes the thread off its processor for less
+
 // How far both clocks of a thread went until one of its records, since the thread read both before.
 struct Passed {
   bool slept = false;  // the thread gave its processor up: it slept, or waited for something
   int64_t wall = 0, processor = 0;
   bool taken = false;  // the kernel gave its processor to another thread
   int64_t off() const { return wall > processor ? wall - processor : 0; }
+  bool is_off() const { return off() >= shortest_switch; }
   bool differ() const { return off() > wall / 20; }
 };
 
@@ -28,14 +31,24 @@ struct Times {
   int64_t wall = 0, processor = 0;
 };
 
+// Both clocks of the calling thread, and how often it had lost its processor, in both ways.
+struct Look {
+  Times at;
+  long given_up = 0, taken = 0;
+};
+Look look_now();
+Passed passed_between(const Look &first, const Look &last);
+
 // The clock that costs are not read on is read where 50 us have passed since, and the processor's takes time to read.
 // Where costs are read on the wall clock, callers leave the other one out.
 class BothClocks {
  public:
   explicit BothClocks(bool of_processor) : by_processor(of_processor) {}
+  void begin_at(const Look &first);  // what passes from then on counts until the next record
   std::optional<Passed> at_record(const Times &now);
   void wait_begins(const Times &now);  // what passes until its end is no code's
   void wait_ends(const Times &now);
+  int64_t processor_at_look() const { return last.processor; }  // the clock of the processor, as it was read last
 
  private:
   bool by_processor;

@@ -1,5 +1,6 @@
-// convert_log NAME.log [OUT]: the texts of a recorded run, OUT.tasks and so on; without OUT it is NAME. What is asked
-// for stands in the environment, and what is to be said comes as lines of JSON. Status 1: the log cannot be converted.
+// convert_log LOG OUT: the texts of a recorded run, OUT.tasks and so on. What is asked for stands in the environment,
+// and what is to be said comes as lines of JSON. Status 1: the log cannot be converted.
+#include <signal.h>
 #include <time.h>
 #include <unistd.h>
 
@@ -13,7 +14,6 @@
 #include "online_report.hpp"
 #include "options.hpp"
 #include "report.hpp"
-#include "run_files.hpp"
 #include "tell.hpp"
 
 namespace {
@@ -80,9 +80,9 @@ std::unique_ptr<CallPaths> paths_of(const LogFolder &log, const Options &options
 }
 
 void convert(const std::string &folder, const std::string &out) {
+  Options options = read_options();
   LogFolder log(folder);
   const Head &head = log.head;
-  Options options = read_options();
   options.processor_clock = head.by_processor;
   set_record_clock({options.processor_clock, head.in_a_record});
   std::unique_ptr<LogFolder> second;
@@ -90,7 +90,6 @@ void convert(const std::string &folder, const std::string &out) {
   bool is_known = head.how_ended != HowEnded::Not && head.end_thread < threads.size();
   Ending ending = ending_of(log);
   std::unique_ptr<CallPaths> paths = paths_of(log, options);
-  remove_texts(out);
   Job job{options,
           threads,
           log.modules,
@@ -107,30 +106,25 @@ void convert(const std::string &folder, const std::string &out) {
             second = std::make_unique<LogFolder>(folder);
             return threads_of(*second);
           },
-          paths.get()};
+          paths.get(),
+          &log.stacks};
   if (options.online || !log.measured.empty()) report_online(job, ending, log.measured);
   else report(job, ending);
   if (log.measured.empty()) tell_ending(log, ending);
 }
 
-std::string without_ending(std::string folder) {
-  const std::string ending = ".log";
-  while (!folder.empty() && folder.back() == '/') folder.pop_back();
-  if (folder.size() > ending.size() && !folder.compare(folder.size() - ending.size(), ending.size(), ending))
-    folder.resize(folder.size() - ending.size());
-  return folder;
-}
 }  // namespace
 
 int main(int count, char **words) {
-  if (count < 2 || count > 3) {
-    Line("fault").put("what", "convert_log NAME.log [OUT]");
+  signal(SIGXFSZ, SIG_IGN);  // then writing fails, and that is told
+  if (count != 3) {
+    Line("fault").put("what", "convert_log LOG OUT");
     return 1;
   }
   std::string folder = words[1];
   while (folder.size() > 1 && folder.back() == '/') folder.pop_back();
   try {
-    convert(folder, count == 3 ? words[2] : without_ending(folder));
+    convert(folder, words[2]);
   } catch (const std::bad_alloc &) {
     Line("fault").put("log", folder).put("what", "out of memory, and what is not written yet is not written");
     return 1;

@@ -42,6 +42,30 @@ ElfFile::ElfFile(const std::string &path) : file(whole(path)) {
   auto sections = table<Elf64_Shdr>(head[0].e_shoff, uint64_t{head[0].e_shnum} * sizeof(Elf64_Shdr));
   for (const Elf64_Shdr &section : sections)
     if (section.sh_type == SHT_DYNSYM) read_symbols(sections, section);
+  for (const Elf64_Shdr &section : sections)
+    if (section.sh_type == SHT_DYNSYM || section.sh_type == SHT_SYMTAB) read_functions(sections, section);
+  auto is_before = [](const Function &one, const Function &other) { return one.begin < other.begin; };
+  std::stable_sort(functions.begin(), functions.end(), is_before);
+}
+
+void ElfFile::read_functions(const std::vector<Elf64_Shdr> &sections, const Elf64_Shdr &table_of) {
+  if (table_of.sh_link >= sections.size()) return;
+  const Elf64_Shdr &strings = sections[table_of.sh_link];
+  if (strings.sh_offset > file.size()) return;
+  std::string_view words = std::string_view(file).substr(strings.sh_offset, strings.sh_size);
+  for (const Elf64_Sym &one : table<Elf64_Sym>(table_of.sh_offset, table_of.sh_size)) {
+    bool is_code = ELF64_ST_TYPE(one.st_info) == STT_FUNC || ELF64_ST_TYPE(one.st_info) == STT_GNU_IFUNC;
+    if (!is_code || one.st_shndx == SHN_UNDEF || !one.st_size || one.st_name >= words.size()) continue;
+    std::string_view name = words.substr(one.st_name);
+    functions.push_back({one.st_value, one.st_value + one.st_size, name.substr(0, name.find('\0'))});
+  }
+}
+
+std::string_view ElfFile::function_at(uint64_t address) const {
+  auto is_behind = [](uint64_t at, const Function &one) { return at < one.begin; };
+  auto behind = std::upper_bound(functions.begin(), functions.end(), address, is_behind);
+  if (behind == functions.begin() || (behind - 1)->end <= address) return {};
+  return (behind - 1)->name;
 }
 
 void ElfFile::read_symbols(const std::vector<Elf64_Shdr> &sections, const Elf64_Shdr &dynamic) {

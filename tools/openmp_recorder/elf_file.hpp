@@ -17,6 +17,7 @@ class ElfFile {
     uint64_t offset;  // of the address, in it
   };
   std::optional<Symbol> symbol_at(uint64_t address) const;  // among those that other modules may see
+  std::string_view function_at(uint64_t address) const;  // among all that it has; empty where none has the address
   bool defines(std::string_view name) const;
   std::string_view import_at(uint64_t address) const;  // the function of another module whose address is put there
   std::string_view bytes_at(uint64_t address, uint64_t count) const;  // less where the file has less
@@ -25,11 +26,17 @@ class ElfFile {
  private:
   std::string file;
   std::vector<Elf64_Sym> symbols;
+  struct Function {
+    uint64_t begin, end;
+    std::string_view name;
+  };
+  std::vector<Function> functions;  // by their beginnings
   std::string_view names;
   std::unordered_map<uint64_t, uint64_t> imports;  // by address, the number of the symbol
 
   template <class T>
   std::vector<T> table(uint64_t offset, uint64_t bytes) const;
+  void read_functions(const std::vector<Elf64_Shdr> &sections, const Elf64_Shdr &table_of);
   std::string_view name_of(const Elf64_Sym &symbol) const;
   void read_symbols(const std::vector<Elf64_Shdr> &sections, const Elf64_Shdr &dynamic);
 };

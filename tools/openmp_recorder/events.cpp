@@ -8,16 +8,17 @@ uint32_t number_of(const Event &event, const Region &region) {
   return event.taken_back ? none : number_in_text(*event.task, event.segment, region);
 }
 
-// The pieces of a chunk, one after the other; their part makes all of them where the first begins.
+// The pieces of a chunk, one after the other; their part makes all of them where it makes the first. That is before the
+// chunk begins, where it is not the first of its loop.
 size_t divide_among_pieces(const Task &chunk, uint32_t first, std::vector<SegmentTime> &times) {
   SegmentTime all = times[first];
-  int64_t took = all.end - all.begin, pieces = chunk.pieces, begin = all.begin;
+  int64_t took = all.end - all.begin, pieces = chunk.pieces, begin = all.begin, made = times[first - 1].end;
   for (int64_t i = 0; i < pieces; i++) {
     int64_t end = all.begin + took / pieces * (i + 1) + took % pieces * (i + 1) / pieces;
     SegmentTime &piece = times[first + 2 * static_cast<size_t>(i)];
     piece = {all.worker, begin, end};
     begin = end;
-    if (i + 1 < pieces) times[first + 2 * static_cast<size_t>(i) + 1] = {all.worker, all.begin, all.begin};
+    if (i + 1 < pieces) times[first + 2 * static_cast<size_t>(i) + 1] = {all.worker, made, made};
   }
   return 2 * static_cast<size_t>(pieces) - 1;
 }
@@ -42,8 +43,7 @@ Events event_lines(const Region &region) {
     time.worker = worker;
     (event.start ? time.begin : time.end) = event.at - region.time.begin;
     if (event.start) continue;
-    bool is_divided = event.task->pieces > 1 && event.task->fold == Fold::No;
-    finished += is_divided ? divide_among_pieces(*event.task, number, out.times) : 1;
+    finished += event.task->pieces > 1 ? divide_among_pieces(*event.task, number, out.times) : 1;
   }
   out.workers = workers.size();
   out.whole = finished == out.times.size();

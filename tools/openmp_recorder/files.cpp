@@ -1,16 +1,21 @@
 #include "files.hpp"
 
+#include <cerrno>
+#include <cstring>
+
 #include "tell.hpp"
 
+namespace {
+std::string unfinished(const std::string &name) { return name + ".new"; }
+}  // namespace
+
 bool write_file(const std::string &name, const std::string &text) {
-  FILE *file = fopen(name.c_str(), "w");
-  bool written = file && fwrite(text.data(), 1, text.size(), file) == text.size();
-  if (file && fclose(file)) written = false;
-  if (!written) Line("unwritten").put("file", name);
-  return written;
+  NewFile file(name);
+  file.put(text);
+  return file.end();
 }
 
-NewFile::NewFile(const std::string &called) : name(called), file(fopen(called.c_str(), "w")), good(file) {}
+NewFile::NewFile(const std::string &called) : name(called), file(fopen(unfinished(name).c_str(), "w")), good(file) {}
 
 void NewFile::put(std::string_view piece) {
   good = good && fwrite(piece.data(), 1, piece.size(), file) == piece.size();
@@ -18,8 +23,9 @@ void NewFile::put(std::string_view piece) {
 
 bool NewFile::end() {
   if (file && fclose(file)) good = false;
-  if (good) return true;
-  if (file) remove(name.c_str());
-  Line("unwritten").put("file", name);
+  if (good && !rename(unfinished(name).c_str(), name.c_str())) return true;
+  int why = errno;
+  if (file) remove(unfinished(name).c_str()), remove(name.c_str());
+  Line("unwritten").put("file", name).put("why", std::string(std::strerror(why)));
   return false;
 }

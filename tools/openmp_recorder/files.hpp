@@ -1,4 +1,5 @@
-// The files that a run writes.
+// The files that a run writes, each under another name, NAME.new, until it is whole: a converter that is killed leaves
+// no part of a text that is taken for one.
 #pragma once
 #include <cstdint>
 #include <cstdio>

@@ -23,6 +23,8 @@ Places places_of_gcc() {
   Places out;
   void *library = dlopen("libgomp.so.1", RTLD_LAZY | RTLD_NOLOAD);
   if (!library) return out;
+  bool is_of_llvm = dlsym(library, "__kmpc_fork_call");  // by the name of gcc's, and it is about to begin
+  if (is_of_llvm) return dlclose(library), out;
   find(library, "omp_get_num_places", out.count);
   find(library, "omp_get_place_num_procs", out.processors);
   find(library, "omp_get_place_proc_ids", out.numbers);

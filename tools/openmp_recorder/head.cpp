@@ -8,6 +8,7 @@
 #include <vector>
 
 #include "json.hpp"
+#include "lock_table.hpp"
 #include "stretches.hpp"
 #include "text.hpp"
 
@@ -15,17 +16,6 @@ namespace {
 constexpr size_t most_locks = 10;
 constexpr int64_t least_difference = 50000;  // of the clocks, that is told
 constexpr size_t most_preempted = 1000;  // segments, of which that is told
-
-std::string kind_name(int kind) {
-  switch (kind) {
-    case ompt_mutex_critical: return "critical";
-    case ompt_mutex_atomic: return "atomic";
-    case ompt_mutex_ordered: return "ordered";
-    case ompt_mutex_nest_lock:
-    case ompt_mutex_test_nest_lock: return "omp_nest_lock";
-    default: return "omp_lock";
-  }
-}
 
 class Head {
  public:
@@ -175,7 +165,6 @@ void Head::times(const Region &region, const Recording &recording) {
   }
   line("in parts without tasks", in_units(region.in_parts));
   line("in tasks", in_units(region.in_tasks));
-  if (region.remarks.count(Remark::Folded)) line("span without folds", in_units(region.span));
 }
 
 void Head::lock(Object &told, const LockUse &use) {
@@ -198,7 +187,7 @@ void Head::locks(const Region &region) {
     }
     Object told;
     std::string at = places.at(uses[i].code);
-    told.put("kind", kind_name(uses[i].kind));
+    told.put("kind", lock_kind(uses[i].kind));
     if (!at.empty()) told.put("at", at);
     lock(told, uses[i]);
   }
@@ -216,6 +205,7 @@ std::string place_in_json(const std::string &at, const std::vector<Frame> &frame
   }
   Object told;
   told.put("at", at).put("in", frames[0].function);
+  if (!frames[0].full.empty()) told.put("full", frames[0].full);
   if (!inlined.empty()) told.put_bare("inlined", "[" + inlined + "]");
   return told.end();
 }

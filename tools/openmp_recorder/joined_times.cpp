@@ -10,6 +10,16 @@ void renumber(Event &event, const std::vector<unsigned> &left_out) {
 }
 }  // namespace
 
+void JoinedTimes::apply(OffTimes &off) const {
+  for (OffTime &one : off.all) {
+    if (auto first = firsts.find(one.task); first != firsts.end()) one.task = first->second, one.segment = 0;
+    auto part = left_out.find(one.task);
+    if (part == left_out.end()) continue;
+    const std::vector<unsigned> &gone = part->second;
+    one.segment -= static_cast<unsigned>(std::lower_bound(gone.begin(), gone.end(), one.segment) - gone.begin());
+  }
+}
+
 void JoinedTimes::apply(std::vector<Event> &events) const {
   std::unordered_map<const Task *, int64_t> ends;
   for (const Event &event : events)

@@ -8,11 +8,12 @@
 
 class JoinedTimes {
  public:
-  void join(const Task &first, const Task &last) { lasts[&first] = &last; }
+  void join(const Task &first, const Task &last) { lasts[&first] = &last, firsts[&last] = &first; }
   void leave_out(const Task &part, unsigned segment) { left_out[&part].push_back(segment); }  // in ascending order
   void apply(std::vector<Event> &events) const;
+  void apply(OffTimes &off) const;
 
  private:
-  std::unordered_map<const Task *, const Task *> lasts;
+  std::unordered_map<const Task *, const Task *> lasts, firsts;
   std::unordered_map<const Task *, std::vector<unsigned>> left_out;  // segments, numbered as they were
 };

@@ -6,6 +6,7 @@
 #include "pieces.hpp"
 #include "place_region.hpp"
 #include "reader.hpp"
+#include "size.hpp"
 #include "stretches.hpp"
 #include "whole_program.hpp"
 

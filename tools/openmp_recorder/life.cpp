@@ -8,7 +8,6 @@
 #include <atomic>
 
 #include "log_head.hpp"
-#include "modules.hpp"
 #include "options.hpp"
 #include "program_start.hpp"
 #include "run_files.hpp"
@@ -50,21 +49,14 @@ std::string absolute(const std::string &name) {  // since the program may go to 
   return name[0] == '/' || !getcwd(here, sizeof here) ? name : std::string(here) + "/" + name;
 }
 
-// NAME.log, and where a child or another program of this process writes beside it, with the number of the process.
-std::string free_folder(const std::string &name, bool is_child) {
-  std::string own = name + "." + std::to_string(life->process), folder = (is_child ? own : name) + ".log";
-  if (access(folder.c_str(), F_OK)) return folder;
-  folder = own + ".log";
-  for (int more = 2; !access(folder.c_str(), F_OK); more++) folder = own + "-" + std::to_string(more) + ".log";
-  return folder;
-}
-
 void name_log() {
   life->process = getpid();
-  life->log.folder = free_folder(name_of_rank(life->options.out), life->log.is_child);
+  std::string name = name_of_rank(life->options.out), own = name + ".child" + std::to_string(life->process);
+  int64_t began = time_of_day() - (wall_time() - life->log.program_start);
+  life->log.folder = free_folder(name, own, life->log.is_child, began) + log_form::log_folder;
 }
 
-void after_fork() {
+void in_child_of_fork() {
   forget_log();
   life->log.is_child = true;
   life->log.program_start = wall_time();
@@ -114,21 +106,20 @@ void runtime_begins() {
   life->runtime_begins = moment_now();
 }
 
-void begin_recording(void (*call)()) {
+void begin_recording(void (*call)(), uint32_t unseen) {
   if (life->call) return;
   life->call = call;
   life->options.out = absolute(life->options.out);
   life->log.program_start = program_start();
   life->log.is_child = is_child_of_this_program();
-  life->log.unseen = unseen_of_gcc();
+  life->log.unseen = unseen;
   life->log.online = life->options.online;
   life->log.call_paths = life->options.call_paths && !life->options.online;
   life->process = getpid();
-  remove_old_files(name_of_rank(life->options.out), time_of_day() - (wall_time() - life->log.program_start));
   name_log();
   begin_log(life->log, life->call);
   tell_beginning();
-  pthread_atfork(nullptr, nullptr, after_fork);
+  pthread_atfork(leave_log, go_on_with_log, in_child_of_fork);
   at_quick_exit(end_of_process);
   set_time_of_beginning(time_since(life->runtime_begins));
 }

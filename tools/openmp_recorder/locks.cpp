@@ -27,12 +27,10 @@ int64_t Locks::get(LockName name, Called now, size_t records) {
 void Locks::leave(LockName name, uint32_t region, int64_t own_clock, size_t records) {
   for (auto lock = held.rbegin(); lock != held.rend(); ++lock) {
     if (lock->name != name) continue;
-    LockUse &use = used[{region, name}];
-    if (!use.times++) use.kind = lock->kind, use.code = lock->code;
     int64_t inside = std::max<int64_t>(own_clock - lock->since, 0);
-    use.inside += inside;
-    if (lock->records == records) use.alone += inside;
-    use.waiting += lock->wall;
+    LockUse use{lock->kind, lock->code, 1, inside, lock->wall, lock->records == records ? inside : 0};
+    used[{region, name}].add(use);
+    at_places[{lock->code, lock->kind}].add(use);
     held.erase(std::next(lock).base());
     return;
   }

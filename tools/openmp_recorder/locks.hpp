@@ -16,6 +16,7 @@ struct LockUse {
 };
 
 using LockName = uint64_t;
+using LockPlace = std::pair<const void *, int>;  // where it was asked for, and its kind
 
 struct Called {  // when the runtime called
   int64_t own, wall;  // clock of the thread's code, which stands still where it runs none; wall clock
@@ -27,6 +28,7 @@ class Locks {
   int64_t get(LockName name, Called now, size_t records);  // the own clock where it was asked for
   void leave(LockName name, uint32_t region, int64_t own_clock, size_t records);
   const std::map<std::pair<uint32_t, LockName>, LockUse> &uses() const { return used; }  // by region and name
+  const std::map<LockPlace, LockUse> &by_place() const { return at_places; }
 
  private:
   struct Held {
@@ -40,4 +42,5 @@ class Locks {
   Held asked{};  // a thread waits for one at a time
   std::vector<Held> held;
   std::map<std::pair<uint32_t, LockName>, LockUse> used;
+  std::map<LockPlace, LockUse> at_places;
 };

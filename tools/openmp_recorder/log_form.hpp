@@ -1,6 +1,6 @@
 // The binary form of a log, which LOG.md describes: what the recorder's library writes and `convert_log` reads.
-// NAME.log is a folder with a head, a list of modules, and two files of each thread: blocks of its records, and the
-// last block, which is mapped while the thread fills it.
+// NAME.spanprof/log is a folder with a head, a list of modules, and two files of each thread: blocks of its records,
+// and the last block, which is mapped while the thread fills it.
 #pragma once
 #include <cstdint>
 #include <string>
@@ -10,8 +10,10 @@
 namespace log_form {
 constexpr char magic[8] = {'S', 'P', 'A', 'N', 'P', 'L', 'O', 'G'};
 constexpr uint32_t version = 4, without_paths = 3;  // the same, but for call paths
+constexpr const char *log_folder = "/log";  // of a recording
 constexpr const char *head_file = "/head", *modules_file = "/modules", *thread_file = "/thread.", *last_block = ".last";
 constexpr const char *paths_file = "/paths";  // of creations, where call paths were asked for
+constexpr const char *samples_file = "/samples.";  // of a thread
 constexpr const char *measured_file = "/online";  // where a run was measured while it went on, in the place of records
 
 // In machine order. Kinds are those of `Told`. Where the first eight bytes are 0 no record is written yet, and the
@@ -56,6 +58,19 @@ constexpr unsigned path_shift = 2;
 constexpr uint64_t place_of_path(uint64_t number) { return path_bit | number << path_shift; }
 constexpr uint64_t path_of(uint64_t place) { return place & path_bit ? (place & ~path_bit) >> path_shift : 0; }
 constexpr uint32_t most_paths = 16384, most_calls = 32;
+
+// What a thread ran, one sample behind the other in windows of the file: the time is 0 where a window has no more.
+constexpr uint64_t window_bytes = 1 << 16;
+constexpr unsigned most_frames = 48;
+struct RawSample {
+  uint64_t at;  // the time-stamp counter
+  int64_t wall;  // CLOCK_MONOTONIC
+  uint32_t stands_for;  // microseconds of the thread's processor time, or that it slept
+  uint16_t took;  // nanoseconds
+  uint8_t frames, slept;  // whether the thread slept for so long, in the function that is called innermost
+  uint64_t *calls() { return reinterpret_cast<uint64_t *>(this + 1); }  // addresses outwards, as many as frames
+};
+static_assert(sizeof(RawSample) == 24, "as LOG.md has it");
 
 constexpr Told told_by(uint64_t word) { return static_cast<Told>(word >> code_bits & 255); }
 

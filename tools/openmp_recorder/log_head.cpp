@@ -13,11 +13,13 @@
 #include <mutex>
 #include <new>
 #include <utility>
+#include <vector>
 
 #include "known_stacks.hpp"
 #include "log_modules.hpp"
 #include "online_life.hpp"
 #include "path_numbers.hpp"
+#include "samples.hpp"
 #include "say.hpp"
 
 namespace {
@@ -32,9 +34,13 @@ std::atomic<int64_t> open_regions{0};  // of the program, that are not inside an
 
 // The runtime says goodbye after the destructors of globals have run, so these are never destroyed.
 Beginning &beginning = *new Beginning;
-std::mutex &making = *new std::mutex;  // of the folder
+std::mutex &making = *new std::mutex;  // of the folder, and of threads' logs
+std::vector<ThreadLog *> &of_ended = *new std::vector<ThreadLog *>;  // threads
 Head *head = nullptr;
+int locked = -1;  // the file of the head, which is locked
 bool is_made = false;
+__thread bool forks = false;  // the thread does
+__thread ThreadLog *left_log = nullptr;
 log_form::Pair first{}, second{};
 double tick = 1;  // nanoseconds
 int64_t in_a_record = 0;
@@ -51,10 +57,22 @@ Head *map_head(const std::string &path) {
   int file = open(path.c_str(), O_RDWR | O_CREAT | O_EXCL | O_CLOEXEC, 0666);
   if (file < 0) return nullptr;
   flock(file, LOCK_SH);
+  locked = file;
   void *page = MAP_FAILED;
   if (!posix_fallocate(file, 0, sizeof(Head)))
     page = mmap(nullptr, sizeof(Head), PROT_READ | PROT_WRITE, MAP_SHARED, file, 0);
   return page == MAP_FAILED ? nullptr : static_cast<Head *>(page);
+}
+
+// Of the parent, which would be taken for one that runs as long as the child does. The program may have closed the
+// file, and use its number for another one.
+void let_go_of_lock() {
+  struct stat open_there, own;
+  std::string path = beginning.folder + log_form::head_file;
+  bool is_own = locked >= 0 && !fstat(locked, &open_there) && !stat(path.c_str(), &own) &&
+                open_there.st_dev == own.st_dev && open_there.st_ino == own.st_ino;
+  if (is_own) close(locked);
+  locked = -1;
 }
 
 void fill_head() {
@@ -75,7 +93,10 @@ void fill_head() {
   std::memcpy(head->magic, log_form::magic, sizeof head->magic);
 }
 
+std::string recording_of(const std::string &log) { return log.substr(0, log.rfind('/')); }
+
 bool make_log() {
+  mkdir(recording_of(beginning.folder).c_str(), 0777);
   if (mkdir(beginning.folder.c_str(), 0777)) return false;
   head = map_head(beginning.folder + log_form::head_file);
   if (!head) return false;
@@ -131,7 +152,16 @@ void begin_log(const Beginning &how, void (*call)()) {
 void set_time_of_beginning(uint64_t took) { beginning_took = took; }
 
 ThreadLog *make_thread_log() {
+  if (forks) return nullptr;
   std::lock_guard<std::mutex> guard(making);
+  if (!of_ended.empty()) {
+    thread_log = of_ended.back();
+    of_ended.pop_back();
+    thread_log->begin_thread();
+    if (beginning.call_paths) thread_log->stacks = new KnownStacks;
+    sample_thread(*thread_log, beginning.folder);
+    return thread_log;
+  }
   if (!is_made && !make_log()) {
     stop_log(Stopped::Unwritable);
     return nullptr;
@@ -142,7 +172,18 @@ ThreadLog *make_thread_log() {
   if (measures) thread_log->online = &thread_to_measure();
   else if (beginning.call_paths) thread_log->stacks = new KnownStacks;
   if (beginning_took) thread_log->tell_stood_still(std::exchange(beginning_took, 0));
+  if (!measures) sample_thread(*thread_log, beginning.folder);
   return thread_log;
+}
+
+// By the processor's clock, which each thread begins anew, and where the run is measured, it stays the thread's.
+void leave_thread_log() {
+  ThreadLog *log = std::exchange(thread_log, nullptr);
+  leave_samples(*log);
+  if (costs_by_processor || measures) return;
+  delete std::exchange(log->stacks, nullptr);
+  std::lock_guard<std::mutex> guard(making);
+  of_ended.push_back(log);
 }
 
 void take_numbers(OwnNumbers &of) {
@@ -167,6 +208,7 @@ void stop_log(Stopped why) {
 
 void end_log(log_form::HowEnded how) {
   Moment now = moment_now();
+  if (thread_log && !measures && !is_stopped()) thread_log->look_at_clocks(now);  // no record may follow
   stop_log(Stopped::End);
   if (!head) return;
   if (measures) {
@@ -186,11 +228,24 @@ void take_end_back() {
 void count_open_region(int more) { open_regions += more; }
 bool inside_a_region() { return open_regions > 0; }
 
+void leave_log() {
+  forks = true;
+  left_log = std::exchange(thread_log, nullptr);
+}
+
+void go_on_with_log() {
+  forks = false;
+  thread_log = std::exchange(left_log, nullptr);
+}
+
 // The parent's files are mapped here too, and are not written any more.
 void forget_log() {
   new (&making) std::mutex;  // another thread may have held it when the process forked
   forget_paths();
-  thread_log = nullptr;
+  let_go_of_lock();
+  thread_log = left_log = nullptr;
+  forks = false;
+  new (&of_ended) std::vector<ThreadLog *>;
   head = nullptr;
   is_made = false;
   open_regions = 0;

@@ -20,13 +20,18 @@ void set_time_of_beginning(uint64_t took);  // which is no code of the program
 void end_log(log_form::HowEnded how);
 void take_end_back();  // the program goes on, and nothing more is told
 void stop_log(log_form::Stopped why);  // the first reason stays
-void forget_log();  // in the child after a fork
+// Around a fork, of whose child the runtime tells the calling thread before the child has a log of its own: the pages
+// of this one are the child's too.
+void leave_log();
+void go_on_with_log();
+void forget_log();  // in the child
 
 const Beginning &this_log();
 extern std::atomic<log_form::Stopped> log_stopped;
 extern
     __attribute__((tls_model("initial-exec"))) __thread ThreadLog *thread_log;  // the calling thread's, once it is made
 ThreadLog *make_thread_log();  // null where it cannot be made
+void leave_thread_log();  // the thread ends, and another one may go on with it
 double nanoseconds_of_tick();
 int64_t wall_time_at(uint64_t ticks);
 void count_open_region(int more);

@@ -28,7 +28,7 @@ int tell_module(dl_phdr_info *module, size_t, void *to) {
     const ElfW(Phdr) &segment = module->dlpi_phdr[i];
     if (segment.p_type != PT_LOAD || !(segment.p_flags & PF_X)) continue;
     uint64_t first = module->dlpi_addr + segment.p_vaddr;
-    const char *what = in_runtime(reinterpret_cast<const void *>(first)) ? "runtime" : "module";
+    const char *what = runtime_code.has(reinterpret_cast<const void *>(first)) ? "runtime" : "module";
     dprintf(*static_cast<int *>(to), "%" PRIx64 " %" PRIx64 " %" PRIx64 " %s %s\n", uint64_t{module->dlpi_addr}, first,
             first + segment.p_memsz, what, module->dlpi_name);
   }

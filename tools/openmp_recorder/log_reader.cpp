@@ -35,6 +35,7 @@ Head read_head(const std::string &path) {
   std::ifstream file(path, std::ios::binary);
   file.read(reinterpret_cast<char *>(&head), sizeof head);
   if (access(path.c_str(), R_OK)) throw std::runtime_error(std::strerror(errno));
+  if (!head.magic[0]) throw std::runtime_error("the program ended before recording began");
   if (!file || std::memcmp(head.magic, log_form::magic, sizeof head.magic))
     throw std::runtime_error("no log of the recorder");
   if (head.version != log_form::version && head.version != log_form::without_paths)
@@ -95,7 +96,8 @@ LogFolder::LogFolder(const std::string &path) : head(read_head(path + log_form::
   for (unsigned i = 0; i < count; i++) {
     std::string thread = path + log_form::thread_file + std::to_string(i);
     look_at_last_block(thread, head);
-    threads.push_back(std::make_unique<ThreadReader>(thread, i, head, &paths));
+    std::string sampled = path + log_form::samples_file + std::to_string(i);
+    threads.push_back(std::make_unique<ThreadReader>(thread, i, head, &paths, read_samples(sampled, head, stacks)));
   }
 }
 

@@ -7,6 +7,7 @@
 
 #include "log_form.hpp"
 #include "logged_paths.hpp"
+#include "logged_samples.hpp"
 #include "modules_of_run.hpp"
 #include "records.hpp"
 
@@ -18,6 +19,7 @@ class LogFolder {
   std::vector<std::unique_ptr<Records>> threads;
   ModulesOfRun modules;
   LoggedPaths paths;
+  Stacks stacks;  // of the samples
   std::string measured;  // while the program ran; empty where it was recorded
   bool is_running() const { return runs; }  // the program that writes it
   int64_t wall(const log_form::Pair &pair) const;

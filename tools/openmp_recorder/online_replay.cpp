@@ -2,6 +2,7 @@
 
 #include <unordered_map>
 
+#include "log_damage.hpp"
 #include "merge.hpp"
 #include "online_program.hpp"
 #include "runtime_ways.hpp"
@@ -79,6 +80,7 @@ void Replay::name(const Record &record, OnlineCall &call) {
     }
     case Told::ParallelEnd: call.other = handle(region(record.other)); return;
     case Told::ImplicitBegin:
+      if (!record.task) throw DamagedLog("an implicit task without a number begins");
       call.task = handle(make_task(record.task));
       call.other = handle(region(record.other));
       return;
@@ -100,7 +102,7 @@ void Replay::forget(const Record &record) {
 void Replay::take(const Record &record, const Log &log) {
   Worker &of = worker(log);
   of.stood_still += record.stood_still;
-  if (record.told() == Told::Passed || record.told() == Told::LockLeft) return;
+  if (record.told() == Told::Passed || record.told() == Told::LockLeft || record.told() == Told::Sample) return;
   OnlineCall call{record.at - of.stood_still,          record.told(), record.task, record.other, record.code,
                   static_cast<unsigned>(record.detail)};
   name(record, call);

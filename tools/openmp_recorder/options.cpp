@@ -71,13 +71,10 @@ Options read_options() {
   unit(chosen);
   flag("SPANPROF_LINES", "0", "1", chosen.lines);
   number("SPANPROF_REGIONS", chosen.regions);
-  number("SPANPROF_FOLD_DEPTH", chosen.fold_depth);
-  number("SPANPROF_FOLD_COST", chosen.fold_cost);
-  number("SPANPROF_FOLD_CHUNK", chosen.fold_chunk);
+  if (const char *region = getenv("SPANPROF_REGION")) chosen.region = region;
   parts(chosen.parts);
   flag("SPANPROF_WHOLE", "0", "1", chosen.whole);
   flag("SPANPROF_ONLINE", "0", "1", chosen.online);
-  flag("SPANPROF_FOLD_EXACT", "0", "1", chosen.fold_exact);
   flag("SPANPROF_TIMES", "0", "1", chosen.times);
   return chosen;
 }

@@ -4,7 +4,7 @@
 #include <set>
 #include <unordered_map>
 
-#include "fold.hpp"
+#include "size.hpp"
 #include "joined_times.hpp"
 #include "stretches.hpp"
 
@@ -220,7 +220,9 @@ void choose_pieces(WholeProgram &whole, int64_t unit) {
   if (!least) least = INT64_MAX;
   bool moves_span = chooser.longer(least) > span / share_that_moves_little;
   chooser.remark(least, moves_span);
-  write(rows_of(whole.chunk_list, let_go(whole)), least).apply(whole.events);
+  JoinedTimes joined = write(rows_of(whole.chunk_list, let_go(whole)), least);
+  joined.apply(whole.events);
+  joined.apply(whole.off);
   add_up(whole);
   whole.least_piece = least;
 }

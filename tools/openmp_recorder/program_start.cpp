@@ -1,5 +1,6 @@
 #include "program_start.hpp"
 
+#include <pthread.h>
 #include <time.h>
 #include <unistd.h>
 
@@ -7,6 +8,17 @@
 #include <cstdio>
 
 namespace {
+Look at_load;
+
+void look_at_start() {
+  if (getpid() == gettid()) at_load = look_now();
+}
+
+__attribute__((constructor)) void library_is_loaded() {
+  look_at_start();
+  pthread_atfork(nullptr, nullptr, look_at_start);
+}
+
 int64_t read(clockid_t id) {
   timespec t;
   clock_gettime(id, &t);
@@ -27,9 +39,12 @@ int64_t age_in_ticks(int64_t tick) {
 }
 }  // namespace
 
+const Look &look_at_load() { return at_load; }
+
+// It began before this library was loaded, and at least as long ago as it has computed.
 int64_t program_start() {
-  int64_t tick = 1000000000 / sysconf(_SC_CLK_TCK), age = age_in_ticks(tick);
-  int64_t computed = read(CLOCK_PROCESS_CPUTIME_ID);
-  if (age) computed = std::clamp(computed, std::max<int64_t>(age - tick, 0), age);
-  return read(CLOCK_MONOTONIC) - computed;
+  int64_t tick = 1000000000 / sysconf(_SC_CLK_TCK), age = age_in_ticks(tick), now = wall_time();
+  int64_t least = std::max(read(CLOCK_PROCESS_CPUTIME_ID), at_load.at.wall ? now - at_load.at.wall : 0);
+  if (age > 0) least = std::clamp(least, std::max<int64_t>(age - tick, 0), age);
+  return now - least;
 }

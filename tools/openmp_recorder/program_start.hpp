@@ -2,4 +2,7 @@
 #pragma once
 #include <cstdint>
 
-int64_t program_start();  // to a hundredth of a second where the program waited before the runtime began
+#include "clocks.hpp"
+
+const Look &look_at_load();  // of the process's first thread, when this library was loaded or the process forked
+int64_t program_start();  // to a hundredth of a second where the program waited before this library was loaded

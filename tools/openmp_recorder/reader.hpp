@@ -34,6 +34,7 @@ struct Turns {
   int64_t since = 0;  // the running piece, on the wall clock
   bool waited = false;  // in this turn
   bool after_a_wait = false;  // the running piece began where a wait for other turns was over
+  int64_t let_go = 0;  // when the next turn in order began, where that was told first; on the wall clock
 };
 
 struct ImplicitTask {
@@ -44,6 +45,7 @@ struct ImplicitTask {
   Task *chunk = nullptr;  // of it, that runs
   Chunk *last = nullptr;  // that began
   size_t left = 0;  // the event with which the part was left for it
+  size_t off = 0;  // times off the processor, up to where it began
   bool in_group = false;  // of the chunks
   int64_t since = 0;  // the first of them, on the wall clock
   bool all_turns = false;  // are taken to be the chunk
@@ -114,6 +116,7 @@ class Reader {
   void loop_begin();
   void schedule();
   void compare_clocks();
+  void count_off(Task &t);
   void close_tasks(Region &region);
   void close_whole(int64_t end);
 
@@ -159,6 +162,7 @@ class Reader {
   void sync_end();
   void group_end_begin();
   void cancel();
+  void take_sample();
 
   // whole.cpp: the whole program as one text
   std::map<std::pair<uint32_t, unsigned>, Loop *> loops;  // by region, and how many the threads met there before
@@ -193,6 +197,7 @@ class Reader {
   // turns.cpp: turns of loops that wait for each other
   std::map<std::pair<const Loop *, std::vector<uint64_t>>, uint32_t> turn_locations;  // by the turn's numbers
   std::unordered_map<uint32_t, int64_t> done;  // when a location's turn was, on the wall clock
+  std::unordered_map<uint32_t, int64_t> awaited;  // when a piece began that waited for it, told before it was done
   uint64_t made_locations = 0;
   uint32_t made_location();
   uint32_t location_of_turn(const Loop &loop);
@@ -202,6 +207,9 @@ class Reader {
   bool turn_awaited();
   void order_got();
   void order_left();
+  size_t end_before_last() const;
+  void ended_by(const Task &piece, int64_t at);
+  void end_earlier(const TurnWait &wait, int64_t by);
   void end_turns(ImplicitTask &own);
   void take_waits_off(Loop &loop);
 };

@@ -2,16 +2,16 @@
 
 #include <algorithm>
 
-#include "advice.hpp"
 #include "chosen.hpp"
 #include "compose.hpp"
 #include "events.hpp"
-#include "exact.hpp"
 #include "files.hpp"
-#include "fold.hpp"
 #include "head.hpp"
 #include "lines.hpp"
+#include "lock_table.hpp"
 #include "region_table.hpp"
+#include "sampled_calls.hpp"
+#include "size.hpp"
 #include "span.hpp"
 #include "stretches.hpp"
 #include "tell.hpp"
@@ -21,13 +21,9 @@
 namespace {
 constexpr size_t most_workers = 64;
 
-Object &put_excess(Object &line, const Excess &over) {
-  return line.put("what", over.what).put("program", over.program).put("has", over.has).put("takes", over.takes);
-}
-
 void tell_excess(const std::string &file, const Excess &over) {
   Line line("too large");
-  put_excess(line.put("file", file), over);
+  line.put("file", file).put("what", over.what).put("has", over.has).put("takes", over.takes);
 }
 
 class Reporter {
@@ -38,77 +34,54 @@ class Reporter {
   void write(Region &region, const std::string &name);
   void tell_outside(const Seen &outside);
   void write_regions(const Run &run, const WholeTime &time, const std::string &name);
+  std::vector<Region *> at_place(const Run &run, std::vector<Region *> regions);
+  void write_locks(const std::vector<Records *> &threads, const std::string &name);
+  void write_off(const WholeProgram &whole, const Stacks &stacks, const std::string &name);
 
  private:
   const Options &options;
   Recording recording;
   Places places;
 
-  Size fold_as_asked(Region &region);
+  Size measure(Region &region);
   std::string head(Region &region, int64_t work);
-  Text finish(Region &region, bool exclusion_as_order);
   void tell_remarks(const Region &region, const std::string &name);
   bool has_run(const Region &region, Object &line);
-  void write_run(const Region &region, const std::string &name, const Text &text, Object &line);
-  void write_replay(const std::string &name, const Text &text, const Events &events, Object &line);
-  void write_timed(const Region &region, const std::string &name, const Text &text, const Events &events, Object &line);
-  bool write_piece_by_piece(Region &region, const std::string &file, const std::string &head, const Style &style,
-                            const std::string &behind = "");
-  void write_large(Region &region, const std::string &name, const Size &size);
-  void write_large_run(Region &region, const std::string &name, const std::string &head, Object &line);
-  void tell_advice(Region &region, const std::string &file, const Excess &over);
+  void write_run(Region &region, const std::string &name, const std::string &head, Style style, Object &line);
+  bool write_text(Region &region, const std::string &file, const std::string &head, const Style &style,
+                  const std::string &behind = "");
+  void write_exclusion_as_order(Region &region, const std::string &name, Style style, int64_t work);
   Object &put_size(Object &line, const std::string &file, const Size &size, int64_t work);
 };
 
-void remark_folds(const Region &part, const Size &size, Remarks &remarks) {
-  if (1 + size.tasks == part.root->size) return;
-  for (const Task &t : part.tasks)
-    if (t.parent && !is_written(t)) remarks[Remark::Folded].add(t.code);
-}
-
-Folds folds_asked(const Options &options) {
-  int64_t most = INT64_MAX / options.unit;
-  int64_t below = std::min(static_cast<int64_t>(options.fold_cost), most) * options.unit;
-  return {options.fold_depth, below, options.fold_chunk};
-}
-
-// What was let go, as it is folded: what the head of the text and its lines have of it.
-Size fold_before(Region &region, const Folds &folds, const Options &options, RootEnds &ends) {
+// What was let go: what the head of the text and its lines have of it.
+Size measure_before(Region &region, const Options &options, RootEnds &ends) {
   Size size;
   Stretches &before = *region.before;
-  before.folds = folds;
   each_stretch(region, [&](Region &stretch) {
     add_up(stretch);
     region.work += stretch.root->total;
     span_of(stretch, before.ends);
     ends.add(*stretch.root);
-    Size own = fold(stretch, folds);
-    remark_folds(stretch, own, region.remarks);
-    size.add(own);
+    size.add(size_of(stretch));
     before.take_sums(stretch, options.unit);
   });
   return size;
 }
 
-Size Reporter::fold_as_asked(Region &region) {
+// Its work and span too.
+Size Reporter::measure(Region &region) {
   remark_locks(region);
-  Folds folds = folds_asked(options);
   RootEnds ends;
   Size before;
   region.work = 0;
-  if (region.before) before = fold_before(region, folds, options, ends);
+  if (region.before) before = measure_before(region, options, ends);
   add_up(region);
   region.work += region.root->total;
   span_of(region);
   ends.add(*region.root);
   region.span = ends.span();
-  Size size = fold(region, folds);
-  if (options.fold_exact && over_the_limits(size, options.unit)) {
-    if (fold_exactly(region, options.unit, size)) return size;
-    Line("no exact fold");
-    size = fold(region, folds);
-  }
-  remark_folds(region, size, region.remarks);
+  Size size = size_of(region);
   size.add(before);
   return size;
 }
@@ -123,12 +96,6 @@ std::string Reporter::head(Region &region, int64_t work) {
   return head_of(region, recording, options, places);
 }
 
-Text Reporter::finish(Region &region, bool exclusion_as_order) {
-  Text text = program_text(region, {options.unit, exclusion_as_order, false, !region.before}, places);
-  text.words = head(region, text.work) + text.words;
-  return text;
-}
-
 void Reporter::tell_remarks(const Region &region, const std::string &name) {
   for (auto &[what, seen] : region.remarks)
     Line("remark").put("name", name).put_bare("remark", remark_in_json(what, seen, places));
@@ -137,22 +104,9 @@ void Reporter::tell_remarks(const Region &region, const std::string &name) {
 // Whether the run can stand behind the text; where it cannot, the line tells why. Of the whole program no events are
 // replayed, and of a large region they are kept where times are wanted.
 bool Reporter::has_run(const Region &region, Object &line) {
-  if (recording.whole) {
-    if (options.times && !region.has_events) line.put("no times", "whole");
-    return options.times && region.has_events;
-  }
-  if (!region.remarks.count(Remark::FoldedExactly)) return region.has_events;
-  line.put("no replay", "exact folds");
-  if (options.times) line.put("no times", "folds");
-  return false;
-}
-
-// Which files hold the run.
-void Reporter::write_run(const Region &region, const std::string &name, const Text &text, Object &line) {
-  if (!has_run(region, line)) return;
-  Events events = event_lines(region);
-  if (!recording.whole) write_replay(name, text, events, line);
-  if (options.times) write_timed(region, name, text, events, line);
+  if (!recording.whole) return region.has_events;
+  if (options.times && !region.has_events) line.put("no times", "whole");
+  return options.times && region.has_events;
 }
 
 // Whether a replay document can have these; where it cannot, the line tells why.
@@ -163,23 +117,23 @@ bool can_be_replayed(const Events &events, Object &line) {
   return false;
 }
 
-void Reporter::write_replay(const std::string &name, const Text &text, const Events &events, Object &line) {
-  if (!can_be_replayed(events, line)) return;
-  if (!options.processor_clock) write_file(name + ".times", times_table(events));
-  if (write_file(name + ".replay", text.words + "---\n" + events.words)) line.put("replay", name + ".replay");
-}
-
-// Why a text has no times, or none. A folded task ran beside what it is written as.
-const char *why_no_times(const Region &region, const Events &events) {
-  if (region.remarks.count(Remark::Folded) || region.remarks.count(Remark::FoldedExactly)) return "folds";
-  return events.whole ? nullptr : "unfinished";
-}
-
-void Reporter::write_timed(const Region &region, const std::string &name, const Text &text, const Events &events,
-                           Object &line) {
-  if (const char *why = why_no_times(region, events)) line.put("no times", why);
-  else if (write_file(name + ".timed", text.words + "---\n" + timed_lines(region, events)))
-    line.put("times", name + ".timed");
+// The text is written once more in front of the events of a region, and of its times. Those of the whole program stand
+// alone.
+void Reporter::write_run(Region &region, const std::string &name, const std::string &head, Style style, Object &line) {
+  if (!has_run(region, line)) return;
+  Events events = event_lines(region);
+  style.numbered = false;
+  auto write = [&](const char *what, const std::string &file, const std::string &behind) {
+    if (write_text(region, file, head, style, "---\n" + behind)) line.put(what, file);
+  };
+  if (!recording.whole && can_be_replayed(events, line)) {
+    if (!options.processor_clock) write_file(name + ".times", times_table(events));
+    write("replay", name + ".replay", events.words);
+  }
+  if (!options.times) return;
+  if (!events.whole) line.put("no times", "unfinished");
+  else if (!recording.whole) write("times", name + ".timed", timed_lines(region, events));
+  else if (write_file(name + ".times", timed_lines(region, events))) line.put("times", name + ".times");
 }
 
 // The same run with what excludes each other in the order of creation: its span is too high where that of the first is
@@ -191,43 +145,13 @@ bool let_exclusion_be_order(Region &region) {
   return true;
 }
 
-bool Reporter::write_piece_by_piece(Region &region, const std::string &file, const std::string &head,
-                                    const Style &style, const std::string &behind) {
+bool Reporter::write_text(Region &region, const std::string &file, const std::string &head, const Style &style,
+                          const std::string &behind) {
   NewFile out(file);
   out.put(head);
   tell_program(region, style, places, [&](std::string_view piece) { out.put(piece); });
   out.put(behind);
   return out.end();
-}
-
-// The text is written once more in front of each.
-void Reporter::write_large_run(Region &region, const std::string &name, const std::string &head, Object &line) {
-  if (!has_run(region, line)) return;
-  Events events = event_lines(region);
-  auto write = [&](const char *what, const std::string &file, const std::string &behind) {
-    if (write_piece_by_piece(region, file, head, {options.unit, false, true, false}, "---\n" + behind))
-      line.put(what, file);
-  };
-  if (!recording.whole && can_be_replayed(events, line)) write("replay", name + ".replay", events.words);
-  if (!options.times) return;
-  if (const char *why = why_no_times(region, events)) line.put("no times", why);
-  else write("times", name + ".timed", timed_lines(region, events));
-}
-
-// What exceeds the limits of the commands is a text for spanprof_large.
-void Reporter::write_large(Region &region, const std::string &name, const Size &size) {
-  std::string file = name + ".large.tasks";
-  if (Excess over = over_the_limits(size, options.unit, of_any_size)) return tell_excess(file, over);
-  if (options.lines) places.look_up(codes_of(region));
-  int64_t work = work_in_units(region, options.unit);
-  std::string words = head(region, work);
-  if (!write_piece_by_piece(region, file, words, {options.unit, false, true, region.has_events})) return;
-  tell_remarks(region, name);
-  Line line("text");
-  put_size(line, file, size, work);
-  write_large_run(region, name + ".large", words, line);
-  if (let_exclusion_be_order(region))
-    write_piece_by_piece(region, name + ".large.inout.tasks", head(region, work), {options.unit, true, true, false});
 }
 
 Object &Reporter::put_size(Object &line, const std::string &file, const Size &size, int64_t work) {
@@ -238,59 +162,28 @@ Object &Reporter::put_size(Object &line, const std::string &file, const Size &si
       .put("unit", options.unit_name);
 }
 
-std::string offer_in_json(const Offer &offer) {
-  Object told;
-  told.put("fold", offer.fold).put("value", offer.value).put("tasks", offer.tasks).put("span", offer.span);
-  return told.end();
-}
-
-bool has_pieces_of_loops(const Region &region) {
-  return std::any_of(region.tasks.begin(), region.tasks.end(), [](const Task &t) { return t.origin != Origin::Task; });
-}
-
-// Folds that fit a part of a region say nothing of the whole.
-void Reporter::tell_advice(Region &region, const std::string &file, const Excess &over) {
-  Line line("too large");
-  put_excess(line.put("file", file), over);
-  if (region.remarks.count(Remark::RecordsFull)) {
-    line.put("advice", "beginning only");
-    return;
-  }
-  Advice advice = advice_for(region, options.unit);
-  if (advice.fewer_items) line.put("advice", "fewer items");
-  else if (advice.larger_unit) line.put("advice", "larger unit");
-  else {
-    std::string offers;
-    for (const Offer &offer : advice.offers) offers += (offers.empty() ? "" : ", ") + offer_in_json(offer);
-    line.put("advice", "folds")
-        .put("work", advice.work)
-        .put("span", advice.span)
-        .put("exact", advice.exact)
-        .put("pieces of loops", has_pieces_of_loops(region))
-        .put_bare("offers", "[" + offers + "]");
-  }
+void Reporter::write_exclusion_as_order(Region &region, const std::string &name, Style style, int64_t work) {
+  if (recording.whole || !let_exclusion_be_order(region)) return;
+  style.exclusion_as_order = true;
+  style.numbered = false;
+  write_text(region, name + ".inout.tasks", head(region, work), style);
 }
 
 void Reporter::write(Region &region, const std::string &name) {
-  Size size = fold_as_asked(region);
+  Size size = measure(region);
   std::string file = name + ".tasks";
-  if (Excess over = over_the_limits(size, options.unit)) {
-    write_large(region, name, size);
-    return region.before ? tell_excess(file, over) : tell_advice(region, file, over);
-  }
+  if (Excess over = over_the_limits(size, options.unit)) return tell_excess(file, over);
   if (options.lines) places.look_up(codes_of(region));
-  Text text = finish(region, false);
-  if (Excess over = over_the_length(text.words)) {
-    write_large(region, name, size);
-    return tell_excess(file, over);
-  }
+  int64_t work = work_in_units(region, options.unit);
+  std::string words = head(region, work);
+  Style style{options.unit, false, size.tasks > most_tasks, region.has_events};
+  if (!write_text(region, file, words, style)) return;
   tell_remarks(region, name);
-  if (!write_file(file, text.words)) return;
   {
     Line line("text");
-    write_run(region, name, text, put_size(line, file, size, text.work));
+    write_run(region, name, words, style, put_size(line, file, size, work));
   }
-  if (let_exclusion_be_order(region)) write_file(name + ".inout.tasks", finish(region, true).words);
+  write_exclusion_as_order(region, name, style, work);
 }
 
 void Reporter::tell_outside(const Seen &outside) {
@@ -321,19 +214,37 @@ void Reporter::write_regions(const Run &run, const WholeTime &time, const std::s
   write_file(name + ".regions", region_table(run, time, places));
 }
 
-bool has_folds(const Options &options) { return options.fold_depth || options.fold_chunk || options.fold_cost; }
+// Those at the place that is asked for.
+std::vector<Region *> Reporter::at_place(const Run &run, std::vector<Region *> regions) {
+  if (options.region.empty()) return regions;
+  if (options.lines) places.look_up(codes_of_regions(run));
+  auto is_elsewhere = [&](const Region *region) { return places.at(region->code) != options.region; };
+  regions.erase(std::remove_if(regions.begin(), regions.end(), is_elsewhere), regions.end());
+  return regions;
+}
+
+void Reporter::write_locks(const std::vector<Records *> &threads, const std::string &name) {
+  std::vector<const void *> codes = codes_of_locks(threads);
+  if (codes.empty()) return;
+  if (options.lines) places.look_up(codes);
+  write_file(name + ".locks", lock_table(threads, places));
+}
+
+// How segments were off the processor, and what they ran by samples.
+void Reporter::write_off(const WholeProgram &whole, const Stacks &stacks, const std::string &name) {
+  write_file(name + ".off", off_lines(whole, whole.off));
+  if (!options.lines || stacks.all().empty()) return;
+  write_file(name + ".calls", sampled_lines(whole, whole.off, stacks, places));
+}
 
 constexpr uint64_t most_held = 1 << 18;  // tasks of regions that are over, while it is not known which are written
 constexpr uint64_t most_timed = 1 << 18;  // tasks and chunks of loops, of which many are written together
 
 // The most tasks of a region of which the run is kept, or of the whole program.
 uint64_t most_to_replay(const Options &options) {
-  if (has_folds(options)) return UINT64_MAX;
   if (options.whole) return most_timed;
   return options.times ? UINT64_MAX : most_tasks;
 }
-
-WhichParts parts_asked(const Options &options) { return {options.parts, has_folds(options) || options.fold_exact}; }
 
 // Thread-time outside of regions: by the processor's clock of all threads that meet regions, each as far as its time is
 // known, and of the first of a whole program; by the wall clock of that one, or when none is in a region.
@@ -351,9 +262,8 @@ int64_t outside_regions(const Job &job, const Run &run, const ProgramTime &time,
 
 std::vector<Region *> compose_all(Run &run, const Options &options) {
   std::vector<Region *> with_tasks;
-  WhichParts which = parts_asked(options);
   for (auto &[number, region] : run.regions)
-    if (compose(*region, which)) {
+    if (compose(*region, options.parts)) {
       with_tasks.push_back(region.get());
       region->place = with_tasks.size();
     }
@@ -371,7 +281,7 @@ HowToRead how_to_read(const Job &job) {
           job.options.times,
           job.start,
           job.end,
-          job.options.whole && job.options.fold_exact ? UINT64_MAX : most_held,
+          most_held,
           {},
           job.paths,
           job.out};
@@ -413,6 +323,8 @@ void report_whole(const Job &job, Run &run, Recording recording, int64_t end) {
   Reporter reporter(job, std::move(recording));
   reporter.write_regions(run, time, job.out);
   reporter.write(*run.whole, job.out);
+  reporter.write_locks(job.threads, job.out);
+  if (run.whole->has_events) reporter.write_off(*run.whole, *job.stacks, job.out);
 }
 }  // namespace
 
@@ -427,7 +339,7 @@ void report(const Job &job, Ending &ending) {
   Recording recording{job.program, job.date, with_tasks.size(), time, threads};
   Reporter reporter(job, std::move(recording));
   if (with_tasks.empty() && !job.may_be_empty) Line("no tasks").put("inside", ending.wall != 0);
-  std::vector<Region *> written = held(choose(with_tasks, job.options), job, unread, run);
+  std::vector<Region *> written = held(choose(reporter.at_place(run, with_tasks), job.options), job, unread, run);
   for (size_t i = 0; i < written.size(); i++) {
     written[i]->text = i + 1;
     for (Remark remark : job.unseen) written[i]->remarks[remark];

@@ -9,6 +9,7 @@
 #include <vector>
 
 #include "locations.hpp"
+#include "off_times.hpp"
 #include "remarks.hpp"
 #include "task_list.hpp"
 
@@ -64,7 +65,10 @@ struct TurnWait {
   Task *piece;
   int64_t least, most;  // what the piece costs without the wait
   bool is_none;  // the other turn was done long before, so nothing was waited for
+  size_t ended;  // the event with which it did
 };
+
+struct Turns;
 
 // A worksharing loop, or sections, as the threads of a region met it.
 struct Loop {
@@ -73,6 +77,7 @@ struct Loop {
   uint64_t count = 0, told = 0;  // turns: of the loop, and of the chunks that were told
   bool kept = false;  // some of it, or all, is code of the parts, as this run divided it
   uint32_t order = 0;  // of an `ordered` loop: the location that its turns take in order
+  Turns *in_order = nullptr;  // of the thread whose turn it is
   std::vector<TurnWait> waits;
   int64_t unwaited = INT64_MAX, inside = INT64_MAX;  // the shortest turn without waits, and after them
 };
@@ -95,6 +100,7 @@ class Stretches;
 struct Region {
   uint32_t number = 0;
   const void *code = nullptr;
+  unsigned asked = 0;  // how many threads its program asked for; 0 where that is not told
   unsigned threads = 0, ended = 0;  // of its implicit tasks those that ended
   bool over = false;  // by the thread that met it
   bool let_go = false;  // with its tasks, though not with its sums
@@ -117,8 +123,7 @@ struct Region {
   std::map<LockName, LockUse> locks;
   Remarks remarks;
   Task *root = nullptr;  // what is written
-  int64_t work = 0, span = 0;  // without folds, in nanoseconds
-  bool joined = false;  // tasks may be joined
+  int64_t work = 0, span = 0;  // in nanoseconds
   int64_t in_parts = 0, in_tasks = 0;  // the costs of parts without tasks, and of all else
   int64_t in_own_regions = 0;  // of the cost: what passed while a task was in a region of its own
   Differing differing;
@@ -153,6 +158,7 @@ struct WholeProgram : Region {
   uint64_t regions = 0, loops = 0, sections = 0, pieces = 0;  // `sections` by the construct
   int64_t least_piece = 0;  // of loops, in nanoseconds
   int64_t recorder = 0;  // its own time outside of regions, on the first thread
+  OffTimes off;  // of its segments
   int64_t serial = 0, in_loops = 0;  // of the cost: outside of regions; in chunks of loops
   std::deque<Loop> loop_list;
   std::deque<Chunk> chunk_list;  // in the order in which they began

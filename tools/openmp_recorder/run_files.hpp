@@ -1,9 +1,10 @@
-// The names of the files that belong to a run.
+// The names of the folders that the processes of a run write.
 #pragma once
 #include <cstdint>
 #include <string>
 
-void remove_old_files(const std::string &name, int64_t began);  // that a run wrote before this time of the day
 std::string name_of_rank(const std::string &name);  // NAME.rank3 of such a process of MPI's, where there are several
-bool is_of_run(const std::string &file, const std::string &name);  // file names without a folder
-void remove_texts(const std::string &name);  // of an earlier conversion of the same log; those of other logs stay
+
+// NAME.spanprof, and where that is there from an earlier run, NAME-2.spanprof and so on. A child, or another program of
+// a run that began then, has its own name.
+std::string free_folder(const std::string &name, const std::string &own, bool is_child, int64_t began);

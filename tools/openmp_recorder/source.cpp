@@ -6,6 +6,8 @@
 #include <cstring>
 #include <map>
 
+#include "names.hpp"
+
 namespace {
 constexpr size_t most_at_once = 4000;  // addresses of one call
 
@@ -33,7 +35,7 @@ std::string symbol(const void *code, const ModuleOfRun &module) {
   char text[64];
   auto found = module.file ? module.file->symbol_at(reinterpret_cast<uint64_t>(code) - module.base) : std::nullopt;
   snprintf(text, sizeof text, "+0x%zx", static_cast<size_t>(found ? found->offset : in_file(code, module)));
-  return (found ? std::string(found->name) : base_name(module.path)) + text;
+  return (found ? short_name(demangled(std::string(found->name))) : base_name(module.path)) + text;
 }
 // What a compiler makes of a construct's code: `main.omp_outlined`, `main._omp_fn.0`, `f(int) [clone .omp_outlined]`.
 Frame frame_of(std::string name, std::string at) {
@@ -41,7 +43,9 @@ Frame frame_of(std::string name, std::string at) {
   bool is_outlined = has(".omp_outlined") || has("._omp_fn") || has(".omp_task_entry");
   for (const char *ending : {" [clone ", ".omp_outlined", "._omp_fn", ".omp_task_entry"})
     if (size_t found = name.find(ending); found != std::string::npos) name.resize(found);
-  return {name == "??" ? "" : name, std::move(at), is_outlined};
+  if (name == "??") name.clear();
+  std::string few = short_name(name);
+  return {few, std::move(at), is_outlined, few == name ? "" : name};
 }
 
 bool next_line(FILE *answers, std::string &line) {
@@ -119,6 +123,13 @@ const std::vector<Frame> &Places::frames(const void *code) const {
   static const std::vector<Frame> none;
   auto found = around.find(code);
   return found == around.end() ? none : found->second;
+}
+
+std::string Places::function(const void *code) const {
+  const ModuleOfRun *module = code && of_run ? of_run->of(code) : nullptr;
+  if (!module) return {};
+  std::string_view name = module->file ? module->file->function_at(in_file(code, *module)) : std::string_view();
+  return name.empty() ? base_name(module->path) : frame_of(demangled(std::string(name)), "").function;
 }
 
 std::vector<Frame> Places::calls(const void *code) const {

@@ -48,11 +48,6 @@ void Timeline::name_items(const Task &child, int64_t end) {
 }
 
 void Timeline::create(const Task &child) {
-  if (child.fold == Fold::Joined) return;
-  if (child.fold == Fold::Whole) {
-    now += child.total;
-    return;
-  }
   int64_t start = after_items(child, now), end = start + child.end, last = start + child.end_below;
   name_items(child, end);
   children = std::max(children, end);
@@ -76,12 +71,12 @@ void Timeline::step(const Step &step) {
 
 void Timeline::follow() {
   for (const Step &one : task.steps) step(one);
-  task.end = now + task.joined;
+  task.end = now;
   task.end_below = std::max(below, task.end);
 }
 
 void follow(Task &task, LocationEnds &table) {
-  if (task.fold == Fold::Body || !task.children) task.end = task.end_below = in_pieces(task.total, task) + task.joined;
+  if (!task.children) task.end = task.end_below = in_pieces(task.total, task);
   else Timeline(task, table).follow();
 }
 }  // namespace
@@ -106,10 +101,4 @@ int64_t span_of(Region &region) {
 int64_t span_of(Region &region, LocationEnds &ends) {
   for (auto task = region.tasks.rbegin(); task != region.tasks.rend(); ++task) follow(*task, ends);
   return region.root->end_below;
-}
-
-int64_t span_of(const std::vector<Task *> &written) {
-  LocationEnds table;
-  for (auto task = written.rbegin(); task != written.rend(); ++task) follow(**task, table);
-  return written.front()->end_below;
 }

@@ -1,4 +1,4 @@
-// The span of a region as it is folded, added up by the recorder itself; nothing about it is proved.
+// The span of a region, added up by the recorder itself; nothing about it is proved.
 #pragma once
 #include <vector>
 
@@ -30,4 +30,3 @@ struct RootEnds {
 
 int64_t span_of(Region &region);  // in nanoseconds
 int64_t span_of(Region &region, LocationEnds &ends);  // the same, of one after the other
-int64_t span_of(const std::vector<Task *> &written);  // of what a fold leaves, each after its maker

@@ -8,7 +8,6 @@
 #include <string>
 #include <vector>
 
-#include "fold.hpp"
 #include "head.hpp"
 #include "lines.hpp"
 #include "run.hpp"
@@ -34,7 +33,6 @@ class Stretches {
 
   // sums of them as they are written
   void take_sums(const Region &stretch, int64_t unit);
-  Folds folds;
   int64_t work_in_units = 0;
   std::set<const void *> codes;
   Constructs constructs;

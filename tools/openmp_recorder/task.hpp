@@ -31,13 +31,6 @@ class Step {
 };
 static_assert(sizeof(Step) == 8, "a task has one to several");
 
-enum class Fold : uint8_t {
-  No,
-  Body,  // the task's body is one `work`
-  Whole,  // the task is `work` of its parent
-  Joined  // the task is `work` of the next of its siblings
-};
-
 // What a task of the text is in the program.
 enum class Origin : uint8_t { Task, Turns, Section };  // `Turns` of a worksharing loop
 
@@ -54,6 +47,7 @@ struct DependWait {
   const Log *log;  // of that thread
   ShortList<Item> items;
   bool is_over = false;
+  bool is_alone = false;  // no task that follows belongs to it
 };
 
 constexpr uint32_t none = UINT32_MAX;
@@ -64,8 +58,7 @@ struct Task {
   bool undeferred = false, untied = false;
   bool auxiliary = false;  // of a taskloop's, made by the runtime to make others
   bool of_loop = false;  // a taskloop's, or a chunk of a loop
-  bool shown = true;  // while it is written
-  Fold fold = Fold::No;
+  bool shown = true;  // it stands in the text
   Origin origin = Origin::Task;
   uint32_t pieces = 0;  // of a loop's chunk: so many tasks that share its cost stand for it; 0 for what is none
   unsigned segment = 0;  // the one that is open, counted within the task
@@ -90,14 +83,9 @@ struct Task {
     struct {  // while it is written
       int64_t total;  // `work` with everything below it
       int64_t end, end_below;  // of its code and of all below it, from its start on as many threads as can be used
-      int64_t joined;  // the cost of siblings that are `work` of it
-      unsigned joined_tasks;
-      unsigned depth;  // of tasks within each other; 0 for a part
       unsigned outer_groups;  // of the parent, open where the task is created
       unsigned inner_groups;  // the most that are open at once in its own code
       unsigned blocks;  // open in its own code outside its own groups
-      unsigned size;  // tasks, with all below it
-      unsigned stands_for;  // tasks, where it or the row that it begins is an exact fold
       uint32_t first_number;  // the place of its segments among the region's numbers; none where it is not written
     };
   };
@@ -126,9 +114,8 @@ inline void Task::end_reading() {
 }
 
 inline void Task::begin_writing() {
-  total = end = end_below = joined = 0;
-  joined_tasks = depth = outer_groups = inner_groups = blocks = stands_for = 0;
-  size = 1;
+  total = end = end_below = 0;
+  outer_groups = inner_groups = blocks = 0;
   first_number = none;
 }
 
@@ -137,6 +124,3 @@ static_assert(sizeof(Task) == 136, "a million of them are to take 200 MB with th
 // How many tasks of the text it is, without those below it, and what of its cost the longest of them has.
 inline uint32_t tasks_for(const Task &t) { return std::max<uint32_t>(t.pieces, 1); }
 inline int64_t in_pieces(int64_t cost, const Task &t) { return t.pieces < 2 ? cost : (cost + t.pieces - 1) / t.pieces; }
-
-// Whether a task that its parent shows stands in the text.
-inline bool is_written(const Task &t) { return t.shown && t.fold != Fold::Whole && t.fold != Fold::Joined; }

@@ -8,6 +8,7 @@
 
 #include "piece.hpp"
 #include "recent.hpp"
+#include "size.hpp"
 #include "stretches.hpp"
 
 namespace {
@@ -21,8 +22,6 @@ struct Place {
   size_t next = 0;  // of its steps
   unsigned segment = 0;  // the open one, counted within the task
   int64_t cost = 0;  // of the open segment, not written yet
-  unsigned folded = 0;  // tasks below whose cost is in it
-  unsigned joined = 0;  // siblings whose cost is in it
 };
 
 // Tasks may lie so deep within each other that the writer keeps the open ones in a list of its own.
@@ -57,7 +56,6 @@ class Writer {
   uint32_t &number(const Place &p) { return region.numbers[p.task.first_number + p.segment]; }
   void open(Place &p);
   void step(Place &p, const Step &step);
-  void leave_out(Place &p, const Task &child);
   void create(Place &p, Task &child);
   void pieces(Place &p, Task &chunk);
   uint32_t name_of(const Item &item);
@@ -65,7 +63,6 @@ class Writer {
   std::string_view at_place(std::string_view what, const void *code);
   std::string_view place_of(const Task &t);
   std::string_view place_of_group(const Place &p, const Step &begin);
-  void end_task_line(const Task &t);
   void enter(Task &t, unsigned indent);
   void leave();
   void part(Region &part);
@@ -81,25 +78,7 @@ std::string_view type_of(uint64_t type, bool exclusion_as_order) {
   }
 }
 
-unsigned tasks_below(const Task &t) {
-  unsigned count = 0;
-  std::vector<const Task *> left{&t};
-  while (!left.empty()) {
-    const Task *next = left.back();
-    left.pop_back();
-    for (auto &step : next->steps)
-      if (step.kind == Kind::Create) count++, left.push_back(step.child());
-  }
-  return count;
-}
-
 int64_t rounded(int64_t nanoseconds, int64_t unit) { return unit == 1 ? nanoseconds : (nanoseconds + unit / 2) / unit; }
-
-std::string folded_words(const Place &p) {
-  if (p.joined) return std::to_string(1 + p.joined) + " tasks joined";
-  if (p.folded) return std::to_string(p.folded) + (p.folded == 1 ? " task folded" : " tasks folded");
-  return {};
-}
 
 void Writer::begin_line(unsigned indent) {
   if (!style.large) piece.blanks(2 * indent);
@@ -150,31 +129,17 @@ void Writer::items(const Task &t) {
 
 void Writer::flush(Place &p) {
   int64_t cost = rounded(p.cost, style.unit);
-  if (cost || p.folded || p.joined) {
+  if (cost) {
     begin_line(p.indent);
     piece.put("work ");
     piece.number(static_cast<uint64_t>(cost));
-    if (p.folded || p.joined) end_line(folded_words(p));
-    else end_line();
+    end_line();
   }
   p.cost = 0;
-  p.folded = p.joined = 0;
 }
 
 void Writer::open(Place &p) {
   if (style.numbered) number(p) = opened++;
-}
-
-// The segment goes on, under the number that it has.
-void Writer::leave_out(Place &p, const Task &child) {
-  if (child.fold == Fold::Whole) {
-    p.cost += child.total;
-    p.folded += 1 + tasks_below(child);
-  }
-  p.segment++;
-  if (!style.numbered) return;
-  uint32_t &before = region.numbers[p.task.first_number + p.segment - 1];
-  number(p) = std::exchange(before, none);
 }
 
 std::string_view Writer::place_at(const void *code) {
@@ -205,15 +170,9 @@ std::string_view Writer::place_of_group(const Place &p, const Step &begin) {
   return at_place(first->origin == Origin::Turns ? "the loop" : "the sections", begin.code());
 }
 
-void Writer::end_task_line(const Task &t) {
-  if (!t.stands_for) return end_line(place_of(t));
-  std::string at(place_of(t));
-  end_line(at + (at.empty() ? "" : ", ") + std::to_string(t.stands_for) + " tasks folded exactly");
-}
-
 // What is left over of the cost, a unit for each of the first.
 void Writer::pieces(Place &p, Task &chunk) {
-  if (!style.large) {
+  if (style.numbered) {
     chunk.first_number = static_cast<uint32_t>(region.numbers.size());
     region.numbers.push_back(opened);
   }
@@ -233,15 +192,14 @@ void Writer::pieces(Place &p, Task &chunk) {
 }
 
 void Writer::create(Place &p, Task &child) {
-  if (!is_written(child)) return leave_out(p, child);
   flush(p);
-  if (child.pieces > 1 && child.fold == Fold::No) return pieces(p, child);
+  if (child.pieces > 1) return pieces(p, child);
   begin_line(p.indent);
   piece.put("task");
   if (child.undeferred) piece.put(" if(0)");
   items(child);
   piece.put(" {");
-  end_task_line(child);
+  end_line(place_of(child));
   enter(child, p.indent + 1);
 }
 
@@ -267,17 +225,7 @@ void Writer::enter(Task &t, unsigned indent) {
     t.first_number = static_cast<uint32_t>(region.numbers.size());
     region.numbers.resize(region.numbers.size() + t.segment + 1, none);
   }
-  Place &p = inside.emplace_back(Place{t, indent});
-  if (t.fold == Fold::Body) {
-    p.next = t.steps.size();
-    p.segment = t.segment;
-    p.cost = t.total;
-    p.folded = tasks_below(t);
-  } else {
-    p.cost = t.joined;
-    p.joined = t.joined_tasks;
-  }
-  open(p);
+  open(inside.emplace_back(Place{t, indent}));
 }
 
 void Writer::leave() {
@@ -303,7 +251,7 @@ void Writer::tell() {
   region.numbers.clear();
   line(0, "omptasks 1");
   each_part(region, [&](Region &one) {
-    if (&one != &region) add_up(one), fold(one, region.before->folds);
+    if (&one != &region) add_up(one), size_of(one);
     part(one);
   });
   region.opened = opened;
@@ -312,13 +260,10 @@ void Writer::tell() {
 
 // Of the lines of one task's own code.
 int64_t own_work(const Task &t, int64_t unit) {
-  if (t.fold == Fold::Body) return rounded(t.total, unit);
-  int64_t work = 0, cost = t.joined;
+  int64_t work = 0, cost = 0;
   for (const Step &step : t.steps) {
-    bool is_left_out = step.kind == Kind::Create && !is_written(*step.child());
     if (step.kind == Kind::Work) cost += step.cost();
-    else if (!is_left_out) work += rounded(std::exchange(cost, 0), unit);
-    else if (step.child()->fold == Fold::Whole) cost += step.child()->total;
+    else work += rounded(std::exchange(cost, 0), unit);
   }
   return work + rounded(cost, unit);
 }
@@ -326,9 +271,9 @@ int64_t own_work(const Task &t, int64_t unit) {
 
 int64_t work_in_units(const Region &region, int64_t unit) {
   int64_t work = region.before ? region.before->work_in_units : 0;
-  if (unit == 1 && !region.joined) return work + region.root->total;
+  if (unit == 1) return work + region.root->total;
   for (const Task &t : region.tasks)
-    if (is_written(t)) work += own_work(t, unit);
+    if (t.shown) work += own_work(t, unit);
   return work;
 }
 
@@ -336,19 +281,12 @@ void tell_program(Region &region, const Style &style, const Places &places, cons
   Writer(region, style, places, taker).tell();
 }
 
-Text program_text(Region &region, const Style &style, const Places &places) {
-  Text text;
-  text.work = work_in_units(region, style.unit);
-  tell_program(region, style, places, [&](std::string_view piece) { text.words += piece; });
-  return text;
-}
-
 std::vector<const void *> codes_of(const Region &region) {
   std::set<const void *> codes{region.code};
   if (region.before) codes.insert(region.before->codes.begin(), region.before->codes.end());
   CodesMet met(codes);
   for (const Task &t : region.tasks) {
-    if (!is_written(t)) continue;
+    if (!t.shown) continue;
     met.add(t.code);
     for (const Step &step : t.steps)
       if (step.kind != Kind::Work && step.kind != Kind::Create) met.add(step.code());
@@ -357,17 +295,4 @@ std::vector<const void *> codes_of(const Region &region) {
   for (auto &[name, use] : region.locks) codes.insert(use.code);
   for (auto &[what, met] : region.divided) codes.insert(met.code);
   return {codes.begin(), codes.end()};
-}
-
-Excess over_the_length(const std::string &words) {
-  constexpr size_t most_bytes = 1048576, most_with_comments = 4194304;
-  size_t bytes = 0;
-  bool comment = false;
-  for (char c : words) {
-    if (c == '#' || c == '\n') comment = c == '#';
-    bytes += !comment && c != ' ' && c != '\n';
-  }
-  if (bytes > most_bytes) return {"bytes outside comments", of_the_commands.program, bytes, most_bytes};
-  if (words.size() > most_with_comments) return {"bytes", of_the_commands.program, words.size(), most_with_comments};
-  return {};
 }

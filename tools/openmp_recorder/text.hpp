@@ -5,7 +5,6 @@
 #include <string_view>
 #include <vector>
 
-#include "fold.hpp"
 #include "run.hpp"
 #include "source.hpp"
 
@@ -16,15 +15,8 @@ struct Style {
   bool numbered = true;  // segments get the numbers that the text gives them
 };
 
-struct Text {
-  std::string words;  // without a head
-  int64_t work = 0;  // in units
-};
-
 using Taker = std::function<void(std::string_view piece)>;
 
 std::vector<const void *> codes_of(const Region &region);  // whose places stand in its text
 int64_t work_in_units(const Region &region, int64_t unit);  // as the text has it, rounded line by line
-Text program_text(Region &region, const Style &style, const Places &places);  // numbers the segments too
 void tell_program(Region &region, const Style &style, const Places &places, const Taker &taker);  // piece by piece
-Excess over_the_length(const std::string &words);  // of a text for the ten commands

@@ -87,6 +87,13 @@ ThreadLog::ThreadLog(unsigned of)
       near_ticks(static_cast<uint64_t>(chunks_together / nanoseconds_of_tick())),
       both(costs_by_processor) {}
 
+void ThreadLog::begin_thread() {
+  both = BothClocks(costs_by_processor);
+  looked = left = 0;
+  is_slow = true;
+  begin_chunk(0);
+}
+
 // What was in the block is in the file before it is cleared: who converts the log after a kill finds it in one of both.
 bool ThreadLog::write_block() {
   log_form::Stopped why = append(this_log().folder + log_form::thread_file + std::to_string(number), block, written);
@@ -144,12 +151,21 @@ void ThreadLog::compare_clocks(const Moment &now) {
   look(now.at);
   is_slow = is_slow || !costs_by_processor;
   std::optional<Passed> passed = both.at_record(times(now));
-  if (!passed) return;
+  if (passed) tell_passed(now, *passed);
+}
+
+void ThreadLog::tell_passed(const Moment &now, const Passed &passed) {
   is_slow = true;
-  auto processor = static_cast<uint64_t>(passed->processor);
-  uint64_t wall = std::min(static_cast<uint64_t>(passed->wall), log_form::code_mask);
-  unsigned off = (passed->slept ? log_form::slept : 0U) | (passed->taken ? log_form::taken : 0U);
+  auto processor = static_cast<uint64_t>(passed.processor);
+  uint64_t wall = std::min(static_cast<uint64_t>(passed.wall), log_form::code_mask);
+  unsigned off = (passed.slept ? log_form::slept : 0U) | (passed.taken ? log_form::taken : 0U);
   put(now, Told::Passed, static_cast<uint32_t>(processor), static_cast<uint32_t>(processor >> 32), wall, off);
+}
+
+void ThreadLog::look_back(const Look &from, const Look &until, const Moment &now) {
+  look(now.at);
+  both.begin_at(look_now());
+  if (Passed passed = passed_between(from, until); passed.wall >= far_apart) tell_passed(now, passed);
 }
 
 void ThreadLog::wait_begins(const Moment &now) {
@@ -181,9 +197,19 @@ uint64_t time_since(const Moment &began) {
   return costs_by_processor ? static_cast<uint64_t>(now.processor - began.processor) : now.at - began.at;
 }
 
+// By the wall clock: while another program had the processor it is no work of the recorder, but code of the program
+// that was put off. The kernel often does that where the clocks are read, which is a call of it.
+uint64_t ThreadLog::own_time_since(const Moment &began) const {
+  constexpr int64_t around_a_look = 1000;  // nanoseconds: what the call takes before its clock is read
+  uint64_t took = time_since(began);
+  if (costs_by_processor || looked != began.at || took < near_ticks) return took;
+  int64_t worked = processor_time() - both.processor_at_look() + around_a_look;
+  return std::min(took, static_cast<uint64_t>(static_cast<double>(worked) / nanoseconds_of_tick()));
+}
+
 void ThreadLog::tell_slow(const Moment &began) {
   is_slow = false;
-  tell_stood_still(time_since(began));
+  tell_stood_still(own_time_since(began));
 }
 
 void ThreadLog::tell_stood_still(uint64_t took) {

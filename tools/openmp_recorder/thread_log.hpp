@@ -62,6 +62,7 @@ class LikeRecords {
 
 class KnownStacks;
 class OnlineThread;
+class Samples;
 
 class alignas(64) ThreadLog {
  protected:
@@ -83,6 +84,7 @@ class alignas(64) ThreadLog {
   std::vector<Open> open;  // the regions that it began and that run, innermost last
   bool is_slow = false;  // more was done than to write records
   KnownStacks *stacks = nullptr;  // where call paths are asked for
+  Samples *samples = nullptr;  // where there are any
   OnlineThread *online = nullptr;  // where the run is measured while it goes on: then no record is put
   uint64_t region() const { return implicit.empty() ? 0 : implicit.back().region; }
   void begin_implicit(const Implicit &one) {
@@ -138,6 +140,8 @@ class alignas(64) ThreadLog {
   void look_at_clocks(const Moment &now) {
     if (costs_by_processor || is_far(now.at)) compare_clocks(now);
   }
+  // What passed between two looks at both clocks of the thread, before its first record.
+  void look_back(const Look &from, const Look &until, const Moment &now);
   // Whether a chunk is written as part of the one before, which began just now.
   bool joins_chunk(uint64_t ticks, uint64_t turns) {
     if (!chunk_began || ticks - chunk_began >= near_ticks) return false;
@@ -148,6 +152,7 @@ class alignas(64) ThreadLog {
     chunk_began = ticks;
     return std::exchange(joined_turns, 0);
   }
+  void begin_thread();  // another one goes on with it
   void wait_begins(const Moment &now);
   void wait_ends(const Moment &now);
   void tell_slow(const Moment &began);  // how long until now
@@ -173,6 +178,8 @@ class alignas(64) ThreadLog {
   Moment asked;  // for a lock
 
   void compare_clocks(const Moment &now);
+  void tell_passed(const Moment &now, const Passed &passed);
+  uint64_t own_time_since(const Moment &began) const;
   bool grow();
   bool write_block();
   Times times(const Moment &now) const;

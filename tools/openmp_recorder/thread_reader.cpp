@@ -25,7 +25,7 @@ bool divides(Told told) { return told == Told::Divided || told == Told::Chunk ||
 }  // namespace
 
 ThreadReader::ThreadReader(const std::string &path, unsigned worker, const log_form::Head &head,
-                           const LoggedPaths *listed)
+                           const LoggedPaths *listed, std::vector<Sample> of_samples)
     : Records(worker),
       file(fopen(path.c_str(), "re")),
       last(fopen((path + log_form::last_block).c_str(), "re")),
@@ -34,7 +34,8 @@ ThreadReader::ThreadReader(const std::string &path, unsigned worker, const log_f
       time(head),
       paths(listed),
       buffer(block_bytes),
-      looked_at(head) {
+      looked_at(head),
+      samples(std::move(of_samples)) {
   if (!file || fseek(file.get(), 0, SEEK_END)) return;
   left = static_cast<uint64_t>(ftell(file.get())) / block_bytes * block_bytes;
   rewind(file.get());
@@ -228,10 +229,30 @@ const Record &ThreadReader::tell() {
   return record;
 }
 
+// Those from before the thread's first record come after it, which tells what ran then.
+const Record &ThreadReader::tell_sample() {
+  const Sample &one = samples[sampled++];
+  log.stood_still += by_processor || record.kind == 0 ? 0 : one.took;
+  record.order = std::max(record.order, one.order);
+  record.wall = std::max(record.wall, time.wall(record.order));
+  record.stood_still = 0;
+  record.task = 0;
+  record.other = one.stands_for;
+  record.code = 0;
+  record.path = one.stack;
+  record.kind = static_cast<uint8_t>(Told::Sample);
+  record.detail = one.slept;
+  return record;
+}
+
 const Record *ThreadReader::next() {
-  while (read()) {
+  while (is_read || (is_read = read())) {
+    bool has_begun = record.kind, is_behind = raw.told() != Told::Items && raw.told() != Told::StoodStill;
+    if (has_begun && is_behind && sampled < samples.size() && samples[sampled].order < raw.record.at)
+      return &tell_sample();
+    is_read = false;
     if (is_plain(raw.told())) return &tell_plain();
     if (take()) return &tell();
   }
-  return nullptr;
+  return record.kind && sampled < samples.size() ? &tell_sample() : nullptr;
 }

@@ -8,11 +8,12 @@
 
 #include "log_damage.hpp"
 #include "log_reader.hpp"
+#include "logged_samples.hpp"
 
 class ThreadReader : public Records {
  public:
-  ThreadReader(const std::string &path, unsigned worker, const log_form::Head &head,
-               const LoggedPaths *paths = nullptr);
+  ThreadReader(const std::string &path, unsigned worker, const log_form::Head &head, const LoggedPaths *paths = nullptr,
+               std::vector<Sample> samples = {});
   const Record *next() override;
 
  private:
@@ -54,7 +55,11 @@ class ThreadReader : public Records {
   uint32_t current = 0;  // the task that the thread is in
   Raw raw{};
   Record record{};
+  std::vector<Sample> samples;
+  size_t sampled = 0;  // of these told
+  bool is_read = false;  // `raw`, and it is not told yet
 
+  const Record &tell_sample();
   bool fill();
   bool read();
   size_t read_here();

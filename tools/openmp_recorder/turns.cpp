@@ -50,7 +50,6 @@ bool Reader::has_turns_apart(ImplicitTask &own) {
   if (own.turns) return true;
   Task *t = current_part(), *chunk = own.chunk;
   if (!chunk || chunk->children || t->children > 1 || t->open_groups > 1) return false;
-  give_up_times();
   end_chunk(own);
   take_chunk_out(own, *t);
   own.turns = std::make_unique<Turns>();
@@ -63,6 +62,8 @@ bool Reader::has_turns_apart(ImplicitTask &own) {
   begin_piece(own, true);
   Task *piece = current_part();
   if (cost) piece->steps.push_back(Step::work(cost));
+  run.whole->off.move(own.off, *chunk, *piece, 0);
+  if (run.whole->has_events) run.whole->events[piece->started].at = run.whole->events[chunk->started].at;
   own.turns->since = r->wall - cost;
   return true;
 }
@@ -99,7 +100,15 @@ bool Reader::turn_done() {
   shortest = std::min(shortest, last_cost(*piece));
   done[turn] = r->wall;
   begin_piece(*own, true);
+  if (auto other = awaited.find(turn); other != awaited.end()) ended_by(*piece, other->second);
   return true;
+}
+
+// The piece before the one that has just begun: another thread may have been told of what follows it before.
+void Reader::ended_by(const Task &piece, int64_t at) {
+  if (!run.whole->has_events) return;
+  int64_t &end = run.whole->events[end_before_last()].at;
+  end = std::max(std::min(end, at), run.whole->events[piece.started].at);
 }
 
 // The wait is over now; at the earliest it was when the other turn was done.
@@ -110,19 +119,28 @@ bool Reader::turn_awaited() {
   Task *piece = current_part();
   charge(piece);
   int64_t cost = last_cost(*piece);
-  if (own->turns->after_a_wait && cost < at_once && piece->items.size() < most_waited_for) {
+  auto other = done.find(turn);
+  int64_t over = other == done.end() ? 0 : other->second;
+  bool is_one_wait = own->turns->after_a_wait && cost < at_once && over <= own->turns->since;
+  if (is_one_wait && piece->items.size() < most_waited_for) {
     piece->items.push_back(item_of(turn, ompt_dependence_type_in));
     return true;
   }
-  auto other = done.find(turn);
-  int64_t over = other == done.end() ? 0 : other->second;
   int64_t waited = std::clamp<int64_t>(over - own->turns->since, 0, cost);
   bool was_there = r->wall - own->turns->since <= cost + woken;  // on its processor all the time
-  own->loop->waits.push_back({piece, cost - waited, cost, was_there && r->wall - over > woken});
+  bool is_none = was_there && r->wall - over > woken;
+  if (!over) awaited.emplace(turn, r->wall);
   begin_piece(*own, false);
+  own->loop->waits.push_back({piece, cost - waited, cost, is_none, end_before_last()});
   find(current().back())->items.push_back(item_of(turn, ompt_dependence_type_in));
   own->turns->waited = own->turns->after_a_wait = true;
   return true;
+}
+
+// The event with which the piece before this one ended, which has just begun.
+size_t Reader::end_before_last() const {
+  constexpr size_t end_and_start = 2;
+  return run.whole->has_events ? run.whole->events.size() - end_and_start : 0;
 }
 
 // `ordered` without `depend`: the turns come here one after the other. The thread's clock stood still while it waited.
@@ -132,11 +150,19 @@ void Reader::order_got() {
   if (!own->loop->order) own->loop->order = made_location();
   begin_piece(*own, false);
   find(current().back())->items.push_back(item_of(own->loop->order, ompt_dependence_type_inout));
+  if (own->loop->in_order) own->loop->in_order->let_go = r->wall;
+  own->loop->in_order = own->turns.get();
 }
 
+// It is told after it happened.
 void Reader::order_left() {
   ImplicitTask *own = in_loop();
-  if (own && own->turns) begin_piece(*own, true);
+  if (!own || !own->turns) return;
+  const Task *piece = current_part();
+  begin_piece(*own, true);
+  int64_t let_go = std::exchange(own->turns->let_go, 0);
+  if (own->loop->in_order == own->turns.get()) own->loop->in_order = nullptr;
+  else if (let_go) ended_by(*piece, let_go);
 }
 
 // What follows the loop waits for the thread's turns.
@@ -146,7 +172,16 @@ void Reader::end_turns(ImplicitTask &own) {
   last->over = true;
   Task *part = add_part(current().back(), last->region);
   part->items.push_back(item_of(own.turns->around, ompt_dependence_type_inout));
+  if (own.loop->in_order == own.turns.get()) own.loop->in_order = nullptr;
   own.turns.reset();
+}
+
+// The thread idles while it waits.
+void Reader::end_earlier(const TurnWait &wait, int64_t by) {
+  if (!run.whole->has_events) return;
+  std::vector<Event> &events = run.whole->events;
+  int64_t &end = events[wait.ended].at;
+  end = std::max(end - by, events[wait.piece->started].at);
 }
 
 void Reader::take_waits_off(Loop &loop) {
@@ -156,6 +191,7 @@ void Reader::take_waits_off(Loop &loop) {
     Step *work = last_work(*wait.piece);
     if (cost == wait.most || !work) continue;
     work->add_cost(cost - wait.most);
+    end_earlier(wait, wait.most - cost);
     wait.piece->region->cost -= wait.most - cost;
     run.whole->remarks[Remark::WaitsForTurns].add(loop.code);
   }

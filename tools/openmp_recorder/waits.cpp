@@ -6,6 +6,7 @@
 #include "log_damage.hpp"
 #include "reader.hpp"
 #include "runtime_ways.hpp"
+#include "size.hpp"
 
 namespace {
 std::vector<const void *> open_groups_of(const Task &t) {
@@ -61,11 +62,15 @@ void Reader::dependences() {
   if (!t) return;
   const void *code = of_a_wait ? t->wait->code : t->code;
   ShortList<Item> &items = of_a_wait ? t->wait->items : t->items;
-  items.reserve(items.size() + static_cast<uint32_t>(r->code));
+  items.reserve(static_cast<uint32_t>(std::min<uint64_t>(items.size() + r->code, most_items)));
   for (uint64_t i = 0; i < r->code; i++) {
     const DependItem &item = log->items[r->other + i];
     if (!item.address) {
       remark(t->region, Remark::AllMemory, code);
+      continue;
+    }
+    if (items.size() == most_items) {
+      remark(t->region, Remark::ItemsLeftOut, code);
       continue;
     }
     if (item.type == ompt_dependence_type_mutexinoutset) remark(t->region, Remark::MutexInOutSet, code);

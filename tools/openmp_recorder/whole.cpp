@@ -78,6 +78,7 @@ void Reader::meet_region(Region &region) {
 void Reader::give_up_times() {
   run.whole->has_events = false;
   run.whole->events = std::vector<Event>();
+  run.whole->off = {};
 }
 
 // What a task that met a region does between its groups, and between the parts that it makes there, takes no time:
@@ -201,6 +202,7 @@ void Reader::begin_chunk(ImplicitTask &own, uint64_t turns) {
   t->region->chunks++;
   own.loop->told += turns;
   own.left = run.whole->events.size() - 1;
+  own.off = run.whole->off.all.size();
   chunk->code = own.loop->code;
   chunk->of_loop = true;
   chunk->origin = own.loop->what == Divided::Sections ? Origin::Section : Origin::Turns;
@@ -256,6 +258,7 @@ void Reader::put_chunk_back(ImplicitTask &own) {
   size_t began = chunk->started;
   end_chunk(own);
   take_chunk_out(own, *t);
+  run.whole->off.move(own.off, *chunk, *t, t->segment);
   take_over_steps(*t, *chunk);
   begin(t);
   if (run.whole->has_events) join_with_before(*t, own.left, run.whole->events[began].at);

@@ -2,8 +2,8 @@
 
 #include <algorithm>
 
-#include "fold.hpp"
 #include "pieces.hpp"
+#include "size.hpp"
 #include "stretches.hpp"
 
 namespace {

@@ -1,20 +1,17 @@
 """Where the time of a recorded run's threads went: the sums that spanprof_large tells of the timed document, and what
 the recording tells beside them. docs/MODEL.md has the words."""
 import os
-import re
 from dataclasses import dataclass, field
 from functools import cached_property
 from typing import List
 
 from spanprof import client
-from spanprof.account_program import HOW, NoAccount, ask
-from spanprof.answers import named_numbers
-from spanprof.claims import is_folded
+from spanprof.account_program import NoAccount, ask
 from spanprof.idle import idle_by_place
-from spanprof.measure import spanprof_large
+from spanprof.recording import document, open_recording
 from spanprof.remarks import UNFINISHED
 
-OTHER_PIECES = "the program ran in other pieces than its text has"
+NO_TIMES_KEPT = "several of the program's threads meet regions, or it has more tasks and chunks than times are kept of"
 
 
 @dataclass
@@ -123,15 +120,15 @@ def divide_busy(found, head, work):
 
 def account_of(answers, path):
     """That of the timed document in a file, which is a run of the text."""
-    sums, rows = named_numbers(ask([], path)), read_rows(ask(["--rows"], path))
+    sums, rows = client.named_numbers(ask([], path)), read_rows(ask(["--rows"], path))
     if len(rows) != len(answers.code):
         raise NoAccount("there are times of %d segments, and not of %d" % (len(rows), len(answers.code)))
-    return completed(Account(**sums, rows=rows, places=[segment.place() for segment in answers.code]), answers)
+    return completed(Account(**sums, rows=rows, places=list(answers.code.places)), answers)
 
 
 def sums_of(answers, path):
-    """The same of a text of any size, whose rows are not asked for: idle time has no places."""
-    return completed(Account(**named_numbers(ask([], path))), answers)
+    """The same of a long text, whose rows are not asked for: idle time has no places."""
+    return completed(Account(**client.named_numbers(ask([], path))), answers)
 
 
 def completed(found, answers):
@@ -146,28 +143,29 @@ def completed(found, answers):
     return found
 
 
-def timed_beside(path):
-    """Where the timed document of a text lies, if it has one."""
-    return re.sub(r"\.tasks$", "", path) + ".timed"
+def times_name(path):
+    """How the document of a text and its times is named to people; empty where it has none."""
+    recording = open_recording(path)
+    if recording.folder and recording.times:
+        return "text and times of " + recording.name
+    return os.path.basename(recording.times)
 
 
 def why_none(head):
     """Why the converter wrote no timed document; empty where nothing is known."""
-    if is_folded(head):
-        return "tasks are folded, and the times are not those of all of their code"
     if any(remark.name in UNFINISHED for remark in head.remarks):
         return "tasks did not run to their ends"
-    if head.whole and spanprof_large():
-        return OTHER_PIECES
-    return "" if not head.elapsed or spanprof_large() else HOW
+    if head.whole and client.takes_any_size():
+        return NO_TIMES_KEPT
+    return "" if not head.elapsed or client.takes_any_size() else client.HOW
 
 
-def account_beside(answers, asked=account_of):
+def account_beside(answers):
     """That of the timed document beside the text; or None, and why."""
-    path = timed_beside(answers.path)
-    if not os.path.exists(path) or not answers.head.nanoseconds:
+    recording = open_recording(answers.path)
+    if not recording.times or not answers.head.nanoseconds:
         return None, why_none(answers.head)
     try:
-        return asked(answers, path), ""
+        return (sums_of if answers.is_long else account_of)(answers, document(recording)), ""
     except NoAccount as fault:
         return None, str(fault)

@@ -3,9 +3,8 @@ import re
 import subprocess
 import tempfile
 
-from spanprof.measure import spanprof_large
+from spanprof import client
 
-HOW = "spanprof_large, which tells it, is not found; tools/prove_program.sh spanprof_large proves and builds it"
 FAULTS = {
     "NotTimed": "segment %s has no times",
     "ThreadCount": "the run had more threads than the 1,024 that spanprof_large takes",
@@ -27,7 +26,7 @@ def in_words(line):
     name, *numbers = re.sub("^error: ", "", line).split() or [""]
     fault = FAULTS.get(name)
     if not fault or fault.count("%s") != len(numbers):
-        return "spanprof_large account: " + (line or "it ended without a word")
+        return "spanprof_large account: " + (line or "it ended without an answer")
     return fault % tuple(numbers)
 
 
@@ -50,9 +49,9 @@ def ask_of(words, document):
 
 def answer(words, document):
     """The same of an open file."""
-    program = spanprof_large()
-    if not program:
-        raise NoAccount(HOW)
+    if not client.takes_any_size():
+        raise NoAccount(client.HOW)
+    program = client.program()
     try:
         done = subprocess.run(program + ["account"] + list(words), stdin=document, capture_output=True, text=True,
                               errors="replace", check=False)

@@ -1,8 +1,13 @@
 """The account of a recorded run in four lines of a user's words, and as JSON."""
+from spanprof.proof import proved
+
 MOST_PLACES = 2
 LEAST = 0.0005      # of the threads' time, from which on a part is told
-PROVED = "the four sums are proved of the recorded text and these times"
 LONG = ((10 ** 9, "s"), (10 ** 6, "ms"), (10 ** 3, "us"), (1, "ns"))
+
+
+def proved_sums():
+    return proved("the four sums are proved of the recorded text and these times")
 
 
 def lasting(nanoseconds):
@@ -21,11 +26,11 @@ def of_places(parts, words):
 
 
 def held_up_words(found, share):
-    off = "off the processor or in the recorder" if found.by_processor else "off the processor"
+    off = "preempted or in the recorder" if found.by_processor else "preempted"
     parts = [(found.held_up.preempted, off), (found.held_up.asleep, "asleep"),
              (found.held_up.at_locks, "waiting for locks")]
     told = ["%s %s" % (share(part), name) for part, name in parts if part >= LEAST * found.whole and part]
-    return "; %s held up in it: %s" % (share(found.held_up.all), ", ".join(told)) if told else ""
+    return "; %s blocked in it: %s" % (share(found.held_up.all), ", ".join(told)) if told else ""
 
 
 def account_lines(found):
@@ -40,10 +45,10 @@ def account_lines(found):
     run = ", in the run with the median work" if found.of_runs else ""
     lines = ["of %d x %s%s: %s in your code%s%s (measured)" % (
                  found.threads, lasting(found.elapsed), run, share(found.code), recorder, held_up_words(found, share)),
-             "%s idle though code was ready%s (measured)" % idle(found.delayed, found.delayed_by, ": beside "),
-             "%s idle with nothing ready%s (measured)" % idle(found.starved, found.starved_by, ": there ran "),
-             "%s before the %s code and after it (measured); %s" % (
-                 share(found.outside), "program's" if found.of_whole else "region's", PROVED)]
+             "%s scheduling delay%s (measured)" % idle(found.delayed, found.delayed_by, "; ready: "),
+             "%s idle%s (measured)" % idle(found.starved, found.starved_by, "; running: "),
+             "%s startup and shutdown of the %s (measured); %s" % (
+                 share(found.outside), "program" if found.of_whole else "region", proved_sums())]
     if found.left_out >= 2 * LEAST * found.whole > 0:
         lines.append("up to %s in code of the region that has no times, and is idle here (measured)" %
                      share(found.left_out))
@@ -52,11 +57,11 @@ def account_lines(found):
 
 def lines_of(found, why=""):
     """What the summary tells of an account, or why there is none."""
-    return account_lines(found) if found else ["not told: " + why] if why else []
+    return account_lines(found) if found else ["unavailable: " + why] if why else []
 
 
 def as_json(found):
     """Times in nanoseconds, over all threads."""
     return {"threads": found.threads, "elapsed": found.elapsed, "parts": found.parts,
             "delayed beside": found.delayed_by, "starved while": found.starved_by, "left out": found.left_out,
-            "unit": "ns", "measured": "all times", "proved": PROVED}
+            "unit": "ns", "measured": "all times", "proved": proved_sums()}

@@ -1,16 +1,23 @@
-"""A program text with what spanprof answers of it. Each command is run once, when its answer is first needed."""
-import os
+"""A program text of any size with what the proved program answers of it. Each command is run once, when its answer is
+first needed; what it tells of each segment is read as it comes, and kept in columns of numbers."""
+import time
+from array import array
 from dataclasses import dataclass
 from functools import cached_property
 
 from spanprof import client
 from spanprof.c_calls import MOST_THREADS
 from spanprof.changed_text import with_costs, without_costs
-from spanprof.head import read_head
-from spanprof.text import OF_A_THREAD, has_loops
+from spanprof.client import named_numbers
+from spanprof.head import head_text, read_head
+from spanprof.limits import is_long
+from spanprof.recording import shown_name
+from spanprof.segment_table import read_code
+from spanprof.text_file import TextFile
 
 THREADS_WITHOUT_RECORDING = 4
 LONGEST_CURVE = 64
+SLACK = ("cost", "task", "start", "slack", "chain")
 
 
 @dataclass
@@ -23,24 +30,85 @@ class Row:
     critical: bool
 
 
-def named_numbers(lines):
-    """`work 11` and the like."""
-    pairs = (line.split() for line in lines.split("\n") if line)
-    return {name: int(value) for name, value in pairs}
+class Rows:
+    """Of each segment what `slack` tells: `rows[s]` is a Row, and each column has the name of the field."""
+
+    def __init__(self, cost, task, start, slack, chain):
+        self.cost, self.task, self.start, self.slack, self.critical = cost, task, start, slack, chain
+
+    def __len__(self):
+        return len(self.cost)
+
+    def __getitem__(self, s):
+        return Row(self.cost[s], self.task[s], self.start[s], self.slack[s], self.critical[s] == 1)
+
+    def __iter__(self):
+        return (self[s] for s in range(len(self)))
 
 
-class Asked:
-    """A text, and what a program was asked of it. `span_numbers` are what it told first, `head` the text's own."""
+@dataclass
+class Greedy:
+    """The greedy schedule: of each segment its start and its thread, which is -1 where it needs none; and its end."""
+    starts: array
+    ends: array
+    threads: array
 
-    def __init__(self, path, threads, tell):
-        self.path, self.tell = path, tell or (lambda words: None)
-        self.name = os.path.basename(path)
-        self.asked, self.wanted_threads = [], threads
+    @property
+    def end(self):
+        return max(self.ends, default=0)
+
+
+class Answers:
+    """Of a text, by its path or that of a recording."""
+
+    def __init__(self, recording, threads=None, tell=None):
+        self.path, self.tell = getattr(recording, "text", recording), tell or (lambda words: None)
+        self.name = shown_name(self.path)
+        self.asked, self.wanted_threads, self.seconds_to_read = [], threads, 0
+        self.file = TextFile(self.path)
+        self.numbers = client.measured(self.path)
+        self.head = read_head(head_text(self.path))
+
+    @property
+    def text(self):
+        return str(self.file)
 
     def noted(self, shown):
         """That this is asked, as a line of a terminal."""
         self.tell(shown)
         self.asked.append(shown)
+
+    def note(self, *words):
+        shown = " ".join(words[:3]) + " .." * (len(words) > 3)
+        self.noted("%s %s < %s" % ("spanprof_large" if self.is_long else "spanprof", shown, self.name))
+
+    def ask(self, *words):
+        self.note(*words)
+        return client.ask(words, self.file)
+
+    def columns(self, words, names):
+        self.note(*words)
+        return client.columns(words, self.file, names)
+
+    @property
+    def threads(self):
+        """Those asked for, or recorded; at most what `greedy` takes."""
+        return min(self.wanted_threads or self.head.threads or THREADS_WITHOUT_RECORDING, MOST_THREADS)
+
+    @property
+    def most_threads(self):
+        """Those, or the recorded ones where these are more."""
+        return min(max(self.threads, self.head.threads or 1), MOST_THREADS)
+
+    @property
+    def is_long(self):
+        """Whether there is too much in the text to show, or to try, each piece of it."""
+        return is_long(self.numbers)
+
+    @cached_property
+    def span_numbers(self):
+        self.note("span")
+        return self.numbers
 
     @property
     def work(self):
@@ -50,75 +118,76 @@ class Asked:
     def span(self):
         return self.span_numbers["span"]
 
-    @property
-    def threads(self):
-        """Those asked for, or recorded; at most what `greedy` takes."""
-        return min(self.wanted_threads or self.head.threads or THREADS_WITHOUT_RECORDING, MOST_THREADS)
-
-
-class Answers(Asked):
-    def __init__(self, path, threads=None, tell=None):
-        super().__init__(path, threads, tell)
-        self.text = client.read(path)
-        self.head = read_head(self.text)
-        self.code = client.segments(self.text)
-
-    def ask(self, *words):
-        self.noted("spanprof %s%s < %s" % (" ".join(words[:3]), " .." if len(words) > 3 else "", self.name))
-        return client.ask(words, self.text)
-
     @cached_property
-    def span_numbers(self):
-        return named_numbers(self.ask("span"))
+    def code(self):
+        """The segments; of a text with loops those of its canonical text, which has none."""
+        begun = time.monotonic()
+        lines = client.ask(["show"], self.file).splitlines(True) if self.file.has_loops() else self.file.lines()
+        found = read_code(lines, self.name)
+        self.seconds_to_read = time.monotonic() - begun
+        return found
 
     @cached_property
     def rows(self):
-        """Of each segment what `slack` tells."""
-        table = [Row(int(row["cost"]), int(row["task"]), int(row["start"]), int(row["slack"]), row["chain"] == "1")
-                 for row in client.rows(self.ask("slack"))]
-        assert [row.task for row in table] == [segment.task for segment in self.code], "the text was read otherwise"
-        return table
+        found = Rows(*self.columns(["slack"], SLACK))
+        assert found.task.tolist() == self.code.task.tolist(), "the text was read otherwise"
+        return found
 
     @cached_property
     def path_segments(self):
-        return [s for s, row in enumerate(self.rows) if row.critical]
+        return array("I", (s for s, is_on_it in enumerate(self.rows.critical) if is_on_it))
 
     @cached_property
     def tasks(self):
         """How many tasks there are beside the root."""
-        return max(row.task for row in self.rows)
+        return max(self.code.task)
 
     @cached_property
     def parts(self):
         """How many of the tasks stand for a thread's own code between two barriers."""
-        return len({segment.task for segment in self.code if segment.task_place == OF_A_THREAD})
+        return self.code.parts()
 
     @cached_property
     def curve(self):
-        """Of each number of threads, from 1 on, the numbers of its row."""
+        """Of each number of threads, from 1 on, the numbers of its row. Of a long text `end` is told on some alone."""
+        if self.is_long:
+            return self.bounds()
         enough = 2 * max(self.threads, self.work // max(self.span, 1))
-        upto = max(self.threads, min(LONGEST_CURVE, max(16, enough)))
-        return {int(row["threads"]): {key: int(value) for key, value in row.items()}
-                for row in client.rows(self.ask("curve", "--upto", str(upto)))}
+        upto = max(self.most_threads, min(LONGEST_CURVE, max(16, enough)))
+        return curve_in(self.ask("curve", "--upto", str(upto)))
+
+    def bounds(self):
+        out = curve_in(self.ask("--upto", str(max(self.most_threads, LONGEST_CURVE))))
+        for threads in {self.threads, self.head.threads} & set(out):
+            made = self.greedy if threads == self.threads else self.greedy_on(threads)
+            out[threads].update({"end": made.end} if made else {})
+        return out
 
     @cached_property
     def greedy(self):
-        """Of each segment its start and thread in the greedy run; the thread is None where it needs none."""
-        table = client.rows(self.ask("greedy", "--threads", str(self.threads)))
-        return [(int(row["start"]), int(row["thread"]) if row["thread"] else None) for row in table]
+        return self.greedy_on(self.threads)
+
+    def greedy_on(self, threads):
+        """None where there is too little memory for it."""
+        try:
+            return Greedy(*self.columns(["greedy", "--threads", str(threads)], ("start", "end", "thread")))
+        except client.Refused as refused:
+            if refused.is_of_memory:
+                return None
+            raise
 
     @cached_property
     def predecessors(self):
-        self.noted("spanprof replay < %s and all segments in their order" % self.name)
-        return client.predecessors(self.text, len(self.code))
+        self.note("graph")
+        return client.predecessors(self.file, len(self.code))
 
     @cached_property
     def text_without_costs(self):
-        return without_costs(self.ask("show") if has_loops(self.text) else self.text)
+        return without_costs(self.ask("show") if self.file.has_loops() else self.text)
 
     def greedy_end(self, changes, threads):
-        """Where the greedy run on so many threads ends, where `changes` gives segments other costs."""
-        costs = [changes.get(s, row.cost) for s, row in enumerate(self.rows)]
+        """Where the greedy schedule on so many threads ends, where `changes` gives segments other costs."""
+        costs = [changes.get(s, cost) for s, cost in enumerate(self.rows.cost)]
         self.noted("spanprof greedy --threads %d < %s with other costs" % (threads, self.name))
         table = client.ask(["greedy", "--threads", str(threads)], with_costs(self.text_without_costs, costs))
         return max((int(row["end"]) for row in client.rows(table)), default=0)
@@ -129,3 +198,7 @@ class Answers(Asked):
             return {"work": self.work, "span": self.span, "was": self.span}
         words = ["%d=%d" % change for change in sorted(changes.items())]
         return named_numbers(self.ask("whatif", *words))
+
+
+def curve_in(table):
+    return {int(row["threads"]): {key: int(value) for key, value in row.items()} for row in client.rows(table)}

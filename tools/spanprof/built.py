@@ -43,7 +43,7 @@ def build(folder, product):
                               stderr=subprocess.STDOUT, text=True, errors="replace", stdin=subprocess.DEVNULL,
                               check=False)
     if done.returncode:
-        raise Fault("%s cannot be built: %s (packages %s); `make -C %s` tells more"
+        raise Fault("%s cannot be built: %s (packages %s); `make -C %s` shows more"
                     % (product.name, why_not_built(done.stdout), product.packages, folder))
     made = os.path.join(folder, product.file)
     if os.access(made, os.W_OK):

@@ -1,8 +1,7 @@
 """What a text lets one say of its program, as its head tells it. What is proved is proved of the text alone."""
-from spanprof.remarks import FOLDS
 
 COVERS_ENOUGH = 95  # per cent of the program
-OTHERWISE = "the program's may be %s (remarks)"
+OTHERWISE = "the program's may be %s (warnings)"
 
 
 def moved(head, name):
@@ -30,39 +29,15 @@ def is_partial(head):
         head.covers_at_most or 100 * head.covered < COVERS_ENOUGH * head.thread_time)
 
 
-def time_of_program(head):
-    """By the clock, in the text's unit, as the head of a region's text divides it."""
-    return sum(head.division.get(name, 0) for name in ("outside regions", "in other regions")) + (head.elapsed or 0)
-
-
-def stands_for_program(head):
-    """Whether a text has enough of the program, of its time by the clock and of its threads' time in code, that
-    nothing need be told beside it. Of a text that does not tell it nothing is known."""
-    if head.whole or not share_covered(head):
-        return True
-    return 100 * head.covered >= COVERS_ENOUGH * head.thread_time and \
-        100 * (head.elapsed or 0) >= COVERS_ENOUGH * time_of_program(head)
-
-
-def is_folded(head):
-    """Whether tasks are written as one: a table of times has then those of its last piece alone."""
-    return any(remark.name in FOLDS for remark in head.remarks)
-
-
-def pieces_in(head):
-    """How many of the text's tasks are pieces of loops, which the program has none of; 0 where folds hide it."""
-    return 0 if is_folded(head) else head.pieces
-
-
 def pieces_words(head):
     """How many, and of what; empty where there are none."""
-    pieces = pieces_in(head)
+    pieces = head.pieces
     return "{:,} pieces of {}".format(pieces, head.pieces_of) if pieces else ""
 
 
 def tasks_made(answers):
     """How many of the text's tasks the program makes."""
-    return max(0, answers.tasks - pieces_in(answers.head) - answers.parts)
+    return max(0, answers.tasks - answers.head.pieces - answers.parts)
 
 
 def is_of_one_thread(head):
@@ -77,9 +52,9 @@ def is_divided(head):
 def why_not_of_more_threads(head):
     """Why the text says nothing of the program on more threads; empty where nothing is known against it."""
     if is_of_one_thread(head):
-        return "it is of one thread, and says nothing of more"
+        return "it was recorded on one thread, and says nothing about more"
     if is_divided(head):
-        return "on another number of threads its code is divided otherwise"
+        return "on another number of threads its code is divided differently"
     return ""
 
 
@@ -105,14 +80,6 @@ def against_span(head):
 def against_parallelism(head):
     """What speaks against it that the program gains no more than the text's work / span."""
     return why_not_of_more_threads(head) or (OTHERWISE % "more" if gain_may_be_more(head) else "")
-
-
-def against_end(head, threads):
-    """Why a greedy run of the text, or of a changed one, need not end as one of the program; empty where nothing is
-    known."""
-    if not speaks_of(head, threads):
-        return why_not_of_more_threads(head)
-    return OTHERWISE % "otherwise" if gain_may_be_more(head) or gain_may_be_less(head) else ""
 
 
 def speaks_of(head, threads):

@@ -1,89 +1,168 @@
-"""What spanprof answers.
+"""What the proved program answers of a text of any size.
 
-SPANPROF in the environment is the program, and may be several words. Without it the program is looked for on the PATH,
-and then in the repository, or where `make install` has put it.
+SPANPROF_LARGE, or else SPANPROF, in the environment is the program, and may be several words. Without them
+spanprof_large is looked for on the PATH, and then in the repository, or where `make install` has put it; `spanprof`
+takes its place where there is none, and keeps its limits.
 """
 import os
-import re
-import signal
 import subprocess
-import threading
+from array import array
 from concurrent.futures import ThreadPoolExecutor
 from contextlib import contextmanager
 
 from spanprof.errors import Fault
-from spanprof.folders import places_of, words_for
+from spanprof.folders import found_at, places_of, words_in
 from spanprof.refusal import explained, of_event, of_whole
 from spanprof.text import has_loops, segments_of
+from spanprof.text_file import PIECE, TextFile, opened
 
-PLACES = places_of("spanprof")
+PLACES = {name: places_of(name) for name in ("spanprof_large", "spanprof")}
+HOW = "spanprof_large, which measures it, is not found; tools/prove_program.sh spanprof_large proves and builds it"
 
 
-def spanprof():
-    """The words that start the program."""
-    return words_for("spanprof", PLACES) or [PLACES[0]]
+def takes_any_size():
+    """Whether spanprof_large is there, and not only `spanprof`."""
+    return bool(words_in("SPANPROF_LARGE") or
+                not words_in("SPANPROF") and found_at("spanprof_large", PLACES["spanprof_large"]))
+
+
+def program():
+    """The words that start the program; none where it is not found."""
+    named = words_in("SPANPROF_LARGE") or words_in("SPANPROF")
+    return named or next(filter(None, (found_at(*pair) for pair in PLACES.items())), [])
 
 
 class Refused(Fault):
-    """spanprof's error line, and what it was asked."""
+    """The program's error line, and what it was asked."""
 
     def __init__(self, words, text, answer):
         more = of_whole(list(words), text, answer, asked)
         super().__init__("spanprof %s: %s" % (words[0], "%s: %s" % (answer, more) if more else answer))
         self.words, self.text, self.answer = list(words), text, answer
 
+    @property
+    def is_of_memory(self):
+        """Whether there was too little memory for the table and the graph of the whole text."""
+        return self.answer.startswith(("error: out of memory", "it ended with status -"))
+
     def brief(self):
         """On one line, with the event that is refused."""
-        event = of_event(self.text.split("\n"), self.answer)
+        lines = self.text.lines() if isinstance(self.text, TextFile) else self.text.split("\n")
+        event = of_event(lines, self.answer)
         return "%s; %s" % (self, event) if event else str(self)
 
     def of(self, name):
         """The same for people, with the name of the text's file."""
-        more = explained(name, self.words, self.text, self.answer, asked)
+        more = explained(name, self.words, str(self.text), self.answer, asked)
         return "%s\n%s" % (more, self) if more else "%s: %s" % (name, self)
 
 
+def refused(words, text, answer, status):
+    return Refused(words, text, answer.strip() or "it ended with status %d" % status)
+
+
+def words_to_start(words):
+    start = program()
+    if not start:
+        raise Fault("spanprof is neither on the PATH nor built here: %s; README.md says how to build it" %
+                    PLACES["spanprof_large"][0])
+    return start + list(words)
+
+
 @contextmanager
-def without_sigpipe():
-    """That a program may read nothing ends nobody. A thread beside the first leaves that to the first."""
-    if threading.current_thread() is not threading.main_thread():
-        yield
-        return
-    before = signal.signal(signal.SIGPIPE, signal.SIG_IGN)
+def starting(words):
+    """Has the fault name a program that cannot be started."""
     try:
         yield
-    finally:
-        signal.signal(signal.SIGPIPE, before)
+    except OSError as error:
+        where = next((name for name in ("SPANPROF_LARGE", "SPANPROF") if os.environ.get(name)), "spanprof")
+        raise Fault("%s: %s: %s; README.md says how to build it" % (where, words[0], error.strerror)) from error
 
 
 def run(words, text):
-    """The program's run with these words on this input."""
-    with without_sigpipe():
-        return subprocess.run(spanprof() + list(words), input=text, capture_output=True, text=True, check=False)
+    """The program's run with these words on this input, which is a text or a TextFile."""
+    start = words_to_start(words)
+    with opened(text) as file, starting(start):
+        return subprocess.run(start, stdin=file, capture_output=True, text=True, errors="replace", check=False)
 
 
 def at_once(answer, questions):
     """The answers in the order of the questions, as many at once as there are processors."""
-    with without_sigpipe(), ThreadPoolExecutor(len(os.sched_getaffinity(0))) as pool:
+    with ThreadPoolExecutor(len(os.sched_getaffinity(0))) as pool:
         return list(pool.map(answer, questions))
 
 
 def asked(words, text):
-    """What spanprof prints, whatever its exit status."""
+    """What the program prints, whatever its exit status."""
     return run(words, text).stdout
 
 
 def ask(words, text):
-    """What spanprof prints for these words and this input."""
-    try:
-        done = run(words, text)
-    except OSError as error:
-        where = "SPANPROF" if os.environ.get("SPANPROF") else "spanprof is neither on the PATH nor built here"
-        raise Fault("%s: %s: %s; README.md tells how it is built" % (
-            where, spanprof()[0], error.strerror)) from error
+    """What the program prints for these words and this input."""
+    done = run(words, text)
     if done.returncode:
-        raise Refused(words, text, done.stdout.strip() or "it ended with status %d" % done.returncode)
+        raise refused(words, text, done.stdout, done.returncode)
     return done.stdout
+
+
+def pieces(words, text):
+    """The same as lists of lines of bytes, as they come: first the first line alone."""
+    start = words_to_start(words)
+    with opened(text) as file:
+        with starting(start):
+            running = subprocess.Popen(start, stdin=file, stdout=subprocess.PIPE, stderr=subprocess.DEVNULL)
+        with running:
+            first = running.stdout.readline()
+            yield [first]
+            while lines := running.stdout.readlines(PIECE):
+                yield lines
+    if running.returncode:
+        raise refused(words, text, first.decode(errors="replace"), running.returncode)
+
+
+def columns(words, text, wanted):
+    """Of a table of whole numbers the columns of these names, as arrays; a cell without a number is -1."""
+    told = pieces(words, text)
+    heads = next(told)[0].decode(errors="replace").rstrip("\n").split(",")
+    out = [array("q") for _ in wanted]
+    for lines in told:
+        cells = b"".join(lines).replace(b",\n", b",-1\n").replace(b"\n", b",").split(b",")
+        if not set(wanted) <= set(heads) or len(cells) != len(heads) * len(lines) + 1:
+            raise Fault("spanprof %s: rows of another form" % words[0])
+        for name, column in zip(wanted, out):
+            column.extend(map(int, cells[heads.index(name):-1:len(heads)]))
+    return out
+
+
+def replayed(document):
+    """Ends with a fault where the run of a replay document is refused; what else is told of it is not kept."""
+    for _ in pieces(["replay"], document):
+        pass
+
+
+def named_numbers(lines):
+    """`work 11` and the like."""
+    pairs = (line.split() for line in lines.split("\n") if line)
+    return {name: int(value) for name, value in pairs}
+
+
+def numbers(text):
+    """Segments, work and span of a text, and its tasks where spanprof_large tells them."""
+    try:
+        found = named_numbers(ask(["span"], text))
+    except ValueError:
+        found = {}
+    if not {"segments", "work", "span"} <= found.keys():
+        raise Fault("%s does not answer as spanprof does" % " ".join(program()))
+    return found
+
+
+def measured(path):
+    """The same of a text in a file; its fault names the file and the line."""
+    try:
+        return numbers(TextFile(path))
+    except Refused as wrong:
+        raise Fault(wrong.of(path)) from wrong
 
 
 def rows(table):
@@ -98,24 +177,27 @@ def segments(text):
     return segments_of(ask(["show"], text) if has_loops(text) else text)
 
 
+def graph(text):
+    """The kept predecessors of each segment, as `graph` prints them."""
+    told = pieces(["graph"], text)
+    next(told)
+    for lines in told:
+        yield from ([int(p) for p in line.rpartition(b",")[2].split()] for line in lines)
+
+
 def predecessors(text, count):
-    """The recorded predecessors of each segment, by a run of all segments in their order."""
+    """The same as a list; of `spanprof`, which has no such command, by a run of all segments in their order."""
+    try:
+        return list(graph(text))
+    except Refused as wrong:
+        if wrong.answer != "error: wrong words":
+            raise
     events = "".join("start 0 %d finish 0 %d\n" % (s, s) for s in range(count))
-    lines = ask(["replay"], text + "\n---\n" + events).split("\n")[2:]
+    lines = ask(["replay"], "%s\n---\n%s" % (text, events)).split("\n")[2:]
     return [[int(p) for p in line.split()[2:]] for line in lines if line]
 
 
 def read(path):
-    """The program text in a file; of a replay document or certificate the part before its mark."""
-    try:
-        with open(path, encoding="utf-8", errors="replace", newline="") as file:
-            text = re.split(r"(?m)^---\r?$", file.read())[0]
-    except OSError as error:
-        raise Fault("%s: %s" % (path, error.strerror)) from error
-    try:
-        told = ask(["span"], text)
-    except Refused as refused:
-        raise Fault(refused.of(path)) from refused
-    if not told.startswith("segments "):
-        raise Fault("%s does not answer as spanprof does" % " ".join(spanprof()))
-    return text
+    """The program text in a file, which the program has taken."""
+    measured(path)
+    return str(TextFile(path))

@@ -61,6 +61,13 @@ def refuse_folder(text):
         raise Fault("%s: a folder, and no text" % text)
 
 
+def percent(word):
+    """`5%` or `5`."""
+    if not re.fullmatch(r"[0-9]{1,4}(\.[0-9]+)?%?", word):
+        raise argparse.ArgumentTypeError("%s is no percentage, such as 5%%" % word)
+    return float(word.rstrip("%"))
+
+
 def check_files(text, output=None, what="changed text"):
     """Whether the text is there, and is not what would be written."""
     if not os.path.exists(text):

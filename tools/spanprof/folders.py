@@ -9,11 +9,12 @@ TOOLS = os.path.dirname(os.path.dirname(os.path.abspath(__file__)))     # instal
 TOP = os.path.dirname(TOOLS)
 PREFIX = os.path.dirname(TOP)
 INSTALLED_BUILDS = os.path.join(PREFIX, "lib", "spanprof")
+FRONTS = os.path.join(TOOLS, "bin", "spanprof"), os.path.join(PREFIX, "bin", "spanprof")
 
 
 def places_of(program):
-    """Where a proved program may be that is not on the PATH."""
-    return os.path.join(TOP, "crates", program, "out", program), os.path.join(PREFIX, "bin", program)
+    """Where a proved program is: in the repository, or where it is installed."""
+    return os.path.join(TOP, "crates", program, "out", program), os.path.join(PREFIX, "libexec", "spanprof", program)
 
 
 def words_in(name):
@@ -24,11 +25,22 @@ def words_in(name):
         raise Fault("%s=%s: %s" % (name, os.environ[name], str(wrong).lower())) from wrong
 
 
+def on_path(program):
+    """The program on the PATH; not the script of the same name, which asks it."""
+    found = shutil.which(program)
+    is_front = found and os.path.realpath(found) in map(os.path.realpath, FRONTS)
+    return None if is_front else found
+
+
+def found_at(program, places):
+    """The one on the PATH, or at one of these places; else none."""
+    found = on_path(program) or next((path for path in places if os.access(path, os.X_OK)), None)
+    return [found] if found else []
+
+
 def words_for(program, places):
-    """The words that start it: those of its variable, or the one on the PATH, or at one of these places; else none."""
-    named = words_in(program.upper())
-    found = shutil.which(program) or next((path for path in places if os.access(path, os.X_OK)), None)
-    return named or ([found] if found else [])
+    """The words that start it: those of its variable, or where it is found; else none."""
+    return words_in(program.upper()) or found_at(program, places)
 
 
 def builds_in(folder):

@@ -59,7 +59,6 @@ class Head:
     preempted: Dict[int, int] = field(default_factory=dict)      # by segment, what other programs took in it
     untimed: int = 0                   # of segments, before they were left in their midst
     most_held: Optional[int] = None    # inside one lock, one thread at a time
-    unfolded_span: Optional[int] = None     # of a folded text, as the recorder adds it up
     runs: Optional[int] = None         # where the program was recorded several times
     is_median: bool = False            # each cost is the median of those runs; else it is one of them
     spread: Dict[str, Tuple[int, int, int]] = field(default_factory=dict)  # of work, span: least, median, most
@@ -218,7 +217,7 @@ LINES = {
     "not covered": read_not_covered, "divided": read_divided, "clock reading": kept("clock_reading"),
     "clocks differ": kept_numbers("clocks_differ", DIFFER), "slept": kept_numbers("slept", DIFFER),
     "untimed": kept("untimed"), "preempted": read_preempted,
-    "elapsed": kept("elapsed"), "most held lock": kept("most_held"), "span without folds": kept("unfolded_span"),
+    "elapsed": kept("elapsed"), "most held lock": kept("most_held"),
     "lock": read_lock, "place": read_place,
     "runs": read_runs, "work of the runs": spread_of("work"), "span of the runs": spread_of("span"),
     **{name: part_of_time(name) for name in DIVISION},
@@ -257,4 +256,4 @@ def with_function(head, name):
 def said(text):
     """The remarks and locks of a text's head as lines, so that no table stands without them."""
     head = read_head(text)
-    return ["remark: " + remark for remark in head.remarks] + ["lock " + lock for lock in head.locks]
+    return ["warning: " + remark for remark in head.remarks] + ["lock " + lock for lock in head.locks]

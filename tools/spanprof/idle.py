@@ -16,9 +16,11 @@ def changes(rows, places):
 
 
 def add(counts, place, more):
-    counts[place] += more
-    if not counts[place]:
-        del counts[place]
+    now = counts[place] + more
+    if now:
+        counts[place] = now
+    else:
+        counts.pop(place, None)
 
 
 class Shared:
@@ -51,13 +53,16 @@ def rounded(parts):
 def idle_by_place(rows, places, threads):
     """Delayed and starved time by place, of rows with `ready`, `begin` and `end`."""
     delayed, starved = Shared(), Shared()
-    ready, running = Counter(), Counter()
+    ready, running, busy = Counter(), Counter(), 0
     begun = moment = min(row.begin for row in rows)
     for then, place, more_ready, more_running in changes(rows, places):
-        idle = (threads - sum(running.values())) * (then - moment) if then > begun else 0
+        idle = (threads - busy) * (then - moment) if then > begun else 0
         if idle:
             (delayed if ready else starved).share(idle, ready or running)
         moment = max(then, begun)
-        add(ready, place, more_ready)
-        add(running, place, more_running)
+        busy += more_running
+        if more_ready:
+            add(ready, place, more_ready)
+        if more_running:
+            add(running, place, more_running)
     return rounded(delayed.exact()), rounded(starved.exact())

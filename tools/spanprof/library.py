@@ -18,7 +18,7 @@ __all__ = ["MOST_THREADS", "NO_THREAD", "Account", "Bounds", "Certificate", "NoL
 
 
 class Run(NamedTuple):
-    """A greedy run: when each segment starts and on which thread, and the end."""
+    """A greedy schedule: when each segment starts and on which thread, and the end."""
     starts: Sequence
     threads: Sequence
     end: int
@@ -101,13 +101,13 @@ class Program:
         return told(self._analysis[2][:])
 
     def greedy(self, threads):
-        """The greedy run on so many threads."""
+        """The greedy schedule on so many threads."""
         starts, on, end = room("Q", self.segments), room("I", self.segments), ctypes.c_uint64()
         self._asked("spanprof_greedy", count_of(threads), *passed(starts), *passed(on), ctypes.byref(end))
         return Run(told(starts), told(on), end.value)
 
     def curve(self, upto):
-        """The ends of the greedy runs on 1, 2, .. threads."""
+        """The ends of the greedy schedules on 1, 2, .. threads."""
         count_of(upto)
         ends = room("Q", upto)
         self._asked("spanprof_curve", *passed(ends))

@@ -4,7 +4,6 @@ spanprof tells the line of a fault and its kind. The token is found by asking it
 for the same fault as soon as the wrong token stands in it.
 """
 import difflib
-import os
 import re
 from itertools import dropwhile, islice
 
@@ -17,7 +16,8 @@ CLOSEST = 0.6       # how alike a word has to be to one that is meant
 LONGEST_SHOWN = 100
 MOST_ASKED = 1 << 22    # bytes of a text in which the wrong token is looked for
 KINDS = {
-    "TooLong": "the text has too many bytes: 4,194,304 at most, and 1,048,576 outside blanks and comments",
+    "TooLong": "the text has too many bytes: one of version 2 has 4,194,304 at most, and 4,000,000,000 lines where its "
+               "loops are expanded",
     "BadHeader": "a text begins with `omptasks 1`, or `omptasks 2` where it has loops",
     "BadByte": "this byte begins no word",
     "BadWord": "this cannot stand here",
@@ -25,13 +25,12 @@ KINDS = {
                  "1,000,000",
     "Unclosed": "this `{` is not closed",
     "Unopened": "no `{` is open for this `}`",
-    "TooDeep": "at most 64 blocks are open at a time",
-    "TooManyTasks": "a text has at most 4,096 tasks; spanprof_large takes any number, and `spanprof-record --fold "
-                    "exact` writes fewer with the same work and span",
-    "TooManySegments": "a text has at most 16,384 segments: 1, and 2 for each task, 1 for each taskwait and taskgroup",
-    "TooManyItems": "a task has at most 32 depend items",
+    "TooDeep": "at most 1,048,576 blocks are open at a time, and 64 in version 2",
+    "TooManyTasks": "spanprof takes at most 4,096 tasks, and spanprof_large, which is not found, any number",
+    "TooManySegments": "spanprof takes at most 16,384 segments, and spanprof_large, which is not found, any number",
+    "TooManyItems": "a task has at most 32 depend items, and a text 4,294,967,294",
     "WorkTooLarge": "all costs together are at most 1,000,000,000,000,000; a larger unit of time helps",
-    "TooManyTurns": "all loops together have at most 65,536 turns"}
+    "TooManyTurns": "all loops together have at most 4,000,000,000 turns"}
 COST = "a cost is a whole number up to 1,000,000,000,000"
 NUMBERS = (  # what stands before a number, and which there may be
     (re.compile(r"\bwork\s*$"), COST),
@@ -47,7 +46,7 @@ EVENTS = {
     "NotReady": "segment %s, which has to come first, has not finished",
     "NotRunning": "this worker does not run that segment"}
 WHOLE = {
-    "input too long": "standard input has at most 8,388,608 bytes",
+    "input too long": "spanprof takes at most 8,388,608 bytes, and spanprof_large, which is not found, any number",
     "BadForm": "behind the line `---` a replay has words `start WORKER SEGMENT` and `finish WORKER SEGMENT`, and a "
                "certificate `end`, `start`s and a `chain`",
     "ThreadCount": "a number of threads is 1 to 1,024",
@@ -148,6 +147,11 @@ def words_at(kind, line, token, general):
     return general
 
 
+def wrong_place(lines, number, answer, ask):
+    is_open = AT_LINE.match(answer)[2] == "Unclosed"
+    return open_brace(lines, number) if is_open else wrong_token(lines, number, answer, ask)
+
+
 def at_line(name, text, answer, ask, kinds):
     number, kind = AT_LINE.match(answer).groups()
     lines, number = text.split("\n"), int(number)
@@ -156,12 +160,13 @@ def at_line(name, text, answer, ask, kinds):
         return "%s: the text is empty; %s" % (name, words.replace("a text", "one", 1))
     if not 1 <= number <= len(lines):
         return "%s: %s" % (name, words or answer)
-    token = open_brace(lines, number) if kind == "Unclosed" else wrong_token(lines, number, answer, ask)
+    token = wrong_place(lines, number, answer, ask) if len(text) <= MOST_ASKED else None
     if token:
         words = words_at(kind, lines[number - 1], token, words)
     elif kind in ("BadWord", "BadHeader") and number >= len(lines) - 1:
         words = "the text ends too early"
-    return "\n".join(["%s:%d: %s: %s" % (name, number, kind, words)] + picture(lines[number - 1], number, token))
+    place = "%d:%d" % (number, token.start() + 1) if token else "%d" % number
+    return "\n".join(["%s:%s: %s: %s" % (name, place, kind, words)] + picture(lines[number - 1], number, token))
 
 
 def words_behind(lines):
@@ -189,35 +194,22 @@ def unknown_segment(command, segments):
         wrong[0] if wrong else "of this number", segments - 1)
 
 
-def in_file(path, answer, ask, limits):
-    """The same of a text in a file; of one that is too large to be asked about, its line without the token. `ask(text)`
-    is what spanprof_large prints, and `limits` has words for some kinds."""
-    found = AT_LINE.match(answer)
-    if not found:
-        return ""
-    number, kind, kinds = int(found[1]), found[2], {**KINDS, **limits}
-    with open(path, encoding="utf-8", errors="replace", newline="\n") as file:
-        if os.path.getsize(path) <= MOST_ASKED:
-            return at_line(path, file.read(), answer, ask, kinds)
-        line = next(islice(file, number - 1, number), "").rstrip("\r\n")
-    words = kinds.get(kind, "")
-    return "\n".join(["%s:%d: %s: %s" % (path, number, kind, words)] + picture(line, number, None))
-
-
 def of_whole(command, text, answer, ask):
     """What helps against a line that names no place in the text; empty for another answer."""
     kind = answer.removeprefix("error: ")
     if kind == "UnknownSegment" and command[:1] == ["whatif"]:
-        counted = re.match(r"segments (\d+)", ask(["span"], text))
+        counted = re.search(r"(?m)^segments (\d+)", ask(["span"], text))
         return unknown_segment(command, int(counted[1])) if counted else ""
     return WHOLE.get(kind, "")
 
 
-def explained(name, command, text, answer, ask):
-    """The words for people. `ask(words, text)` is what spanprof prints, whatever its exit status."""
+def explained(name, command, text, answer, ask, kinds=None):
+    """The words for people. `ask(words, text)` is what spanprof prints, whatever its exit status, and `kinds` has the
+    words of other limits."""
     answer = answer.strip()
     if AT_LINE.match(answer):
-        return at_line(name, text.partition("\n---")[0], answer, lambda shorter: ask(["span"], shorter), KINDS)
+        return at_line(name, text.partition("\n---")[0], answer, lambda shorter: ask(["span"], shorter),
+                       {**KINDS, **(kinds or {})})
     if AT_EVENT.match(answer):
         return "%s: %s" % (name, of_event(text.split("\n"), answer))
     more = of_whole(command, text, answer, ask)

@@ -1,5 +1,5 @@
-"""The regions of a recorded program in the order of time, by the table NAME.regions that the converter writes beside
-the texts: those without tasks too, and those of which no text is written."""
+"""The regions of a recorded program in the order of time, by the table that the converter writes: those without tasks
+too, and those of which no text is written."""
 import os
 import re
 from dataclasses import dataclass, field
@@ -7,6 +7,7 @@ from statistics import median_low
 from typing import List, NamedTuple
 
 from spanprof.errors import Fault
+from spanprof.recording import REGIONS, folder_of
 
 COLUMNS = ("number", "text", "begin_ns", "end_ns", "threads", "tasks", "loops", "code_ns", "inside", "place")
 UNKNOWN = "a region"
@@ -24,6 +25,7 @@ class Region(NamedTuple):
     code: int
     inside: int     # whether it was met inside another one
     place: str
+    asked: int = 0  # threads; 0 where that is not known
 
     @property
     def elapsed(self):
@@ -123,7 +125,11 @@ class Program:
 
 def table_beside(text):
     """Where the table of a recording lies, by the name of one of its texts, and that text's number; or None."""
-    words = re.fullmatch(r"(?s)(.*?)(?:\.(\d+))?(?:\.large)?\.tasks", text)
+    folder = folder_of(text)
+    if folder:
+        path = os.path.join(folder, REGIONS)
+        return (path, 1) if os.path.exists(path) else None
+    words = re.fullmatch(r"(?s)(.*?)(?:\.(\d+))?\.tasks", text)
     if not words:
         return None
     stem, number = words.groups()
@@ -133,29 +139,22 @@ def table_beside(text):
     return next((pair for pair in named if os.path.exists(pair[0])), None)
 
 
-def whole_beside(text):
-    """Where the whole program's text lies, by the name of that of one of its regions; None where there is none."""
-    stem = (table_beside(text) or ("",))[0].removesuffix(".regions")
-    return next(filter(os.path.exists, (stem + ".whole.tasks", stem + ".whole.large.tasks")), None)
-
-
-def told_first(program):
-    """The number of the text that stands for the place with the most code; 0 where no place has one."""
-    found = [place for place in program.places if place.shown]
-    heaviest = max(found, key=lambda place: place.total("code"), default=None)
-    return heaviest.shown.text if heaviest else 0
+def row_of(heads, line):
+    """A table of an older version does not say how many threads were asked for."""
+    row = dict(zip(heads, line.split(",", len(heads) - 1)))
+    return Region(*(int(row[name]) for name in COLUMNS[:-1]), row["place"], int(row.get("asked", 0)))
 
 
 def read_regions(path):
     try:
         with open(path, encoding="utf-8", errors="replace") as file:
-            heads, *lines = file.read().splitlines()
-        rows = [line.split(",", len(COLUMNS) - 1) for line in lines]
-        regions = [Region(*map(int, row[:-1]), row[-1]) for row in rows]
+            heads, *lines = file.read().split("\n")
+        names = heads.split(",")
+        regions = [row_of(names, line) for line in lines if line]
         whole, *rest = regions
-    except (OSError, TypeError, ValueError) as wrong:
+    except (OSError, KeyError, ValueError) as wrong:
         raise Fault("%s is no table of regions: %s" % (path, wrong)) from wrong
-    if heads != ",".join(COLUMNS) or whole.number != 0 or not whole.elapsed > 0:
+    if [name for name in names if name != "asked"] != list(COLUMNS) or whole.number != 0 or not whole.elapsed > 0:
         raise Fault("%s is no table of regions" % path)
     return Program(whole.elapsed, whole.code, rest)
 

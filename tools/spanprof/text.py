@@ -61,6 +61,7 @@ def is_one_of(names, words):
     return words.startswith(names) and words.partition(" at ")[0].partition(",")[0] in names
 
 
+@lru_cache(maxsize=4096)
 def is_share(words):
     """Whether the comment, or the name, is that of a task that stands for turns of a loop, or for a section."""
     return is_one_of((TURNS, SECTION), words)
@@ -81,11 +82,6 @@ def lines_of(text):
     for line in text.split("\n"):
         code, _, comment = line.partition("#")
         yield TOKEN.findall(code), comment.strip()
-
-
-def open_text(path):
-    """Its lines end with LF alone, and any bytes may stand in its comments."""
-    return open(path, encoding="utf-8", errors="replace", newline="\n")
 
 
 def words_of(text):
@@ -145,22 +141,24 @@ class Naming:
         if kind == "task":
             self.place = place_name(False, comment)
 
+    def pass_construct(self, kind, comment):
+        if kind == "taskwait":
+            self.go_on(kind, comment)
+        else:
+            self.begin(kind, comment)
+
     def end(self):
         kind, comment = self.blocks.pop()
         self.go_on("creating a task" if kind == "task" else kind, comment)
         return kind
 
 
-def statement(kind, code, comment, naming):
-    """Of a word, and what stands with it: a cost, or the clauses up to the body."""
-    if kind == "work":
-        return Statement(kind, naming.place, int(code))
-    if kind == "}":
-        return Statement("end", of=naming.end())
-    if kind == "taskwait":
-        naming.go_on(kind, comment)
-    else:
-        naming.begin(kind, comment)
+ENDS = {kind: Statement("end", of=kind) for kind in BLOCKS}
+
+
+@lru_cache(maxsize=1 << 16)
+def construct(kind, code, comment):
+    """Of a word, and what stands with it: the clauses up to the body."""
     if kind == "task" and code:
         items = tuple((of, name) for of, names in DEPEND.findall(code) for name in names.split(","))
         return Statement(kind, named(kind, comment), is_undeferred=bool(UNDEFERRED.search(code)), items=items,
@@ -237,7 +235,13 @@ def statements(lines: Iterable[str]) -> Iterator[Statement]:
     """Of the lines of a text that spanprof has taken."""
     naming = Naming()
     for word, code, comment in marks(lines):
-        yield statement(word, code, comment, naming)
+        if word == "work":
+            yield Statement(word, naming.place, int(code))
+        elif word == "}":
+            yield ENDS[naming.end()]
+        else:
+            naming.pass_construct(word, comment)
+            yield construct(word, code, comment)
 
 
 class Cutter:

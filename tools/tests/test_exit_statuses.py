@@ -17,7 +17,8 @@ CASES = {  # by tool, words and the status with which they end it; {text} and {l
     "path": (("--nothing", 2), ("{none}", 1), ("{log}", 1)),
     "conformance": (("--nothing", 2), ("emit {none}", 2), ("emit {log}", 2), ("run --cc {none}", 2)),
 }
-WITH_A_COMPILER = {"conformance": {1, 125}}
+# Those that need a compiler or two recordings.
+OTHERS = {"conformance": {1, 125}, "report": {3}, "record": {3}}
 
 
 def told_in(words):
@@ -35,11 +36,13 @@ class Statuses(unittest.TestCase):
             file.write(TEXT)
         os.mkdir(self.names["log"])
         open(os.path.join(self.names["log"], "head"), "w", encoding="utf-8").close()
+        os.symlink("/bin/true", os.path.join(kept.name, "make"))    # nothing is built
+        self.path = kept.name + os.pathsep + os.environ["PATH"]
 
     def run_tool(self, tool, words):
         words = [word.format(**self.names) for word in words.split()]
         return subprocess.run([os.path.join(TOOLS, "spanprof-" + tool), *words], capture_output=True, text=True,
-                              env={**os.environ, "SPANPROF": "/bin/true"}, check=False)
+                              env={**os.environ, "SPANPROF": "/bin/true", "PATH": self.path}, check=False)
 
     def test_each(self):
         for tool, cases in CASES.items():
@@ -51,7 +54,7 @@ class Statuses(unittest.TestCase):
                 self.assertRegex(done.stderr.splitlines()[-1], "^spanprof-" + tool)
                 self.assertLessEqual(len(done.stderr.splitlines()), 2, (tool, words, done.stderr))
                 self.assertEqual(done.stdout, "")
-            ends = {status for _, status in cases} | WITH_A_COMPILER.get(tool, set())
+            ends = {status for _, status in cases} | OTHERS.get(tool, set())
             self.assertEqual(told_in(usage.stdout), ends, tool)
 
 

@@ -12,11 +12,9 @@ from spanprof.tests.in_folder import InFolder
 class Plan(unittest.TestCase):
     def test_what_goes_where(self):
         places = [path for _, path in install.plan()]
-        for path in ("bin/spanprof", "bin/spanprof-record", "lib/spanprof/librecorder.so", "bin/spanprof-path",
-                     "bin/spanprof-convert", "lib/spanprof/convert_log", "lib/spanprof/calibrate",
-                     "bin/spanprof-predict", "share/spanprof/spanprof/path/found.py",
-                     "share/spanprof/spanprof/whatif/command.py",
-                     "bin/spanprof-whatif", "share/man/man1/spanprof-path.1",
+        for path in ("bin/spanprof", "libexec/spanprof/spanprof", "lib/spanprof/librecorder.so",
+                     "lib/spanprof/convert_log", "lib/spanprof/calibrate", "share/spanprof/spanprof/path/found.py",
+                     "share/spanprof/spanprof/whatif/command.py", "share/man/man1/spanprof-path.1",
                      "share/man/man1/spanprof.1", "share/bash-completion/completions/spanprof-report",
                      "share/zsh/site-functions/_spanprof", "share/spanprof/spanprof/record/command.py",
                      "share/spanprof/spanprof/report/template/page.html", "share/spanprof/spanprof/client.py",
@@ -25,16 +23,24 @@ class Plan(unittest.TestCase):
             self.assertIn(path, places)
         self.assertEqual(len(places), len(set(places)))
 
+    def test_names_with_hyphens_are_links(self):
+        self.assertEqual(install.links(large="no such program")[:2],
+                         [("spanprof", "bin/spanprof-record"), ("spanprof", "bin/spanprof-convert")])
+        self.assertEqual(install.links(large=__file__)[-1],
+                         ("../libexec/spanprof/spanprof_large", "bin/spanprof_large"))
+
     def test_the_program_for_large_texts_where_it_is_built(self):
-        self.assertNotIn("bin/spanprof_large", [path for _, path in install.plan(large="no such program")])
+        self.assertNotIn("libexec/spanprof/spanprof_large",
+                         [path for _, path in install.plan(large="no such program")])
         places = dict((path, source) for source, path in install.plan(large=__file__))
-        self.assertEqual(places["bin/spanprof_large"], __file__)
+        self.assertEqual(places["libexec/spanprof/spanprof_large"], __file__)
         self.assertIn("share/man/man1/spanprof_large.1", places)
         self.assertIn("share/man/man1/spanprof-account.1", places)
 
     def test_programs_can_be_run(self):
         self.assertEqual([oct(install.mode(path)) for path in (
-            "bin/spanprof", "lib/spanprof/convert_log", "lib/spanprof/librecorder.so")], ["0o755", "0o755", "0o644"])
+            "bin/spanprof", "lib/spanprof/convert_log", "lib/spanprof/librecorder.so",
+            "libexec/spanprof/spanprof.sha256")], ["0o755", "0o755", "0o644", "0o644"])
 
     def test_tests_and_the_installer_stay_behind(self):
         self.assertFalse([path for path in install.shared_files() if "tests/" in path or path.endswith("install.py")])
@@ -52,6 +58,17 @@ class Library(InFolder):
         self.write("spanprof.wasm")
         self.assertIn("lib/spanprof.wasm", [path for _, path in install.plan(library=self.folder)])
 
+    def test_checksums_go_with_proved_programs(self):
+        programs = [self.write(name) for name in ("spanprof", "spanprof_large", "spanprof.wasm")]
+        self.assertFalse([path for _, path in install.plan(*programs[:2], self.folder) if path.endswith(".sha256")])
+        checksums = {program + ".sha256" for program in programs}
+        for path in checksums:
+            self.write(path)
+        self.assertEqual({source: path for source, path in install.plan(*programs[:2], self.folder)
+                          if source in checksums}, dict(zip((one + ".sha256" for one in programs), (
+                              "libexec/spanprof/spanprof.sha256", "libexec/spanprof/spanprof_large.sha256",
+                              "lib/spanprof.wasm.sha256"))))
+
 
 class Prefix(InFolder):
     def setUp(self):
@@ -62,7 +79,7 @@ class Prefix(InFolder):
 
     def install(self):
         with contextlib.redirect_stdout(io.StringIO()):
-            install.install(self.root, self.pairs)
+            install.install(self.root, self.pairs, [("spanprof", "bin/spanprof-record")])
 
     def files(self):
         return sorted(os.path.relpath(os.path.join(where, name), self.root)
@@ -70,9 +87,10 @@ class Prefix(InFolder):
 
     def test_all_of_it_is_taken_away(self):
         self.install()
-        self.assertEqual(self.files(), ["bin/spanprof", "share/spanprof/installed", "share/spanprof/record/run.py"])
-        self.assertTrue(os.access(os.path.join(self.root, "bin", "spanprof"), os.X_OK))
-        self.assertEqual(install.uninstall(self.root), 3)
+        self.assertEqual(self.files(), ["bin/spanprof", "bin/spanprof-record", "share/spanprof/installed",
+                                        "share/spanprof/record/run.py"])
+        self.assertTrue(os.access(os.path.join(self.root, "bin", "spanprof-record"), os.X_OK))
+        self.assertEqual(install.uninstall(self.root), 4)
         self.assertFalse(os.path.exists(self.root))
 
     def test_what_was_there_stays(self):
@@ -87,7 +105,7 @@ class Prefix(InFolder):
         self.install()
         self.pairs.pop()
         self.install()
-        self.assertEqual(self.files(), ["bin/spanprof", "share/spanprof/installed"])
+        self.assertEqual(self.files(), ["bin/spanprof", "bin/spanprof-record", "share/spanprof/installed"])
         install.uninstall(self.root)
         self.assertFalse(os.path.exists(self.root))
 
@@ -96,7 +114,7 @@ class Prefix(InFolder):
 
     def test_a_file_that_is_missing(self):
         missing = os.path.join(self.folder, "none")
-        for path, words in (("bin/spanprof", "none: no such program; README.md tells"),
+        for path, words in (("libexec/spanprof/spanprof", "none: no such program; README.md says"),
                             ("lib/x.so", "none: no such file")):
             self.pairs[1] = (missing, path)
             with self.assertRaisesRegex(Fault, words):

@@ -1,10 +1,9 @@
 #!/usr/bin/env python3
 """Records programs of many tasks, and compares numbers: compare.py [NAME=NUMBER ..]; large_recordings.sh calls it.
 
-SPANPROF_LARGE and SPANPROF name the programs, RECORDER the recorder's library, LLVM its version.
+SPANPROF_LARGE names the program, RECORDER the recorder's library, LLVM its version.
 """
 import os
-import re
 import shlex
 import subprocess
 import sys
@@ -16,10 +15,9 @@ from whole_graph import read
 HERE = os.path.dirname(os.path.abspath(__file__))
 TOP = os.path.dirname(os.path.dirname(os.path.dirname(HERE)))
 sys.path.append(os.path.join(TOP, "checks", "llvm"))
-from recording import CONVERT, RECORDER, Wrong, build  # noqa: E402
+from recording import RECORDER, Wrong, build, made_texts  # noqa: E402
 
 LARGE = shlex.split(os.environ.get("SPANPROF_LARGE", "")) or [TOP + "/crates/spanprof_large/out/spanprof_large"]
-SPANPROF = os.environ.get("SPANPROF", TOP + "/crates/spanprof/out/spanprof")
 SECONDS = 600  # for one run
 USUAL = {"tree": 18, "grid": 400, "row": 1000000}
 TASKS = {"tree": lambda levels: 2 ** levels - 2, "grid": lambda side: side * side, "row": lambda count: count}
@@ -37,9 +35,11 @@ def recorded(words, out):
     return run(words, OMP_TOOL_LIBRARIES=RECORDER, SPANPROF_OUT=out)
 
 
-def converted(out, *options):
-    """How long the log takes to be made a text, in seconds, and what is said."""
-    return run([CONVERT, *options, out + ".log"])
+def converted(out):
+    """How long the log takes to be made a text of its region, in seconds, and what is said."""
+    began = time.monotonic()
+    said = made_texts(out)
+    return time.monotonic() - began, said
 
 
 def told(program, path):
@@ -68,7 +68,7 @@ def try_whole(words, out, fewest):
     alone, _ = run(words)
     took, said = recorded(words, out)
     reading, news = converted(out)
-    path = out + ".large.tasks"
+    path = out + ".tasks"
     if not os.path.exists(path):
         raise Wrong("nothing is written: " + said + news)
     began = time.monotonic()
@@ -83,21 +83,6 @@ def try_whole(words, out, fewest):
         alone, took, reading, os.path.getsize(path) // 1000000, measured), flush=True)
 
 
-def try_exact(out):
-    _, said = converted(out, "--fold", "exact")
-    path = out + ".tasks"
-    if not os.path.exists(path):
-        raise Wrong("no exact fold is written: " + said)
-    numbers = told([SPANPROF, "span"], path) if os.path.exists(SPANPROF) else {}
-    left = compare(path, numbers)
-    with open(path, encoding="utf-8") as text:
-        stands = sum(int(found) for found in re.findall(r"(\d+) tasks folded exactly", text.read()))
-    if left["tasks"] > 4096:
-        raise Wrong("%d tasks are left" % left["tasks"])
-    judge = "as `span` tells" if numbers else "and spanprof is not built"
-    print("  folded exactly: %d tasks, in part for %s, %s" % (left["tasks"], "{:,}".format(stands), judge), flush=True)
-
-
 def main(asked):
     cases = dict((name, int(number)) for name, number in (word.split("=") for word in asked)) or USUAL
     wrong = 0
@@ -108,7 +93,6 @@ def main(asked):
             words, out = [program, name, str(number)], os.path.join(folder, name)
             try:
                 try_whole(words, out, TASKS[name](number))
-                try_exact(out)
             except Wrong as fault:
                 print("  " + str(fault))
                 wrong += 1

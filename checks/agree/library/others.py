@@ -49,7 +49,7 @@ def certificates(comparison, program, large, dice):
 
 
 def timed(program, text, threads):
-    """A greedy run as a timed document, by rows of a segment, its thread, its begin and its end."""
+    """A greedy schedule as a timed document, by rows of a segment, its thread, its begin and its end."""
     told = answers.of_program([program, "greedy", "--threads", str(threads)], text)[1].splitlines()[1:]
     rows = [[int(word or 0) for word in (s, thread, start, end)]
             for s, start, end, thread in (line.split(",") for line in told)]

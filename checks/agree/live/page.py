@@ -75,7 +75,7 @@ def try_boxes(page, program, text):
 
 
 def whatif(program, text, line):
-    """What the line of a terminal tells of the changed text: work, span, and the greedy run's end."""
+    """What the line of a terminal tells of the changed text: work, span, and the greedy schedule's end."""
     words = shlex.split(line)
     done = subprocess.run([WHATIF, text, *words[2:], "--json"], capture_output=True, text=True, check=False,
                           env=dict(os.environ, SPANPROF=program))

@@ -1,43 +1,50 @@
 #!/usr/bin/env python3
-"""Holds what pages say first against the cause that is built into each recorded program.
+"""Compares what pages say first with what the terminal said of the same recording.
 
-    first_screens.py FOLDER NAME ..    FOLDER/cause_NAME.html is the page of the program of that name (../whatif/causes)
-The status is 0 where no page names another cause. On a busy machine a page may name the machine; that is then so.
+    first_screens.py FOLDER NAME ..    FOLDER/NAME.html is the page, and FOLDER/NAME.said what the terminal showed
+The status is 0 where each page has the causes and the changes of the terminal, as far as these were not cut.
 """
 import os
 import re
 import sys
 from html import unescape
 
-sys.path.append(os.path.join(os.path.dirname(os.path.abspath(__file__)), "..", "whatif"))
-
-from leading import EXPECTED, judged  # noqa: E402
-
-LEAD = re.compile(r'<div class="lead[^"]*"><p><b>Cause: </b>(.*?)\.</p><p><b>First change: </b>(.*?)\.</p></div>')
+LINE = re.compile(r"^(?:lost|do|then|    )  (?: ?\d+ %  )?(.*?)(?:  +\S+ \S+ -> .*|\.\.\..*)?$")
+SCREEN = re.compile(r'<div class="diagnosis given">(.*?)<p class="sure">', re.S)
 
 
-def lead_of(page):
-    """The cause and the first change; empty where the page has none."""
-    found = LEAD.search(page)
-    return tuple(unescape(re.sub("<[^>]*>", "", words)) for words in found.groups()) if found else ("", "")
+def sentences(said):
+    """Of the lines that name a cause or a change, between the first and the one that says how sure that is."""
+    found = []
+    for line in said.split("\n"):
+        if line.startswith("sure"):
+            break
+        match = LINE.match(line)
+        if match:
+            found.append(match[1].strip())
+    return found
 
 
-def is_busy():
-    return os.getloadavg()[0] > os.cpu_count()
+def missing(page, said):
+    screen = SCREEN.search(page)
+    shown = unescape(re.sub("<[^>]*>", "", screen[1])) if screen else ""
+    told = sentences(said)
+    return [words for words in told if words not in shown] if told else ["no cause"]
 
 
-def judge(folder, name):
-    with open(os.path.join(folder, "cause_%s.html" % name), encoding="utf-8") as file:
-        lead = lead_of(file.read())
-    word = judged(name, lead, is_busy())
-    print("%-8s %-9s %s\n%20s%s" % (word, name, lead[0], "", lead[1]), flush=True)
-    return word
+def read(folder, name):
+    with open(os.path.join(folder, name), encoding="utf-8") as file:
+        return file.read()
 
 
 def main(words):
     folder, *names = words
-    found = [judge(folder, name) for name in names or EXPECTED]
-    sys.exit("WRONG" in found)
+    wrong = 0
+    for name in names:
+        gone = missing(read(folder, name + ".html"), read(folder, name + ".said"))
+        wrong += bool(gone)
+        print("%-6s %s%s" % ("WRONG" if gone else "ok", name, "".join("\n       not there: " + one for one in gone)))
+    sys.exit(wrong > 0)
 
 
 if __name__ == "__main__":

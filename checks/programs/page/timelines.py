@@ -97,7 +97,7 @@ def runs_zoom_by_themselves(page):
         yield "the runs do not zoom by themselves: %s, %s" % (before, after)
     if page.evaluate("allLanes.length > 1 && document.querySelector('details.greedy') ? "
                      "document.querySelector('details.greedy').hasAttribute('open') : false"):
-        yield "the greedy run is not folded away"
+        yield "the greedy schedule is not folded away"
     show_all(page)
 
 

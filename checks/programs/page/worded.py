@@ -1,8 +1,8 @@
 #!/usr/bin/env python3
-"""Reads the words of two pages on callers.c: that of its region, recorded with call paths, and that of the whole
-program. Each sentence here is one that was wrong, missing or cut on such a page.
+"""Reads the words of the page on callers.c, recorded with call paths. Each sentence here is one that was wrong, missing
+or cut on such a page.
 
-    worded.py FOLDER    FOLDER has callers.html and callers.whole.html, and their texts
+    worded.py FOLDER    FOLDER has callers.html and its recording
 """
 import os
 import re
@@ -12,27 +12,18 @@ from html import unescape
 AT = r"callers\.c:\d+"
 RIGHT = {
     "callers": [
-        r"recorded from callers, the parallel region at " + AT,
-        r"First change: none in this text: what runs outside of regions is not in it; callers\.whole\.tasks has it",
-        r"task, lines? \d+( to \d+)?, called from solve at " + AT + r": [\d.]+ % of the work",
-        r"task at " + AT + r" called from solve at " + AT,
-        r"called from smooth_and_r\w+… at " + AT,
-    ],
-    "callers.whole": [
         r"recorded from callers, the whole program: 1 region",
         r"segments, and \d+ parts of the regions' own code",
         r"What follows is of the whole program, as one text\.",
         r"the beginning serial code, up to the region at " + AT,
-        r"Of a whole program the recorder writes no run; the pages on its regions have theirs\.",
         r"serial code 1 task [\d.]+ % of the work",
         r"the code after the barrier of the region at " + AT + r" in 4 tasks",
         r"called from solve at " + AT,
     ],
 }
 WRONG = {
-    "callers": [r"the one that is the median", r"There is no replay document", r"−0\.0 %", r"\b1 waits"],
-    "callers.whole": [r"the one that is the median", r"There is no replay document", r"the region's own code",
-                      r"the root", r"−0\.0 %", r"\b1 waits", r"cost of after ", r"\d,\d{3}\.\d %"],
+    "callers": [r"the one that is the median", r"There is no replay document", r"the region's own code", r"the root",
+                r"−0\.0 %", r"\b1 waits", r"cost of after ", r"\d,\d{3}\.\d %"],
 }
 LONGEST = 44    # letters of a line in a box of the graph, but for a name that is a place alone
 CALLED = re.compile(r"<text[^>]*><tspan[^>]*>([^<]*called from [^<]*)</tspan></text>")

@@ -13,7 +13,7 @@ import pathlib
 import sys
 
 from changes import MADE, SAME_CODE
-from runs import TOP, build_clock, compiled, convert, record_all, region_time
+from runs import TOP, build_clock, compiled, convert, record_all, recordings, region_time
 
 sys.path.insert(0, str(TOP / "tools"))
 
@@ -56,8 +56,8 @@ def main(words):
     elif words[0] == "run":
         run(folder, int(words[2]))
     else:
-        for log in sorted(folder.glob("*.log")):
-            convert(log)
+        for name in recordings(folder):
+            convert(name)
 
 
 if __name__ == "__main__":

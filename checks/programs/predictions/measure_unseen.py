@@ -20,7 +20,7 @@ import sys
 from concurrent.futures import ThreadPoolExecutor
 
 from quiet import Watch, going_first
-from runs import TOP, build_clock, compiled, convert, record_all, region_time
+from runs import TOP, build_clock, compiled, convert, record_all, recordings, region_time
 from unseen import UNSEEN
 
 sys.path.insert(0, str(TOP / "checks" / "llvm"))
@@ -110,7 +110,7 @@ def measure(folder, turns=TURNS):
 
 
 def texts(folder):
-    todo = [log for log in sorted(folder.glob("*.log")) if not log.with_suffix(".tasks").exists()]
+    todo = [name for name in recordings(folder) if not name.with_name(name.name + ".tasks").exists()]
     with ThreadPoolExecutor(len(os.sched_getaffinity(0))) as pool:
         list(pool.map(convert, todo))
 

@@ -7,6 +7,9 @@ import sys
 
 TOP = pathlib.Path(__file__).resolve().parents[3]
 HERE = TOP / "checks" / "programs" / "predictions"
+sys.path.append(str(TOP / "checks" / "llvm"))
+from recording import log_of, made_texts  # noqa: E402
+
 OPTIONS = ("-O2", "-g", "-fopenmp", "-fno-optimize-sibling-calls")
 
 
@@ -44,7 +47,7 @@ def region_time(folder, program, threads):
 
 
 def record(folder, program, out, threads):
-    shutil.rmtree(folder / (out + ".log"), ignore_errors=True)
+    shutil.rmtree(log_of(str(folder / out)).removesuffix("/log"), ignore_errors=True)
     subprocess.run([str(program)], stdout=subprocess.DEVNULL, check=True, env=variables(
         threads, OMP_TOOL_LIBRARIES=str(TOP / "tools" / "openmp_recorder" / "librecorder.so"), SPANPROF_QUIET="1",
         SPANPROF_CLOCK="wall", SPANPROF_OUT=str(folder / out)))
@@ -57,7 +60,11 @@ def record_all(folder, several):
     os.sync()
 
 
-def convert(log):
-    """A log's text, with its times."""
-    subprocess.run([str(TOP / "tools" / "spanprof-convert"), "--unit", "ns", "--times", "--parts", "none", str(log)],
-                   check=True, stderr=subprocess.DEVNULL)
+def recordings(folder):
+    """The first names of those in a folder."""
+    return [path.with_suffix("") for path in sorted(folder.glob("*.spanprof"))]
+
+
+def convert(name):
+    """The text of a recording's region, with its times."""
+    made_texts(str(name), {"SPANPROF_UNIT": "ns", "SPANPROF_TIMES": "1", "SPANPROF_PARTS": "none"})

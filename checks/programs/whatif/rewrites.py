@@ -18,15 +18,15 @@ import tempfile
 TOP = os.path.dirname(os.path.dirname(os.path.dirname(os.path.dirname(os.path.abspath(__file__)))))
 TOOLS = os.path.join(TOP, "tools")
 sys.path.insert(0, TOOLS)
+sys.path.append(os.path.join(TOP, "checks", "llvm"))
 sys.dont_write_bytecode = True
 
 from comparing import ends, first_difference, largest, least, shape
 from programs import PROGRAMS, TUTORIAL
+from recording import RECORDER, made_texts, remove
 from spanprof.whatif.texts import Text, write
 
 WHATIF = os.path.join(TOOLS, "spanprof-whatif")
-CONVERT = os.path.join(TOOLS, "spanprof-convert")
-RECORDER = os.path.join(TOOLS, "openmp_recorder", "librecorder.so")
 KEPT = os.path.join(TOP, "examples", "openmp", "recorded")
 RUNS, TRIES = 6, 2
 THREADS = (4, 16)
@@ -43,9 +43,10 @@ def output(words, **variables):
 def record(program, number):
     """The text of one run."""
     out = "%s_%d" % (program, number)
+    remove(out)
     output([program], OMP_TOOL_LIBRARIES=RECORDER, OMP_NUM_THREADS="4", SPANPROF_OUT=out, SPANPROF_CLOCK="cpu",
            SPANPROF_QUIET="1")
-    output([CONVERT, "--unit", "us", "--parts", "none", out + ".log"])
+    made_texts(out, {"SPANPROF_UNIT": "us", "SPANPROF_PARTS": "none"})
     return out + ".tasks"
 
 

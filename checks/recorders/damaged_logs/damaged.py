@@ -19,7 +19,7 @@ from damage import damage
 HERE = os.path.dirname(os.path.abspath(__file__))
 sys.path.append(os.path.join(os.path.dirname(HERE), "..", "llvm"))
 sys.path.append(os.path.join(HERE, "..", "..", "..", "tools"))
-from recording import RECORDER, Wrong, build  # noqa: E402
+from recording import LOADED, Wrong, build, log_of  # noqa: E402
 from spanprof import client  # noqa: E402
 from spanprof.errors import Fault  # noqa: E402
 
@@ -30,7 +30,7 @@ CHECKED = {"ASAN_OPTIONS": "detect_leaks=0:hard_rss_limit_mb=%d:allocator_may_re
 
 
 def record(program, out, clock):
-    variables = dict(os.environ, OMP_NUM_THREADS="3", OMP_CANCELLATION="true", OMP_TOOL_LIBRARIES=RECORDER,
+    variables = dict(os.environ, OMP_NUM_THREADS="3", OMP_CANCELLATION="true", **LOADED,
                      SPANPROF_OUT=out, SPANPROF_QUIET="1", SPANPROF_CLOCK=clock, SPANPROF_CALL_PATHS="1")
     subprocess.run([program], env=variables, stdout=subprocess.DEVNULL, check=True)
 
@@ -42,7 +42,7 @@ def limit():
 
 def convert(converter, log, way):
     """What it told, and its status; raises where it failed."""
-    done = subprocess.run([converter, log], env=dict(os.environ, SPANPROF_LINES="0", **CHECKED, **way),
+    done = subprocess.run([converter, log, log + ".out"], env=dict(os.environ, SPANPROF_LINES="0", **CHECKED, **way),
                           capture_output=True, preexec_fn=limit, check=False)
     try:
         told = [json.loads(line) for line in done.stdout.decode("utf-8", "surrogateescape").splitlines()]
@@ -94,7 +94,7 @@ def try_all(converter, count, seed, keep):
         program, wholes = build(os.path.join(HERE, "program.c"), folder), []
         for clock in ("wall", "cpu"):
             record(program, os.path.join(folder, clock), clock)
-            wholes.append(os.path.join(folder, clock + ".log"))
+            wholes.append(log_of(os.path.join(folder, clock)))
             if try_log(converter, wholes[-1], folder):
                 raise Wrong("a log without damage is refused")
         found = [try_damage(converter, wholes[i % len(wholes)], "%s.%d" % (seed, i), keep) for i in range(count)]

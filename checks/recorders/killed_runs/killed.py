@@ -1,13 +1,13 @@
 #!/usr/bin/env python3
 """Kills a recorded program at random moments, and converts what is left: killed.py [RUNS]; killed_runs.sh calls it.
 
-Each log must become a text that is the beginning of the whole program's, or be told to have no tasks yet, and the
-converter must say where the log ends. Half of the runs end by SIGKILL, a quarter each by SIGSEGV and SIGTERM. RECORDER
-names the recorder's library, LLVM its version, SEED the moments. Status 1: something was wrong.
+Each log must become a text that is the beginning of the whole program's, or be reported to have no tasks yet, and of a
+program that was killed before its region was over the converter must say where the log ends. Half of the runs end by
+SIGKILL, a quarter each by SIGSEGV and SIGTERM. RECORDER names the recorder's library, LLVM its version, SEED the
+moments. Status 1: something was wrong.
 """
 import os
 import random
-import shutil
 import signal
 import subprocess
 import sys
@@ -18,68 +18,66 @@ from prefix import count, is_prefix, read
 
 HERE = os.path.dirname(os.path.abspath(__file__))
 sys.path.append(os.path.join(os.path.dirname(HERE), "..", "llvm"))
-from recording import CONVERT, RECORDER, Wrong, build  # noqa: E402
+from recording import LOADED, Wrong, build, log_of, remove, texts  # noqa: E402
 
 SIGNALS = (signal.SIGKILL, signal.SIGKILL, signal.SIGSEGV, signal.SIGTERM)
+NOT_BEGUN = "the program ended before recording began"
 WORDS = ["11", "20000"]  # 4,094 tasks, of which each takes some microseconds
 SECONDS = 1200  # for one run
 
 
 def run(program, out, moment=None, number=signal.SIGKILL):
-    """Runs it until its end, or so many seconds. How long it took."""
-    variables = dict(os.environ, OMP_NUM_THREADS="4", OMP_WAIT_POLICY="passive", OMP_TOOL_LIBRARIES=RECORDER,
-                     SPANPROF_OUT=out, SPANPROF_QUIET="1", SPANPROF_PARTS="none")
+    """Runs it until its end, or so many seconds. How long it took, its status, and whether its region was over."""
+    variables = dict(os.environ, OMP_NUM_THREADS="4", OMP_WAIT_POLICY="passive", SPANPROF_OUT=out,
+                     SPANPROF_QUIET="1", SPANPROF_PARTS="none", **LOADED)
     began = time.monotonic()
-    process = subprocess.Popen([program] + WORDS, env=variables)
+    process = subprocess.Popen([program] + WORDS, env=variables, stdout=subprocess.PIPE, text=True)
     try:
         process.wait(SECONDS if moment is None else moment)
     except subprocess.TimeoutExpired:
         process.send_signal(number if moment is not None else signal.SIGKILL)
         process.wait()
-    return time.monotonic() - began, process.returncode
+    with process.stdout as printed:
+        return time.monotonic() - began, process.returncode, printed.read() == "over"
 
 
 def converted(out):
     """What is said, and the program of the text; none where there is no text."""
-    done = subprocess.run([CONVERT, out + ".log"], env=dict(os.environ, SPANPROF_PARTS="none"), capture_output=True,
-                          text=True, timeout=SECONDS)
-    if done.returncode:
-        raise Wrong("the log is not converted: " + done.stderr)
+    said, has_failed = texts(out, {"SPANPROF_PARTS": "none"})
+    if has_failed and NOT_BEGUN not in said:
+        raise Wrong("the log is not converted: " + said)
     if not os.path.exists(out + ".tasks"):
-        return done.stderr, None
+        return said, None
     with open(out + ".tasks", encoding="utf-8") as file:
-        return done.stderr, read(file.read())
+        return said, read(file.read())
 
 
-def judge(said, some, whole, status):
+def judge(said, some, whole, is_over):
     """Raises where something is wrong; how many tasks the text has."""
-    if status < 0 and "the log ends " not in said:
+    if NOT_BEGUN in said and not is_over:
+        return 0
+    if not is_over and "the log ends " not in said:
         raise Wrong("it is not told where the log ends: " + said)
     if some is None and "no parallel region with tasks" not in said:
         raise Wrong("there is no text: " + said)
-    if some is not None and not is_prefix(some, whole):
-        raise Wrong("the text is no beginning of the whole")
+    if not is_prefix(some or [], whole) or (is_over and some != whole):
+        raise Wrong("the text is no beginning of the whole, or lacks its end")
     return count(some or [])
 
 
 def try_moment(program, folder, whole, moment, number):
     out = os.path.join(folder, "killed")
-    _, status = run(program, out, moment, number)
+    _, _, is_over = run(program, out, moment, number)
     try:
-        if not os.path.isdir(out + ".log"):  # killed before its runtime loaded the recorder
-            return 0
-        said, some = converted(out)
-        return judge(said, some, whole, status)
+        has_head = os.path.exists(os.path.join(log_of(out), "head"))
+        return judge(*converted(out), whole, is_over) if has_head or is_over else 0
     finally:
-        for name in os.listdir(folder):
-            path = os.path.join(folder, name)
-            if name.startswith("killed"):
-                shutil.rmtree(path) if os.path.isdir(path) else os.remove(path)
+        remove(out)
 
 
 def try_all(folder, runs, chance):
     program, out = build(os.path.join(HERE, "program.c"), folder), os.path.join(folder, "whole")
-    took, status = run(program, out)
+    took, status, _ = run(program, out)
     _, whole = converted(out)
     if status or whole is None or count(whole) != 4094:
         raise Wrong("the whole run has status %d and %s" % (status, "no text" if whole is None else count(whole)))

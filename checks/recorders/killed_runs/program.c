@@ -1,5 +1,6 @@
-// program LEVELS LOOPS: a tree of tasks, each of which makes two and waits for them.
+// program LEVELS LOOPS: a tree of tasks, each of which makes two and waits for them. It prints `over` after the region.
 #include <stdlib.h>
+#include <unistd.h>
 
 static long loops;
 
@@ -24,5 +25,5 @@ int main(int count, char **words) {
 #pragma omp parallel
 #pragma omp single
     tree(count > 1 ? atoi(words[1]) : 0);
-    return 0;
+    return write(1, "over", 4) != 4;
 }

@@ -2,8 +2,9 @@
 """Programs that are measured while they run: in_process.py SHAPES MANY, which are the programs of
 checks/recorders/whole_program/shapes.c and checks/agree/large_recordings/program.c.
 
-Work and span of the shapes are what was built in, the tasks of the others are all that there are, and 30 times as many
-tasks take no more memory. RECORDER is the recorder's library. Status 1: something was wrong.
+Work and span of the shapes, by a clock that counts its readings, are what was built in, the tasks of the others are
+all that there are, and 30 times as many tasks take no more memory. RECORDER is the recorder's library. Status 1:
+something was wrong.
 """
 import json
 import os
@@ -15,10 +16,10 @@ HERE = os.path.dirname(os.path.abspath(__file__))
 RECORDERS = os.path.dirname(HERE)
 TOP = os.path.dirname(os.path.dirname(RECORDERS))
 sys.path.append(os.path.join(RECORDERS, "whole_program"))
+sys.path.append(os.path.join(TOP, "checks", "llvm"))
 from built import SHAPES, WAITING, beginning_with, faults_of_numbers  # noqa: E402
+from recording import RECORDER, counted_clock, made_texts, remove  # noqa: E402
 
-CONVERT = os.path.join(TOP, "tools", "spanprof-convert")
-RECORDER = os.path.abspath(os.environ.get("RECORDER", os.path.join(TOP, "tools/openmp_recorder/librecorder.so")))
 THREADS = 4
 # Code that is written as pieces of turns by a rule that needs all of a loop, or that waits inside a loop.
 NOT_SO = WAITING + ("in_order", "interleaved")
@@ -28,6 +29,7 @@ MOST_GROWTH = 8 * 1024 * 1024
 
 def measure(words, out, **settings):
     """What was measured, and the most memory of the process in bytes."""
+    remove(out)
     variables = dict(os.environ, OMP_NUM_THREADS=str(THREADS), OMP_TOOL_LIBRARIES=RECORDER, SPANPROF_OUT=out,
                      SPANPROF_ONLINE="1", SPANPROF_QUIET="1", **settings)
     process = subprocess.Popen(words, env=variables, stdout=subprocess.DEVNULL)
@@ -35,7 +37,7 @@ def measure(words, out, **settings):
     process.returncode = status
     if status:
         raise SystemExit("%s: status %d" % (" ".join(words), status))
-    subprocess.run([CONVERT, out + ".log"], check=True, capture_output=True)
+    made_texts(out)
     with open(out + ".online.json", encoding="utf-8") as file:
         return json.load(file), used.ru_maxrss * 1024
 
@@ -44,8 +46,8 @@ def milliseconds(told):
     return told["work"] / 1e6, told["span"] / 1e6
 
 
-def shape_faults(program, shape, before, out):
-    told, _ = measure([program, shape.name], out, SPANPROF_CLOCK="cpu")
+def shape_faults(program, shape, before, out, clock):
+    told, _ = measure([program, shape.name], out, **clock)
     return list(faults_of_numbers(beginning_with(shape, before), THREADS, *milliseconds(told)))
 
 
@@ -71,8 +73,9 @@ def tell(name, faults):
 def main(shapes, many):
     with tempfile.TemporaryDirectory() as folder:
         out = os.path.join(folder, "out")
-        before = measure([shapes, "nothing"], out, SPANPROF_CLOCK="cpu")[0]["work"] / 1e6
-        wrong = sum(tell(shape.name, shape_faults(shapes, shape, before, out))
+        clock = {"SPANPROF_CLOCK": "cpu", "LD_PRELOAD": counted_clock(folder)}
+        before = measure([shapes, "nothing"], out, **clock)[0]["work"] / 1e6
+        wrong = sum(tell(shape.name, shape_faults(shapes, shape, before, out, clock))
                     for shape in SHAPES if shape.name not in NOT_SO)
         wrong += tell("many tasks", list(many_faults(many, out)))
     print("%d wrong" % wrong)

@@ -23,12 +23,11 @@ TOP = os.path.dirname(os.path.dirname(RECORDERS))
 sys.path += [os.path.join(RECORDERS, "openmp_regions"), os.path.join(TOP, "checks", "llvm"), os.path.join(TOP, "tools")]
 import toolchain  # noqa: E402
 from draw import draw  # noqa: E402
+from recording import RECORDER, made_texts, remove  # noqa: E402
 from spanprof.head import read_head  # noqa: E402
 from write_c import write_c  # noqa: E402
 
 LARGE = shlex.split(os.environ.get("SPANPROF_LARGE", "")) or [TOP + "/crates/spanprof_large/out/spanprof_large"]
-CONVERT = os.path.join(TOP, "tools", "spanprof-convert")
-RECORDER = os.path.abspath(os.environ.get("RECORDER", os.path.join(TOP, "tools/openmp_recorder/librecorder.so")))
 SECONDS = 120
 WORDS = {"cholesky": ["6"], "fibonacci": ["20", "12"], "merge_sort": ["60000"], "merge_sort_split": ["60000"],
          "n_queens": ["8", "2"], "sparse_lu": ["6"], "strassen": ["256"], "taskloop": ["20000", "8"]}
@@ -38,26 +37,19 @@ OTHERWISE = ("equal turns", "turns together", "wait for a turn", "told late", "t
 CLOSE = 0.05  # of what is no more than close
 
 
-def convert(log, *options):
-    done = subprocess.run([CONVERT, *options, log], capture_output=True, text=True, timeout=SECONDS)
-    if done.returncode:
-        raise SystemExit("%s: %s" % (log, done.stderr))
-
-
-def text_of(out):
-    found = [path for path in (out + ".tasks", out + ".large.tasks") if os.path.exists(path)]
-    return found[0] if found else None
-
-
 def is_otherwise(head):
     return head.pieces or any(remark.name in OTHERWISE for remark in head.remarks)
 
 
+def whole_of(out):
+    """The first name of the whole program's text and times."""
+    return out + "-whole"
+
+
 def by_text(out):
     """The numbers of the whole program's text, and whether it says that something is written otherwise."""
-    convert(out + ".log", "--whole", "--times")
-    path = text_of(out)
-    with open(path, encoding="utf-8") as text:
+    made_texts(out, {"SPANPROF_WHOLE": "1", "SPANPROF_TIMES": "1"}, whole_of(out))
+    with open(whole_of(out) + ".tasks", encoding="utf-8") as text:
         head = "".join(line for line in text if line.startswith("#"))
         text.seek(0)
         told = subprocess.run(LARGE, stdin=text, capture_output=True, text=True, check=True).stdout
@@ -67,15 +59,16 @@ def by_text(out):
 
 def refused_times(out):
     """What spanprof_large account says against the times of the whole program; empty where there are none."""
-    if not os.path.exists(out + ".timed"):
+    parts = [whole_of(out) + ".tasks", whole_of(out) + ".times"]
+    if not os.path.exists(parts[-1]):
         return ""
-    with open(out + ".timed", "rb") as document:
-        done = subprocess.run([*LARGE, "account"], stdin=document, capture_output=True, text=True)
+    document = "---\n".join(open(part, encoding="utf-8").read() for part in parts)
+    done = subprocess.run([*LARGE, "account"], input=document, capture_output=True, text=True)
     return "its times are refused: " + done.stdout.strip() if done.returncode else ""
 
 
 def measured(out):
-    convert(out + ".log", "--online")
+    made_texts(out, {"SPANPROF_ONLINE": "1"})
     with open(out + ".online.json", encoding="utf-8") as file:
         return json.load(file)
 
@@ -98,6 +91,7 @@ def compare(out, is_untied=False):
 
 
 def record(words, out, **settings):
+    remove(out)
     subprocess.run(words, capture_output=True, timeout=SECONDS, check=True, env=dict(
         os.environ, OMP_NUM_THREADS="4", OMP_TOOL_LIBRARIES=RECORDER, SPANPROF_OUT=out, **settings))
 
@@ -118,7 +112,7 @@ def while_it_runs(tools, one, program, folder):
     done = subprocess.run([program, str(one.threads[-1])], env=settings, capture_output=True, timeout=SECONDS)
     if done.returncode:
         return None
-    convert(out + ".log")
+    made_texts(out)
     with open(out + ".online.json", encoding="utf-8") as file:
         return json.load(file)["tasks"]
 

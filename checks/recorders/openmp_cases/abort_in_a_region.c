@@ -1,7 +1,6 @@
-// A fatal signal before there is a task: a word says where the log ends, and no file of an earlier run stays.
+// A fatal signal before there is a task: a word says where the log ends, and there is no text.
 // status: -6
-// old: out.tasks out.replay out.2.tasks
-// says: the log ends \d+.\d ms after recording began, inside a region: the program was ended there
+// says: the log ends \d+.\d ms after recording began, inside a region: the program was killed
 // no file: out.tasks out.replay out.2.tasks
 #include <stdlib.h>
 

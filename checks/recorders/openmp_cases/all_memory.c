@@ -1,3 +1,4 @@
+// runtime: llvm
 // needs: LLVM 16
 // text: # remark: dependence on all memory, left out, 1 time at all_memory.c:\d+: span too low
 #include <omp.h>

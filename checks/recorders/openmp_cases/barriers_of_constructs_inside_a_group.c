@@ -1,6 +1,6 @@
 // The barriers at the ends of `single`, `for` and `sections`, in a group and in a group inside that.
 // expect: tasks = 12
-// expect: work >= 16000000
+// expect: work >= 14400000
 #include "spend.h"
 
 int main(void) {

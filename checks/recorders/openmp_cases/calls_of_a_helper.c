@@ -1,6 +1,6 @@
 // A function that makes tasks is called from two others: each has the tasks that it asked for, with what they cost.
 // env: SPANPROF_CALL_PATHS=1
-// env: SPANPROF_CLOCK=cpu
+// clock: counted
 // text: task \{  # calls_of_a_helper.c:\d+ called from solve at calls_of_a_helper.c:\d+\n +work [45]\d{6}\n
 // text: task \{  # calls_of_a_helper.c:\d+ called from relax at calls_of_a_helper.c:\d+\n +work [12]\d{6}\n
 // no text: called from .* called from

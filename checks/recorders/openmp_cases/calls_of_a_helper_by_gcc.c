@@ -2,7 +2,7 @@
 // undeferred tasks inside the runtime.
 // compiler: gcc
 // env: SPANPROF_CALL_PATHS=1
-// env: SPANPROF_CLOCK=cpu
+// clock: counted
 // text: task \{  # calls_of_a_helper_by_gcc.c:\d+ called from solve at calls_of_a_helper_by_gcc.c:\d+\n +work [45]\d{6}\n
 // text: task \{  # calls_of_a_helper_by_gcc.c:\d+ called from relax at calls_of_a_helper_by_gcc.c:\d+\n +work [12]\d{6}\n
 // text: task if\(0\) \{  # calls_of_a_helper_by_gcc.c:\d+ called from solve at calls_of_a_helper_by_gcc.c:\d+\n

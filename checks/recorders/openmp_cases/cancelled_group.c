@@ -1,5 +1,5 @@
 // env: OMP_CANCELLATION=true
-// text: # remark: cancellation, left out, \d+ times?,? .*work and span too low or too high
+// text: # remark: cancellation, left out, \d+ times?.* work and span too low or too high
 #include "spend.h"
 
 int main(void) {

@@ -1,18 +1,22 @@
 """What a case asks for, read from the comments at the head of its program, and what a run left of it.
 
     // compiler: gcc              in the place of clang; the program then runs on LLVM's runtime in the place of gcc's
+    // runtime: llvm              what it asks for is LLVM's alone, or by `gnu` gcc's; others are tried on gcc's runtime
+    //                            too, built by gcc
+    // preload: recorder          the recorder's library is loaded first, as for a script, on LLVM's runtime too
     // needs: LLVM N              that version or a later one, to compile it
     // clock: counted             costs by a clock that counts its readings (clock/counted_clock.c)
+    // measured: WHAT             it compares measured times, and so gets three tries
     // env: NAME=VALUE            a variable of the run
     // status: N                  its exit status, 0 where none is named; negative for a signal
-    // old: FILE ..               files of an earlier run that lie there
-    // again: NAME=VALUE          a second run with this too; `advised NAME` takes the value that the first run advised
+    // old: FILE ..               files that lie there before
+    // again: NAME=VALUE          a second run with this too
     // says: PATTERN              on standard error of the first run
     // text: PATTERN              in out.tasks; `no text:` nowhere in it
+    // in FILE: PATTERN           in this file, of which each line has its own beginning and end
     // file: NAME ..              which must lie there, or by `no file:` after the first run must not
-    // expect: WHAT OP NUMBER     work, span, tasks, parallelism of out.tasks; `span without folds`, covers (percent),
-    //                            `most held lock`, affected and `off the processor` of its head; or `inout span` of
-    //                            out.inout.tasks
+    // expect: WHAT OP NUMBER     work, span, tasks, parallelism of out.tasks; covers (percent), `most held lock`,
+    //                            affected and `off the processor` of its head; or `inout span` of out.inout.tasks
 """
 import fnmatch
 import operator
@@ -25,8 +29,8 @@ from dataclasses import dataclass, field
 sys.path.append(os.path.join(os.path.dirname(os.path.abspath(__file__)), "..", "..", "..", "tools"))
 from spanprof.head import read_head  # noqa: E402
 
-KEYS = ("compiler", "needs", "clock", "env", "status", "old", "again", "says", "text", "no text", "file", "no file",
-        "expect")
+KEYS = ("compiler", "runtime", "preload", "needs", "clock", "measured", "env", "status", "old", "again", "says", "text",
+        "no text", "file", "no file", "expect")
 COMPARE = {"<=": operator.le, ">=": operator.ge, "=": operator.eq}
 
 
@@ -44,8 +48,10 @@ def wants(source):
     """The lines of a program's head by their keys."""
     out = defaultdict(list)
     for line in source.split("\n"):
-        found = re.match(r"// (%s): (.*)" % "|".join(KEYS), line)
-        if found:
+        found = re.match(r"// (%s|in \S+): (.*)" % "|".join(KEYS), line)
+        if found and found[1].startswith("in "):
+            out["in"].append((found[1][3:], found[2]))
+        elif found:
             out[found[1]].append(found[2])
         elif not line.startswith("//"):
             break
@@ -59,6 +65,16 @@ def is_of_gcc(wanted):
 def is_counted(wanted):
     """Whether costs are by the clock that counts its readings."""
     return wanted["clock"] == ["counted"]
+
+
+def only_on(wanted):
+    """The one runtime that it says something of, or nothing."""
+    return wanted["runtime"][0] if wanted["runtime"] else ""
+
+
+def is_preloaded(wanted):
+    """Whether the recorder is loaded before the runtime whichever it is."""
+    return wanted["preload"] == ["recorder"]
 
 
 def needed_version(wanted):
@@ -100,17 +116,14 @@ def last_faults(wanted, left):
     for pattern in wanted["no text"]:
         if re.search(pattern, text):
             yield "out.tasks has /%s/" % pattern
+    for name, pattern in wanted["in"]:
+        if not re.search(pattern, left.files.get(name, ""), re.MULTILINE):
+            yield "%s has no /%s/" % (name, pattern)
     for name in " ".join(wanted["file"]).split():
         if not has_file(left, name):
             yield "%s is missing" % name
     yield from filter(None, (number_fault(words, left.numbers) for words in wanted["expect"]))
     yield from left.refused
-
-
-def unfolded_span(text):
-    """The number of a folded text's head, by its name."""
-    span = read_head(text).unfolded_span
-    return {} if span is None else {"span without folds": span}
 
 
 def count_tasks(text):
@@ -126,12 +139,3 @@ def numbers_of_head(text):
              "most held lock": head.most_held, "affected": head.clocks_differ.get("affected"),
              "off the processor": head.clocks_differ.get("by")}
     return {name: number for name, number in found.items() if number is not None}
-
-
-def second_setting(words, said):
-    """NAME and VALUE of the second run; nothing where none was advised."""
-    if not words.startswith("advised "):
-        return tuple(words.split("=", 1))
-    name = words[len("advised "):]
-    found = re.search("--fold %s=(\\d+)" % name.removeprefix("SPANPROF_FOLD_").lower(), said)
-    return (name, found[1]) if found else None

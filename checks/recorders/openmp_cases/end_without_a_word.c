@@ -2,7 +2,7 @@
 // status: 3
 // says: the log ends \d+.\d ms after recording began, inside a region
 // text: # remark: the program ended inside the region: work and span too low
-// expect: work >= 4000000
+// expect: work >= 3600000
 #include <unistd.h>
 
 #include "spend.h"

@@ -1,5 +1,5 @@
 // What was recorded before `exec` is there, and what the process goes over to has a log of its own.
-// file: out.tasks out.[0-9]*.tasks
+// file: out.tasks out.child[0-9]*.tasks
 // says: the log ends \d+.\d ms after recording began, outside of regions
 // text: "number": 1, "of": 1\}
 // expect: tasks = 2

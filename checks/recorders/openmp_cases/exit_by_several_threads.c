@@ -2,7 +2,7 @@
 // says: the program ended inside the region
 // text: # remark: the program ended inside the region: work and span too low
 // text: # remark: task that did not end
-// expect: work >= 3000000
+// expect: work >= 2700000
 #include <stdlib.h>
 
 #include "spend.h"

@@ -1,7 +1,7 @@
 // What was recorded is written, though the runtime does not tell the tool's end.
 // says: the program ended inside the region
 // text: # remark: the program ended inside the region: work and span too low
-// expect: work >= 4000000
+// expect: work >= 3600000
 #include <stdlib.h>
 
 #include "spend.h"

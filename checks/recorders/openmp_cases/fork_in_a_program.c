@@ -1,7 +1,7 @@
 // A child writes files of its own, and the parent's stay the parent's.
-// file: out.tasks out.[0-9]*.tasks
+// file: out.tasks out.child[0-9]*.tasks
 // text: "number": 1, "of": 1\}
-// expect: work >= 2000000
+// expect: work >= 1800000
 #include <sys/wait.h>
 #include <unistd.h>
 

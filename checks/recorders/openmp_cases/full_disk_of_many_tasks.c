@@ -1,9 +1,8 @@
-// Where there was no room for the whole log, no fold is advised on what is left of the region.
+// Where there was no room for the whole log, the text is what is left of the region.
 // One thread makes all records, so that its log meets the limit however fast the machine is.
 // env: OMP_NUM_THREADS=1
-// says: out.tasks is not written: \d+ tasks, and spanprof takes 4096; this is the region's beginning only, and no fold is advised
-// file: out.large.tasks
-// no file: out.tasks
+// text: # remark: the records were full inside the region
+// expect: tasks >= 4097
 #include <sys/resource.h>
 
 #include "spend.h"

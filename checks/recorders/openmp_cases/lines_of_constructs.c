@@ -1,4 +1,5 @@
 // Constructs with lines of their own, some of them combined: no remark.
+// runtime: llvm
 // no text: construct at the line of another
 // expect: tasks >= 12
 #include "spend.h"

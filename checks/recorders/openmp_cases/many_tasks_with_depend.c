@@ -1,8 +1,5 @@
-// Tasks with dependences cannot be folded, and the message says so. On a busy machine parts without tasks count too.
-// says: 50[0-9][0-9] tasks, and spanprof takes 4096; parallelism is
-// says: blocks larger; no fold fits, since tasks with depend are not
-// no file: out.tasks
-// file: out.large.tasks
+// More tasks with dependences than the ten commands take.
+// expect: tasks = 5000
 #include "spend.h"
 
 static char place[5000];

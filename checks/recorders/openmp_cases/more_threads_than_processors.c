@@ -1,7 +1,8 @@
 // Four threads on one processor: by the wall clock the tasks take longer than they need, and the head says how much.
-// expect: work >= 60000000
+// measured: how the threads share the processor
+// expect: work >= 54000000
 // expect: off the processor >= 20000000
-// text: # remark: off the processor in the midst of code.*: work and span too high
+// text: # remark: preempted in code.*: work and span too high
 #define _GNU_SOURCE
 #include <sched.h>
 

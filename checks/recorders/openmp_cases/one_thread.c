@@ -1,4 +1,5 @@
 // On one thread every task is undeferred, and the text says so.
+// runtime: llvm
 // text: # recorded: .*"threads": 1,
 // text: # remark: on one thread every task is undeferred \(if\(0\)\), 4 times,? (first )?at one_thread.c:\d+: span too high
 // no text: # divided

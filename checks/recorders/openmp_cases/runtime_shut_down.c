@@ -1,10 +1,11 @@
 // The program shuts its runtime down, and goes on with it anew: what was recorded before is there, and the rest is told
 // to be missing.
+// runtime: llvm
 // says: the log ends \d+.\d ms after recording began, outside of regions
 // expect: tasks = 4
 // expect: work >= 4000000
 // expect: work <= 8000000
-// env: SPANPROF_CLOCK=cpu
+// clock: counted
 #include <omp.h>
 
 #include "spend.h"

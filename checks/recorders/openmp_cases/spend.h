@@ -1,4 +1,5 @@
-// Code that takes so many milliseconds of processor time.
+// Code that takes so many milliseconds of processor time. Samples take some of it, by up to 23 us each 4 ms, and are no
+// cost: where costs are measured a tenth less is expected.
 #pragma once
 #include <time.h>
 

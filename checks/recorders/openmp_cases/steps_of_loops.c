@@ -1,11 +1,12 @@
 // One region around 60 steps, each with a loop of 4 ms on 4 threads: a thread's code of a step is less than a hundredth
 // of the whole, and in the text all the same. The head tells what is divided among the threads.
-// env: SPANPROF_CLOCK=cpu
+// runtime: llvm
+// clock: counted
 // expect: work >= 240000000
 // expect: covers >= 90
 // expect: tasks = 60
-// text: # divided: \{"what": "loops", "threads": 4, "times": 60, "at": "steps_of_loops.c:15"
-// text: # divided: \{"what": "sections", "threads": 4, "times": 1, "at": "steps_of_loops.c:29"
+// text: # divided: \{"what": "loops", "threads": 4, "times": 60, "at": "steps_of_loops.c:16"
+// text: # divided: \{"what": "sections", "threads": 4, "times": 1, "at": "steps_of_loops.c:30"
 // text: # divided: \{"what": "code", "threads": 4, "parts": \d+, "beside": 1[4-9]\d{7}\}
 // no text: # remark: parts without tasks
 #include "spend.h"

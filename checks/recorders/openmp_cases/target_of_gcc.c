@@ -1,7 +1,8 @@
 // gcc's own runtime runs a `target` of gcc's code: said when recording begins, and by the text.
+// runtime: llvm
 // compiler: gcc
-// says: out: target of gcc's code, which its own runtime runs beside LLVM's: work and span too low, and with nowait or depend
-// text: # remark: target of gcc's code, which its own runtime runs beside LLVM's: work and span too low, and with nowait
+// says: out: target of gcc's code, which its own runtime runs next to LLVM's: work and span too low, and with nowait or depend
+// text: # remark: target of gcc's code, which its own runtime runs next to LLVM's: work and span too low, and with nowait
 #include <stdio.h>
 
 int main(void) {

@@ -1,5 +1,6 @@
 // The runtime makes tasks that make a loop's tasks: they stand in no text, and a `taskwait` waits for the loop's.
-// env: SPANPROF_CLOCK=cpu
+// runtime: llvm
+// clock: counted
 // expect: tasks = 225
 // expect: work >= 41000000
 // expect: span >= 20000000

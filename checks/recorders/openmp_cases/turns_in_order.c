@@ -1,5 +1,5 @@
 // Turns of a loop that wait for each other (`ordered`): the interface tells it, and the text says what it lacks.
-// text: # remark: dependence between turns of a loop \(ordered\), left out, 15 times at turns_in_order.c:\d+: work too high, span too low or too high
+// text: # remark: dependence between iterations of a loop \(ordered\), left out, 15 times at turns_in_order.c:\d+: work too high, span too low or too high
 #include "spend.h"
 
 int main(void) {

@@ -1,14 +1,8 @@
-// Tasks in tasks, 200 levels deep, each level with a task of 1 ms beside the next. Folded by depth as advised, what
-// lies below is one work: the advice says what parallelism that leaves, and the text what the span is without the fold.
+// Tasks in tasks, 200 levels deep, each level with a task of 1 ms beside the next: deeper than the ten commands take.
 // clock: counted
-// says: not written: .* inside each other
-// says: parallelism is \d{2,}\.\d.* --fold depth=63 \(\d+ tasks left, parallelism 1\.\d\)
-// no file: out.tasks
-// again: advised SPANPROF_FOLD_DEPTH
-// text: # remark: folded task, 274 times, first at two_hundred_levels.c:\d+: span too high, which is an upper bound
-// expect: span without folds <= 30000000
-// expect: span >= 137000000
-// expect: parallelism <= 1.6
+// expect: tasks = 400
+// expect: work >= 200000000
+// expect: span <= 30000000
 #include "spend.h"
 
 static void level(int below) {

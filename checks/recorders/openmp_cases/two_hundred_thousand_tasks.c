@@ -1,11 +1,6 @@
-// Many independent tasks: the fold that is advised fits the next run, and leaves the parallelism.
-// says: 200000 tasks, and spanprof takes 4096; parallelism is \d+.\d;
-// says: --fold chunk=49 \(4082 tasks left, parallelism
-// no file: out.tasks
-// again: SPANPROF_FOLD_CHUNK=49
-// text: # remark: folded task, 195918 times.*: span too high
-// text: # span without folds: \d+
-// expect: tasks = 4082
+// Many independent tasks: all are in the text.
+// measured: costs by the wall clock
+// expect: tasks = 200000
 // expect: parallelism >= 1.2
 static volatile int turn;
 

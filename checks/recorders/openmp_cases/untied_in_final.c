@@ -2,7 +2,7 @@
 // clock: counted
 // expect: work >= 12000000
 // expect: work <= 20000000
-// text: task if\(0\) \{  # untied_in_final.c:16
+// text: task if\(0\) \{  # untied_in_final.c:1[56]
 #include "spend.h"
 
 int main(void) {

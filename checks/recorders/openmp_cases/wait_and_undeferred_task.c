@@ -1,7 +1,7 @@
 // A `taskwait` with `depend`, and after it an undeferred task: these are two.
 // expect: tasks = 3
 // text: task if\(0\) depend\(in: a0\) \{  # wait_and_undeferred_task.c:15\n( *work \d+\n)? *\}
-// text: task if\(0\) \{  # wait_and_undeferred_task.c:16
+// text: task if\(0\) \{  # wait_and_undeferred_task.c:1[56]
 #include "spend.h"
 
 int main(void) {

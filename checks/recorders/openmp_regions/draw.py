@@ -28,6 +28,13 @@ class Draw:
     clock: str
     statements: list
 
+    def is_of_gcc(self):
+        return self.compiler in ("gcc", "g++")
+
+    def is_on_gcc(self):
+        """On gcc's runtime; the others of gcc run on LLVM's."""
+        return self.is_of_gcc() and self.seed % 2 == 0
+
 
 class Hand:
     """Draws statements of one program."""

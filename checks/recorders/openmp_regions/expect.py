@@ -63,12 +63,13 @@ def threads_of(region, asked):
     return asked if region.threads is None else region.threads
 
 
-def shape(region, asked):
-    """What the text of this region must have, where the run is asked for so many threads."""
+def shape(region, asked, defers_alone=False):
+    """What the text of this region must have, where the run is asked for so many threads. LLVM's runtime
+    defers no task of a thread that is alone."""
     threads = threads_of(region, asked)
     phases = [[]]
     for statement in region.body:
-        phases[-1] += pieces(statement, threads == 1, threads)
+        phases[-1] += pieces(statement, threads == 1 and not defers_alone, threads)
         if ends_phase(statement):
             phases.append([])
     return Shape(region.line, threads, phases)

@@ -93,7 +93,7 @@ def main():
                 report(tools, chosen, one, verdict, told)
             if sys.stdout.isatty():
                 print("\r%d of %d" % (i + 1, chosen.count), end="", flush=True)
-    print("%d random programs: %d wrong, %d refused by spanprof, %d that LLVM itself fails on, %d not compiled" % (
+    print("%d random programs: %d wrong, %d refused by spanprof, %d that the runtime fails on, %d not compiled" % (
         chosen.count, counts["wrong"], counts["refused"], counts["runtime"], counts["compiler"]))
     return 1 if counts["wrong"] or counts["refused"] or counts["right"] == 0 else 0
 

@@ -7,11 +7,11 @@ import sys
 from dataclasses import dataclass
 
 sys.path.append(os.path.join(os.path.dirname(os.path.abspath(__file__)), "..", "..", "llvm"))
+from recording import texts  # noqa: E402
 from versions import Version, asked  # noqa: E402
 
 SECONDS = 60  # for one run
 TOP = os.path.dirname(os.path.dirname(os.path.dirname(os.path.dirname(os.path.abspath(__file__)))))
-CONVERT = os.path.join(TOP, "tools", "spanprof-convert")
 LARGE = os.path.join(TOP, "crates", "spanprof_large", "out", "spanprof_large")
 
 
@@ -67,9 +67,9 @@ def environment(tools, drawn, threads, folder, is_recorded):
     out = dict(os.environ, OMP_NUM_THREADS=str(threads), OMP_MAX_ACTIVE_LEVELS="4", OMP_DYNAMIC="false",
                OMP_WAIT_POLICY="passive", KMP_TASKLOOP_MIN_TASKS="100000")
     if is_recorded:
-        out.update(OMP_TOOL_LIBRARIES=tools.recorder, SPANPROF_OUT=os.path.join(folder, "out"),
-                   SPANPROF_CLOCK=drawn.clock)
-    if drawn.compiler in ("gcc", "g++"):
+        out.update(SPANPROF_OUT=os.path.join(folder, "out"), SPANPROF_CLOCK=drawn.clock)
+        out["LD_PRELOAD" if drawn.is_on_gcc() else "OMP_TOOL_LIBRARIES"] = tools.recorder
+    if drawn.is_of_gcc() and not drawn.is_on_gcc():
         out["LD_PRELOAD"] = tools.llvm.runtime
     return out
 
@@ -100,8 +100,7 @@ def run(tools, drawn, threads, program, folder, is_recorded=True):
 
 def converted(folder):
     """What is said of the run's log when it is made texts."""
-    words = [CONVERT, "--regions", "1000", "--times"] + glob.glob(os.path.join(folder, "out*.log"))
-    return subprocess.run(words, capture_output=True, text=True, timeout=SECONDS).stderr
+    return texts(os.path.join(folder, "out"), {"SPANPROF_REGIONS": "1000", "SPANPROF_TIMES": "1"})[0]
 
 
 def replay(tools, folder, name):

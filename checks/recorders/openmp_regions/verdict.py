@@ -25,8 +25,8 @@ def shapes_of(drawn, threads):
     """The shape of each text that must be written, by the line of its region, with how often."""
     out = {}
     for region, times, outer in regions(drawn.statements, threads):
-        one = shape(region, threads)
-        if drawn.compiler in ("gcc", "g++"):
+        one = shape(region, threads, drawn.is_on_gcc())
+        if drawn.is_of_gcc():
             hide_lines(one)
         if times and any(has_tasks(piece.body) for phase in one.phases for piece in phase):
             out[region.line] = (one, times, outer)
@@ -107,5 +107,6 @@ def judge(tools, drawn, folder, runs=1):
     for threads in drawn.threads * runs:
         verdict, told = judge_run(tools, drawn, threads, program, folder)
         if verdict != "right":
-            return verdict, "%s on %d threads: %s" % (drawn.compiler, threads, told)
+            return verdict, "%s%s on %d threads: %s" % (
+                drawn.compiler, " on its own runtime" if drawn.is_on_gcc() else "", threads, told)
     return "right", ""

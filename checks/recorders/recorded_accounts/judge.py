@@ -1,9 +1,9 @@
 #!/usr/bin/env python3
 """Records programs that are slow for a known cause, by both clocks, and holds the account of each run against it.
 
-    judge.py CAUSES [NAME ..]      the program of checks/programs/whatif/causes/causes.c
-Each is recorded again, three times at most, where its account is not as it has to be. The status is 0 where none is
-wrong.
+    judge.py CAUSES [shares]       the program of checks/recorders/recorded_accounts/causes.c
+`shares` judges on a quiet machine which cause is the largest. Then each is recorded again, three times at most, where
+its account is not as it has to be. The status is 0 where none is wrong.
 """
 import json
 import os
@@ -20,8 +20,8 @@ TRIES = 3
 
 def recorded(program, name, clock, folder):
     out = os.path.join(folder, name)
-    words = [RECORD, "--out", out, "--unit", "us", "--threads", "4", "--clock", clock, "--json", out + ".json", "--",
-             program, name]
+    options = ["--force", "--out", out, "--unit", "us", "--threads", "4", "--clock", clock, "--json", out + ".json"]
+    words = [RECORD, *options, "--", program, name]
     done = subprocess.run(words, capture_output=True, text=True, errors="replace", check=False)
     if done.returncode:
         sys.exit("%s: status %d\n%s" % (name, done.returncode, done.stderr))
@@ -34,10 +34,10 @@ def in_words(account):
     return ", ".join("%s %.0f %%" % (name, 100 * part / whole) for name, part in account["parts"].items() if part)
 
 
-def judge(program, name, clock, folder):
-    for _ in range(TRIES):
+def judge(program, name, clock, folder, is_quiet):
+    for _ in range(TRIES if is_quiet else 1):
         told = recorded(program, name, clock, folder)
-        wrong = faults(name, told)
+        wrong = faults(name, told, is_quiet)
         if not wrong:
             break
     print("%-5s %-9s %-4s %s" % ("WRONG" if wrong else "ok", name, clock,
@@ -48,9 +48,9 @@ def judge(program, name, clock, folder):
 
 
 def main(words):
-    program, names = os.path.abspath(words[0]), words[1:] or list(EXPECTED)
+    program, is_quiet = os.path.abspath(words[0]), words[1:] == ["shares"]
     with tempfile.TemporaryDirectory() as folder:
-        wrong = [judge(program, name, clock, folder) for name in names for clock in ("wall", "cpu")]
+        wrong = [judge(program, name, clock, folder, is_quiet) for name in EXPECTED for clock in ("wall", "cpu")]
     print("%d accounts, %d wrong" % (len(wrong), sum(wrong)))
     sys.exit(any(wrong))
 

@@ -21,7 +21,7 @@ import versions  # noqa: E402
 def options():
     parser = argparse.ArgumentParser(description=__doc__)
     parser.add_argument("--llvm", default="19,16", help="versions of LLVM; those that are missing are left out")
-    parser.add_argument("--compilers", default="clang,gcc")
+    parser.add_argument("--compilers", default="clang,gcc,gnu", help="gnu: gcc's code on gcc's own runtime")
     parser.add_argument("--most", type=int, default=10000, help="so many programs of each compiler, evenly chosen")
     parser.add_argument("--only", default="", help="programs with this in their name")
     parser.add_argument("--jobs", type=int, default=os.cpu_count(), help="programs at a time")
@@ -29,10 +29,21 @@ def options():
     return parser.parse_args()
 
 
-def setting(compiler, version):
-    words = [compiler] if compiler == "gcc" else version.compiler()
-    return Setting(words + ["-O1"], version.runtime, os.path.join(TOP, "tools", "spanprof-record"),
+def setting(words, runtime):
+    return Setting(words + ["-O1"], runtime, os.path.join(TOP, "tools", "spanprof-record"),
                    os.path.join(HERE, "libcalls.so"))
+
+
+def settings(compilers, there):
+    """Each with what is printed of it."""
+    for version in there:
+        on = " on LLVM " + version.number
+        if "clang" in compilers:
+            yield "clang" + on, setting(version.compiler(), version.runtime)
+        if "gcc" in compilers:
+            yield "gcc" + on, setting(["gcc"], version.runtime)
+    if "gnu" in compilers:
+        yield "gcc on its own runtime", setting(["gcc"], "")
 
 
 def chosen(programs, most):
@@ -71,14 +82,13 @@ def main():
         for number in set(asked.llvm.split(",")) - {version.number for version in there}:
             print("left out: LLVM %s's compiler or runtime is missing (packages clang-%s, libomp-%s-dev)" % (
                 number, number, number))
-        for version in there:
-            for compiler in asked.compilers.split(","):
-                counts, wrong = try_all(setting(compiler, version), chosen(programs, asked.most), asked)
-                failed += len(wrong)
-                tries += sum(counts.values())
-                built += sum(counts.values()) - counts["not built"]
-                print("%s on LLVM %s: %s" % (compiler, version.number, ", ".join(
-                    "%d %s" % (count, kind) for kind, count in sorted(counts.items()))), flush=True)
+        for name, given in settings(asked.compilers.split(","), there):
+            counts, wrong = try_all(given, chosen(programs, asked.most), asked)
+            failed += len(wrong)
+            tries += sum(counts.values())
+            built += sum(counts.values()) - counts["not built"]
+            print("%s: %s" % (name, ", ".join("%d %s" % (count, kind) for kind, count in sorted(counts.items()))),
+                  flush=True)
     print("%d programs tried, %d built, %d wrong" % (tries, built, failed))
     return 1 if failed else 0
 

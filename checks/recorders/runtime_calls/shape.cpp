@@ -1,5 +1,7 @@
 #include "shape.hpp"
 
+#include <dlfcn.h>
+
 #include <cstdio>
 #include <cstdlib>
 #include <map>
@@ -30,6 +32,12 @@ std::vector<Entered> &stack() {
     return *entered;
 }
 Task *current() { return stack().empty() ? &outside() : stack().back().task; }
+
+// It defers no task in a team of one thread; gcc's runtime does.
+bool is_llvm() {
+    static const bool it = dlsym(RTLD_NEXT, "__kmpc_fork_call");
+    return it;
+}
 
 Task *new_part(Region *region, int phase) {
     auto *task = new Task;
@@ -161,7 +169,7 @@ void settle() {
 void create(Task *task, bool is_undeferred) {
     Locked it(lock());
     Task *parent = current();
-    const bool is_alone = parent != &outside() && omp_get_num_threads() == 1;
+    const bool is_alone = parent != &outside() && omp_get_num_threads() == 1 && is_llvm();
     task->is_undeferred = is_undeferred || parent->is_final || is_alone;
     task->is_final = task->is_final || parent->is_final;
     task->is_told = true;

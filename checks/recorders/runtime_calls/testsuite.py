@@ -6,8 +6,9 @@ import subprocess
 from dataclasses import dataclass
 
 ARCHIVES = "/usr/src/gcc-*/gcc-*.tar.xz"
-FOLDERS = ("libgomp.c", "libgomp.c++", "libgomp.c-c++-common")
-TASKS = re.compile(r"^\s*#\s*pragma\s+omp\b.*\btask", re.M)
+FOLDERS = ("libgomp.c", "libgomp.c++", "libgomp.c-c++-common", "libgomp.fortran")
+LANGUAGES = {".c": "c", ".C": "c++", ".f90": "fortran", ".F90": "fortran", ".f": "fortran", ".f95": "fortran"}
+TASKS = re.compile(r"^\s*(?:#\s*pragma\s+omp|[!c]\$omp)\b.*\btask", re.M | re.I)
 RUN = re.compile(r"dg-do\s+(\w+)")
 OPTIONS = re.compile(r"""dg-(?:additional-)?options\s+"([^"]*)"\s*(?:\{([^{}]*)\})?""")
 
@@ -17,7 +18,7 @@ class Program:
     name: str
     path: str
     options: tuple
-    is_cpp: bool
+    language: str
 
 
 def archive():
@@ -46,10 +47,13 @@ def is_run(source):
 
 def programs(folder):
     found = []
-    for path in sorted(glob.glob(os.path.join(folder, "*", "*.[cC]"))):
+    for path in sorted(glob.glob(os.path.join(folder, "**", "*"), recursive=True)):
+        language = LANGUAGES.get(os.path.splitext(path)[1])
+        if not language or os.path.isdir(path):
+            continue
         with open(path, encoding="latin-1") as file:
             source = file.read()
         if TASKS.search(source) and is_run(source):
             name = os.path.relpath(path, folder).replace("libgomp.", "").replace("/", ":")
-            found.append(Program(name, path, options(source), path.endswith(".C")))
+            found.append(Program(name, path, options(source), language))
     return found

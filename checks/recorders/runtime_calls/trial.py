@@ -3,9 +3,13 @@ import glob
 import os
 import shutil
 import subprocess
+import sys
 from dataclasses import dataclass
 
 import asked
+
+sys.path.append(os.path.join(os.path.dirname(os.path.abspath(__file__)), "..", "..", "llvm"))
+import recording  # noqa: E402
 
 # Calls after which the oracle does not know all that the runtime makes by itself, and why.
 GAPS = {
@@ -14,11 +18,14 @@ GAPS = {
     "__kmpc_task_reduction_modifier_init": "the runtime has a group of its own for reductions",
     "__kmpc_taskred_modifier_init": "the runtime has a group of its own for reductions",
     "GOMP_loop_start": "the runtime has a group of its own for reductions",
+    "GOMP_loop_ull_start": "the runtime has a group of its own for reductions",
     "GOMP_sections2_start": "the runtime has a group of its own for reductions",
     "GOMP_scope_start": "the runtime has a group of its own for reductions",
     "GOMP_teams": "teams are regions of the runtime's", "__kmpc_fork_teams": "teams are regions of the runtime's",
 }
-BAD = ("crash", "wrong", "silent")
+COMPILERS = {"c": str, "c++": lambda name: name.replace("clang", "clang++").replace("gcc", "g++"),
+             "fortran": lambda name: name.replace("gcc", "gfortran")}
+BAD = ("crash", "wrong", "silent", "printed")
 OF_LINES = "lines of gcc"   # a remark on places alone: it explains no other shape
 TOLD = BAD + ("refused", "remarked", "too slow", "too large")
 MOST_BYTES = 5000000  # of a text that is compared
@@ -27,10 +34,10 @@ MOST_BYTES = 5000000  # of a text that is compared
 @dataclass
 class Setting:
     compiler: list     # its words
-    library: str       # LLVM's runtime
+    library: str       # LLVM's runtime; empty where the program runs on gcc's
     recorder: str      # tools/spanprof-record
     oracle: str
-    seconds: int = 20
+    seconds: int = 60
 
 
 @dataclass
@@ -40,20 +47,21 @@ class Verdict:
 
 
 def run(words, folder, seconds, **more):
-    """Its exit status and what it wrote to standard error; no status where it did not end."""
+    """Its exit status and what it wrote to standard error and output; no status where it did not end."""
     try:
         done = subprocess.run(words, cwd=folder, capture_output=True, timeout=seconds, stdin=subprocess.DEVNULL,
                               env=dict(os.environ, OMP_NUM_THREADS="4", SPANPROF_REGIONS="1000", **more))
     except subprocess.TimeoutExpired:
-        return None, ""
-    return done.returncode, done.stderr.decode("utf-8", "replace")
+        return None, "", b""
+    return done.returncode, done.stderr.decode("utf-8", "replace"), done.stdout
 
 
 def build(setting, program, folder):
     """The first line of the compiler's error; nothing where it is built."""
     words = list(setting.compiler)
-    if program.is_cpp:
-        words[0] = words[0].replace("clang", "clang++").replace("gcc", "g++")
+    if program.language == "fortran" and words[0] != "gcc":
+        return "no compiler of Fortran"
+    words[0] = COMPILERS[program.language](words[0])
     done = subprocess.run(words + ["-g", "-fopenmp", "-I", os.path.dirname(program.path)] + list(program.options)
                           + [program.path, "-o", os.path.join(folder, "program"), "-lm"],
                           capture_output=True, text=True)
@@ -64,8 +72,8 @@ def build(setting, program, folder):
 def calls_of(setting, folder):
     """What the oracle tells of a run, or None where the program does not end as it does without."""
     file = os.path.join(folder, "calls")
-    status, _ = run(["./program"], folder, setting.seconds, LD_PRELOAD=setting.oracle + ":" + setting.library,
-                    RUNTIME_CALLS=file)
+    status, _, _ = run(["./program"], folder, setting.seconds, LD_PRELOAD=":".join(
+        filter(None, [setting.oracle, setting.library])), RUNTIME_CALLS=file)
     if status != 0 or not os.path.exists(file):
         return None
     with open(file, encoding="utf-8") as it:
@@ -98,12 +106,13 @@ def gap(folder):
 
 
 def recorded(setting, folder):
-    """The regions, the remarks, the exit status, and what was said."""
+    """The regions, the remarks, the exit status, what was said, and what the program printed."""
     for path in glob.glob(os.path.join(folder, "out*")):
         shutil.rmtree(path) if os.path.isdir(path) else os.remove(path)
-    options = ["--no-whole", "--out", "out", "--runtime", setting.library]
-    status, said = run([setting.recorder, *options, "--", "./program"], folder, setting.seconds)
-    return texts(folder) + (status, said)
+    options = ["--out", "out"] + (["--runtime", setting.library] if setting.library else [])
+    status, said, printed = run([setting.recorder, *options, "--", "./program"], folder, setting.seconds)
+    more, _ = recording.texts(os.path.join(folder, "out"), {"SPANPROF_REGIONS": "1000"})
+    return texts(folder) + (status, said + more, printed)
 
 
 def reason(said):
@@ -134,19 +143,23 @@ def try_program(setting, program, folder):
     fault = build(setting, program, folder)
     if fault:
         return Verdict("not built", fault)
-    preloaded = {"LD_PRELOAD": setting.library}
-    statuses = [run(["./program"], folder, setting.seconds, **preloaded)[0] for _ in range(2)]
+    preloaded = {"LD_PRELOAD": setting.library} if setting.library else {}
+    plain = [run(["./program"], folder, setting.seconds, **preloaded) for _ in range(2)]
+    statuses = [status for status, _, _ in plain]
     if statuses != [0, 0]:
         return Verdict("fails without", "status %s" % statuses)
-    found, remarks, status, said = recorded(setting, folder)
+    found, remarks, status, said, printed = recorded(setting, folder)
     if status not in (0, 125):
-        found, remarks, status, said = recorded(setting, folder)
+        found, remarks, status, said, printed = recorded(setting, folder)
     if any(os.path.getsize(it) > MOST_BYTES for it in paths(folder)):
         return Verdict("too large", "a text of more than %d bytes is not compared" % MOST_BYTES)
     if status is None:
         return Verdict("too slow", "the recording does not end in %d seconds" % setting.seconds)
     if status not in (0, 125):
         return Verdict("crash", "status %s: %s" % (status, reason(said)))
+    outputs = [out for _, _, out in plain]
+    if status == 0 and outputs[0] == outputs[1] != printed:
+        return Verdict("printed", "%r, and not %r" % (printed[:60], outputs[0][:60]))
     if found:
         return compared(setting, folder, found, remarks)
     if not reason(said):

@@ -1,33 +1,40 @@
 #!/usr/bin/env python3
-"""Records each shape on 1 to 8 threads, and judges what the summaries of its region and of the whole program say.
+"""Records each shape on 1 to 8 threads, and judges what the summary of the whole program says.
 
-    judge.py SHAPES [CLOCK ..]    the program of shapes.c; clocks are cpu and wall, without any cpu
-The status is 0 where no sentence is refuted.
+    judge.py SHAPES [CLOCK ..]    the program of shapes.c; clocks are cpu, wall and counted, without any cpu
+By `counted` a processor's clock counts its readings while a run is recorded: its costs are what is built in, however
+busy the machine is. The status is 0 where no sentence is refuted.
 """
 import os
 import subprocess
 import sys
 import tempfile
 
-from judging import doubts_of, faults, of_the_order, refuted
-from sentences import blocks, is_of_whole, read
+from judging import doubts_of, faults, refuted
+from sentences import blocks, read
 from truth import SHAPES
 
 TOP = os.path.dirname(os.path.dirname(os.path.dirname(os.path.dirname(os.path.abspath(__file__)))))
-sys.path.append(os.path.join(TOP, "tools"))
+sys.path += [os.path.join(TOP, "tools"), os.path.join(TOP, "checks", "llvm")]
+from recording import counted_clock  # noqa: E402
 from spanprof.head import head_text, read_head  # noqa: E402
 
 RECORD = os.path.join(TOP, "tools", "spanprof-record")
 THREADS = (1, 2, 4, 8)
 
 
-def summaries_of(program, shape, threads, clock, out):
-    options = ["--out", out, "--unit", "us", "--clock", clock, "--threads", str(threads)]
-    words = [RECORD, *options, "--", program, shape.name]
-    done = subprocess.run(words, capture_output=True, text=True, errors="replace", check=False)
+def summary_of(program, shape, threads, clock, out):
+    is_counted = clock == "counted"
+    settings = {"LD_PRELOAD": counted_clock(os.path.dirname(out))} if is_counted else {}
+    options = ["--out", out, "--unit", "us", "--clock", "cpu" if is_counted else clock, "--threads", str(threads)]
+    words = [RECORD, "--all", *options, "--", program, shape.name]
+    done = subprocess.run(words, env=dict(os.environ, **settings), capture_output=True, text=True, errors="replace")
     if done.returncode:
         sys.exit("%s on %d threads: status %d\n%s" % (shape.name, threads, done.returncode, done.stderr))
-    return blocks(done.stderr.splitlines())
+    found = blocks(done.stderr.splitlines())
+    if len(found) != 1:
+        sys.exit("%s on %d threads: %d summaries\n%s" % (shape.name, threads, len(found), done.stderr))
+    return found[0]
 
 
 def elapsed(program, shape, threads):
@@ -39,12 +46,16 @@ def elapsed(program, shape, threads):
 
 def beginning_of(out, shape):
     """What this run had outside of regions beside what is built in, in milliseconds."""
-    return read_head(head_text(out + ".whole.tasks")).division["in serial code"] / 1000 - shape.serial
+    head = read_head(head_text(os.path.join(out + ".spanprof", "program.tasks")))
+    return head.division["in serial code"] / 1000 - shape.serial
 
 
-def judge_summary(lines, shape, threads, runs, name):
+def judge_summary(lines, shape, threads, runs, name, is_counted):
     """Whether it is refuted, and whether it doubts its own work."""
     summary = read(lines)
+    if is_counted:   # other code has no time by that clock: it looks asleep, and moves no cost of tasks
+        summary.busy = None
+        summary.is_work_doubted = summary.is_work_doubted and not shape.is_plain
     found = faults(summary, shape, threads)
     for others, took in runs.items():
         found += refuted(summary, shape, others, took)
@@ -57,26 +68,19 @@ def judge_summary(lines, shape, threads, runs, name):
 
 
 def judge_run(program, shape, threads, clock, folder, runs):
-    """The same of each summary of a recorded run."""
+    """The same of the summary of a recorded run."""
     out = os.path.join(folder, "%s_%d_%s" % (shape.name, threads, clock))
-    told, name = summaries_of(program, shape, threads, clock, out), "%s on %d threads, clock %s" % (
-        shape.name, threads, clock)
-    for fault in of_the_order(told):
-        print("REFUTED %s: %s" % (name, fault))
-        yield True, False
-    for lines in told:
-        if is_of_whole(lines):
-            more = beginning_of(out, shape)
-            took = {others: time + more for others, time in runs.items()}
-            yield judge_summary(lines, shape.whole(more), threads, took, "the whole program: " + name)
-        else:
-            yield judge_summary(lines, shape, threads, runs, name)
+    lines = summary_of(program, shape, threads, clock, out)
+    more = beginning_of(out, shape)
+    took = {others: time + more for others, time in runs.items()}
+    name = "%s on %d threads, clock %s" % (shape.name, threads, clock)
+    return judge_summary(lines, shape.whole(more), threads, took, name, clock == "counted")
 
 
 def judge(program, shape, clock, folder):
     """How many summaries there are, how many are refuted, and how many doubt their own work."""
     runs = {threads: elapsed(program, shape, threads) for threads in THREADS}
-    found = [one for threads in THREADS for one in judge_run(program, shape, threads, clock, folder, runs)]
+    found = [judge_run(program, shape, threads, clock, folder, runs) for threads in THREADS]
     return len(found), sum(wrong for wrong, _ in found), sum(doubted for _, doubted in found)
 
 

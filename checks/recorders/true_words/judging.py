@@ -1,5 +1,4 @@
 """Holds what a summary claims against what is true of the program, and against a run that would refute it."""
-from sentences import is_of_whole, read
 
 ENOUGH = 0.95   # of a program, from which on its text may stand for it
 TOLERANCE = 0.05
@@ -69,18 +68,6 @@ def of_the_words(summary, threads):
             yield "a comparison with a run that was not made: " + line
     if summary.busy is not None and summary.busy > threads * (1 + TOLERANCE):
         yield "%.2f threads were busy, of %d" % (summary.busy, threads)
-
-
-def of_the_order(told):
-    """Of the lines of a run's summaries: that of the whole program comes first, and is there where the region's text
-    has not all of it."""
-    wholes = [is_of_whole(lines) for lines in told]
-    if wholes not in ([False], [True, False]):
-        yield "there are %s" % (" and ".join("one of " + ("the program" if one else "a region") for one in wholes)
-                                or "no summaries")
-    share = read(told[-1]).share if told else None
-    if share is not None and share < ENOUGH and True not in wholes:
-        yield "nothing is told of the whole program, of which the region's text has %.3f" % share
 
 
 def doubts_of(summary):

@@ -25,13 +25,9 @@ class Summary:
 
 
 def blocks(lines):
-    """The summaries, one for each text, without what is printed before the first."""
-    starts = [i for i, line in enumerate(lines) if re.match(r"\S+\.tasks, (the whole program|region at )", line)]
+    """The summaries, one for each recording, without what is printed before the first."""
+    starts = [i for i, line in enumerate(lines) if re.match(r"\S+\.spanprof, the whole program", line)]
     return [lines[i:j] for i, j in zip(starts, starts[1:] + [None])]
-
-
-def is_of_whole(lines):
-    return ", the whole program" in lines[0]
 
 
 def number(words):
@@ -55,7 +51,7 @@ def time_of(line):
 
 def read_threads(summary, lines):
     for line in lines:
-        if "at least" in line or "and more" in line:
+        if "at least" in line:
             summary.at_least.update((int(p), number(x)) for p, x in re.findall(r"(\d+): (?:at least )?([\d.]+)", line))
         elif "the program's may be more" not in line:
             pairs = re.findall(r"(\d+): (?:up to |at most )?(?:[\d.]+ to )?([\d.]+)", line)
@@ -72,17 +68,17 @@ def read(lines):
     named = by_name(lines[1:])
     out = Summary(lines, work=time_of(first(named, "work")))
     out.is_work_doubted, out.is_span_doubted = (
-        any(re.search(name + ".* too ", line) for line in named.get("remarks", [])) for name in ("work", "span"))
+        any(re.search(name + ".* too ", line) for line in named.get("warnings", [])) for name in ("work", "span"))
     share = re.search(r"([\d.]+) % of the program's thread-time", first(named, "covers"))
     out.share = float(share[1]) / 100 if share else None
     out.is_called_a_part = "of the program's thread-time" in lines[0]
     busy = re.search(r"([\d.]+) (?:of them busy|times as fast)", first(named, "elapsed"))
     out.busy = float(busy[1]) if busy else None
-    if re.search("ends (no )?sooner", first(named, "span")):
+    if re.search("lower bound|ends (no )?sooner", first(named, "span")):
         out.end_on_any = time_of(first(named, "span"))
-    if re.search("gain|give", first(named, "parallelism")):
+    if re.search("speedup|gives", first(named, "parallelism")):
         out.gain_on_any = number(re.match(NUMBER, first(named, "parallelism"))[1])
-    gain = re.search("more than ([\\d.]+) times", first(named, "locks"))
+    gain = re.search("speedup at most ([\\d.]+)", first(named, "locks"))
     out.lock_gain = float(gain[1]) if gain else None
     read_threads(out, named.get("threads", []))
     return out

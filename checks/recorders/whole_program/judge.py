@@ -41,8 +41,9 @@ def elapsed(program, shape, threads):
 def record(program, shape, threads, folder):
     """The text, and the lines of the summary."""
     out = os.path.join(folder, "%s_%d" % (shape, threads))
-    options = ["--whole", "--out", out, "--unit", "us", "--clock", "cpu", "--threads", str(threads)]
-    return out + ".tasks", ended([RECORD, *options, "--", program, shape]).stderr.splitlines()
+    options = ["--out", out, "--unit", "us", "--clock", "cpu", "--threads", str(threads)]
+    done = ended([RECORD, *options, "--", program, shape])
+    return os.path.join(out + ".spanprof", "program.tasks"), done.stderr.splitlines()
 
 
 def numbers(text):

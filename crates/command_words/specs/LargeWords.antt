@@ -18,8 +18,8 @@ use Rattle.command_words.specs.declared.large.LargeRequest.{LargeRequest}
 use Rattle.command_words.specs.declared.large.LargeRequest.TheVariants.{OfDocument, OfMeter, OfTable}
 use Rattle.command_words.specs.declared.large.LargeRequest.TheVariants.{OfText}
 use Rattle.command_words.specs.declared.large.MeterRequest.TheVariants.{Bounds, Numbers}
-use Rattle.command_words.specs.declared.large.TableRequest.TheVariants.{Curve, Greedy, Slack}
-use Rattle.command_words.specs.declared.large.TableRequest.TheVariants.{WhatIf}
+use Rattle.command_words.specs.declared.large.TableRequest.TheVariants.{Curve, Graph, Greedy}
+use Rattle.command_words.specs.declared.large.TableRequest.TheVariants.{Slack, WhatIf}
 use Rattle.command_words.specs.declared.large.TextRequest.TheVariants.{Certify, Show}
 
 -- neither `help` nor `--help` is a word of the program
@@ -67,7 +67,8 @@ with_tables app =
     let slack = and_then app (plain_app (codes "slack")) in
     let greedy = and_then slack (with_option (codes "greedy") (codes "threads")) in
     let curve = and_then greedy (with_option (codes "curve") (codes "upto")) in
-    and_then curve what_if_app
+    let whatif = and_then curve what_if_app in
+    and_then whatif (plain_app (codes "graph"))
 
 abbrev pub account_app : App
 account_app = with_flag (with_flag (new_app (codes "account")) (codes "rows")) (codes "path")
@@ -134,6 +135,7 @@ large_request_named name rows =
     else if bytes_eq name (codes "curve") then option_map (λ upto. OfTable (Curve upto))
     (number_at (codes "upto") rows)
     else if bytes_eq name (codes "whatif") then what_if_in rows
+    else if bytes_eq name (codes "graph") then Some (OfTable Graph)
     else if bytes_eq name (codes "show") then Some (OfText Show)
     else if bytes_eq name (codes "certify") then Some (OfText Certify)
     else if bytes_eq name (codes "account") then option_map (λ told. OfDocument (Account told))

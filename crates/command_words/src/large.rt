@@ -48,6 +48,8 @@ pub enum TableRequest {
     Curve { upto: u32 },
     /// The work and the span after these changes of costs, and the span before them.
     WhatIf { changes: Changes },
+    /// Each segment with its task, its cost and its kept predecessors.
+    Graph,
 }
 
 /// What is written with the canonical text of a program, as by the commands of the same names.
@@ -84,8 +86,8 @@ pub enum AccountRequest {
 }
 
 /// Reads the words of `spanprof_large`, of which the first is the program's name: a command, or
-/// none. Without one, `--upto P` asks for bounds, and no word for what `span` asks. `help`, `--help`
-/// and `--version` are wrong words.
+/// none. Without one, `--upto P` asks for bounds, and no word for what `span` asks. Words about the
+/// program itself ([`read_about`](crate::about::read_about)) are wrong words.
 pub fn read_large_words(alloc: Global, words: &[String]) -> Result<LargeRequest, WordsFault>
     ensures { Gives (large_request_of (map string_bytes words.now)) result }
 {
@@ -169,6 +171,7 @@ fn large_request_named(
             upto: number_at(values, "upto").ok_or(WordsFault::WrongWords)?,
         })),
         "whatif" => what_if_in(alloc, values),
+        "graph" => Ok(LargeRequest::OfTable(TableRequest::Graph)),
         "show" => Ok(LargeRequest::OfText(TextRequest::Show)),
         "certify" => Ok(LargeRequest::OfText(TextRequest::Certify)),
         "account" => Ok(LargeRequest::OfDocument(DocumentRequest::Account(account_in(values).ok_or(

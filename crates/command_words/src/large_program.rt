@@ -53,7 +53,8 @@ fn with_tables<'a>(alloc: Global, command: Command<'a>) -> Result<Command<'a>, A
     let command = with_command(command, Command::new(alloc, "slack"))?;
     let command = with_command(command, with_option(alloc, "greedy", "threads")?)?;
     let command = with_command(command, with_option(alloc, "curve", "upto")?)?;
-    with_command(command, what_if_command(alloc)?)
+    let command = with_command(command, what_if_command(alloc)?)?;
+    with_command(command, Command::new(alloc, "graph"))
 }
 
 /// Changed costs: changes, or the flag for a list of them.

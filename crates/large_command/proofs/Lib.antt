@@ -1,4 +1,5 @@
 mod Bounds
+mod GraphRows
 mod Lengths
 mod Lines
 mod OfDocuments

@@ -1,13 +1,14 @@
 -- Of a table one thing is told.
-use Rattle.std.proofs.Common.{◌≡◌, ◌∙◌, ◌⊎◌, ◌≤◌, ℕ, List, [], false, length, sum, refl, sym, inl, inr}
-use Rattle.std.proofs.Common.{arith, ◌∷◌}
+use Rattle.std.proofs.Common.{◌≡◌, ◌∙◌, ◌≤◌, ℕ, List, [], false, length, sum, refl, sym, inl, inr}
+use Rattle.std.proofs.Common.{ap, arith, ◌∷◌}
 use Rattle.command_words.specs.declared.large.TableRequest.{TableRequest}
-use Rattle.command_words.specs.declared.large.TableRequest.TheVariants.{Curve, Greedy, Slack}
-use Rattle.command_words.specs.declared.large.TableRequest.TheVariants.{WhatIf}
+use Rattle.command_words.specs.declared.large.TableRequest.TheVariants.{Curve, Graph, Greedy}
+use Rattle.command_words.specs.declared.large.TableRequest.TheVariants.{Slack, WhatIf}
 use Rattle.dispatch_core.proofs.Decisions.{IsDecided, decide_both, decide_most}
 use Rattle.dispatch_core.proofs.Decisions.{decided_by_equivalent}
-use Rattle.dispatch_core.proofs.SomeGraph.{IsWhole, whole_marks}
-use Rattle.program_text.specs.Limits.{work_of}
+use Rattle.dispatch_core.proofs.SomeGraph.{IsWhole, some_graph, whole_marks}
+use Rattle.dispatch_core.proofs.StartAndEnd.{one_graph}
+use Rattle.dispatch_core.specs.RecordedGraph.{RecordedGraph}
 use Rattle.program_text.specs.Marks.{Mark}
 use Rattle.program_text.specs.Marks.Mark.{Begins}
 use Rattle.program_text.specs.declared.limits.TheConstants.{MOST_WORK}
@@ -25,7 +26,8 @@ use Rattle.spanprof_command.proofs.OneOfGraphs.{one_curve, one_greedy, one_slack
 use Rattle.spanprof_command.proofs.SomeReport.{some_curve, some_greedy, some_slacks, some_trial}
 use Rattle.spanprof_command.specs.Report.{Report, out_of_memory}
 use Rattle.large_command.proofs.Bounds.{all_work_of}
-use Rattle.large_command.specs.TableReports.{FitsRows, LacksRows, SaysOfTable, TellsRows, TellsTable}
+use Rattle.large_command.specs.GraphReports.{TellsGraph, graph_report}
+use Rattle.large_command.specs.TableReports.{FitsRows, SaysOfTable, TellsTable}
 
 -- nested marks with a table that fits can be cut
 pub reading_of : (marks : List Mark) → IsNested marks → FitsRows (table_of marks) → IsReading marks
@@ -49,6 +51,14 @@ program_of marks = record { version = One; marks = marks; names = [] }
 
 -- ---- not two
 
+one_graph_told : (table : Table) (one other : Report)
+    → TellsGraph table one
+    → TellsGraph table other
+    → one ≡ other
+one_graph_told table one other a b =
+    let told : RecordedGraph → Report = λ graph. graph_report table graph in
+    a.says ∙ (ap told (one_graph table a.graph b.graph a.is_graph_of b.is_graph_of) ∙ sym b.says)
+
 one_said : (asked : TableRequest) (marks : List Mark) (one other : Report)
     → IsWhole (table_of marks)
     → SaysOfTable asked (table_of marks) one
@@ -61,6 +71,7 @@ one_said (Curve upto) marks one other whole a b =
     one_curve upto (program_of marks) whole one other a b
 one_said (WhatIf changes) marks one other whole a b =
     one_trial changes (program_of marks) one other a b
+one_said Graph marks one other whole a b = one_graph_told (table_of marks) one other a b
 
 pub one_of_table : (asked : TableRequest) (marks : List Mark) (one other : Report)
     → IsNested marks
@@ -95,6 +106,12 @@ some_said Slack marks whole = some_slacks (program_of marks) whole
 some_said (Greedy threads) marks whole = some_greedy threads (program_of marks) whole
 some_said (Curve upto) marks whole = some_curve upto (program_of marks) whole
 some_said (WhatIf changes) marks whole = some_trial changes (program_of marks) whole
+some_said Graph marks whole =
+    let table : Table = table_of marks in
+    let found = some_graph table whole.sound in (
+      graph_report table found.0,
+      record { graph = found.0; is_graph_of = found.1; says = refl },
+    )
 
 pub some_of_table : (asked : TableRequest) (marks : List Mark)
     → IsNested marks

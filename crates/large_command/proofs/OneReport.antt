@@ -1,7 +1,9 @@
 -- No words and input have two reports.
 use Rattle.std.proofs.Common.{◌≡◌, ◌∙◌, ℕ, true, false, List, ◌++◌, Option, Some, None, inl}
 use Rattle.std.proofs.Common.{inr, ap, sym, subst, arith, append-nil}
+use Rattle.command_words.specs.About.{about_of}
 use Rattle.command_words.specs.LargeWords.{large_request_of}
+use Rattle.command_words.specs.declared.about.About.{About}
 use Rattle.command_words.specs.declared.large.LargeRequest.{LargeRequest}
 use Rattle.command_words.specs.declared.large.LargeRequest.TheVariants.{OfDocument, OfMeter, OfTable}
 use Rattle.command_words.specs.declared.large.MeterRequest.{MeterRequest}
@@ -24,7 +26,9 @@ use Rattle.large_text.proofs.ReadingTexts.{nested_of}
 use Rattle.large_text.specs.LargeTexts.{FitsText}
 use Rattle.spanprof_command.proofs.OneOfGraphs.{one_certificate}
 use Rattle.spanprof_command.specs.Report.{Report, program_refusal}
-use Rattle.large_command.specs.LargeCommand.{AnswersWords, IsReport, ReadsText, is_in_range}
+use Rattle.large_command.specs.AboutReports.{about_report}
+use Rattle.large_command.specs.LargeCommand.{AnswersWords, IsReport, IsReportOfText, ReadsText}
+use Rattle.large_command.specs.LargeCommand.{is_in_range}
 use Rattle.large_command.specs.LargeReports.{AcceptsText, Answers, AnswersWithin, RefusesText}
 use Rattle.large_command.specs.LargeReports.{Tells, TellsMarks, bounds_report}
 use Rattle.large_command.specs.LargeReports.{numbers_report, text_of}
@@ -170,11 +174,11 @@ one_within asked input rest left text other one two h g (inr a) (inr b) =
 
 -- ---- of words
 
-same_request : (wanted : Option LargeRequest) (one other : LargeRequest) → wanted ≡ Some one
+same_request : {T : Type 0} (wanted : Option T) (one other : T) → wanted ≡ Some one
     → wanted ≡ Some other → one ≡ other
 same_request wanted one other h g = cc
 
-no_request : (wanted : Option LargeRequest) (asked : LargeRequest) → wanted ≡ None
+no_request : {T : Type 0} (wanted : Option T) (asked : T) → wanted ≡ None
     → wanted ≡ Some asked → ⊥
 no_request wanted asked h g = absurd cc
 
@@ -202,26 +206,43 @@ one_words words input rest left one other a b =
     (subst (λ (asked : LargeRequest). AnswersWithin asked b.answers.text other) same
     b.answers.answers)
 
+one_of_words : (words : List (List ℕ)) (input rest left : List ℕ) (one other : Report)
+    → IsReportOfText words (Some input) (Some rest) one
+    → IsReportOfText words (Some input) (Some left) other
+    → one ≡ other
+one_of_words words input rest left one other (inl a) (inl b) = a.says ∙ sym b.says
+one_of_words words input rest left one other (inl a) (inr (inl b)) =
+    absurd (no_request (large_request_of words) b.asked a.none b.asks)
+one_of_words words input rest left one other (inl a) (inr (inr b)) =
+    absurd (no_request (large_request_of words) b.asked a.none b.asks)
+one_of_words words input rest left one other (inr (inl a)) (inl b) =
+    absurd (no_request (large_request_of words) a.asked b.none a.asks)
+one_of_words words input rest left one other (inr (inr a)) (inl b) =
+    absurd (no_request (large_request_of words) a.asked b.none a.asks)
+one_of_words words input rest left one other (inr (inl a)) (inr (inl b)) = a.says ∙ sym b.says
+one_of_words words input rest left one other (inr (inl a)) (inr (inr b)) =
+    absurd (in_range_or_not (large_request_of words) a.asked b.asked a.asks b.asks a.outside b.inside)
+one_of_words words input rest left one other (inr (inr a)) (inr (inl b)) =
+    absurd (in_range_or_not (large_request_of words) b.asked a.asked b.asks a.asks b.outside a.inside)
+one_of_words words input rest left one other (inr (inr a)) (inr (inr b)) =
+    one_words words input rest left one other a b
+
+-- of words about the program, and of others
 one_by : (words : List (List ℕ)) (input rest left : List ℕ) (one other : Report)
     → IsReport words (Some input) (Some rest) one
     → IsReport words (Some input) (Some left) other
     → one ≡ other
-one_by words input rest left one other (inl a) (inl b) = a.says ∙ sym b.says
-one_by words input rest left one other (inl a) (inr (inl b)) =
-    absurd (no_request (large_request_of words) b.asked a.none b.asks)
-one_by words input rest left one other (inl a) (inr (inr b)) =
-    absurd (no_request (large_request_of words) b.asked a.none b.asks)
-one_by words input rest left one other (inr (inl a)) (inl b) =
-    absurd (no_request (large_request_of words) a.asked b.none a.asks)
-one_by words input rest left one other (inr (inr a)) (inl b) =
-    absurd (no_request (large_request_of words) a.asked b.none a.asks)
-one_by words input rest left one other (inr (inl a)) (inr (inl b)) = a.says ∙ sym b.says
-one_by words input rest left one other (inr (inl a)) (inr (inr b)) =
-    absurd (in_range_or_not (large_request_of words) a.asked b.asked a.asks b.asks a.outside b.inside)
-one_by words input rest left one other (inr (inr a)) (inr (inl b)) =
-    absurd (in_range_or_not (large_request_of words) b.asked a.asked b.asks a.asks b.outside a.inside)
-one_by words input rest left one other (inr (inr a)) (inr (inr b)) =
-    one_words words input rest left one other a b
+one_by words input rest left one other (inl a) (inl b) =
+    same_told (about_report a.about) (about_report b.about) one other
+    (ap (λ (about : About). about_report about)
+    (same_request (about_of words) a.about b.about a.asks b.asks))
+    a.says b.says
+one_by words input rest left one other (inl a) (inr b) =
+    absurd (no_request (about_of words) a.about b.not_about a.asks)
+one_by words input rest left one other (inr a) (inl b) =
+    absurd (no_request (about_of words) b.about a.not_about b.asks)
+one_by words input rest left one other (inr a) (inr b) =
+    one_of_words words input rest left one other a.report b.report
 
 pub one_report : (words : List (List ℕ)) (input : List ℕ) → HasOneReport words input
 one_report words input one other h g = one_by words input h.rest g.rest one other h.report g.report

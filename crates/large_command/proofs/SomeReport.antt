@@ -2,7 +2,9 @@
 use Rattle.std.proofs.Common.{◌≡◌, ◌+◌, ◌-◌, ◌≤◌, ◌<◌, ℕ, false, List, [], ◌∷◌, ◌++◌, length}
 use Rattle.std.proofs.Common.{Option, Some, None, inl, inr, sym, refl, subst, arith, append_assoc}
 use Rattle.std.proofs.Common.{append-nil, length-append}
+use Rattle.command_words.specs.About.{about_of}
 use Rattle.command_words.specs.LargeWords.{large_request_of}
+use Rattle.command_words.specs.declared.about.About.{About}
 use Rattle.command_words.specs.declared.large.LargeRequest.{LargeRequest}
 use Rattle.command_words.specs.declared.large.LargeRequest.TheVariants.{OfDocument, OfMeter, OfTable}
 use Rattle.command_words.specs.declared.large.MeterRequest.{MeterRequest}
@@ -30,7 +32,8 @@ use Rattle.large_text.specs.declared.limits.TheConstants.{LARGEST_TEXT}
 use Rattle.spanprof_command.proofs.SomeReport.{some_certificate}
 use Rattle.spanprof_command.specs.GreedyRuns.{thread_count}
 use Rattle.spanprof_command.specs.Report.{Report, input_too_long, out_of_memory, program_refusal, wrong_words}
-use Rattle.large_command.specs.LargeCommand.{AnswersText, is_in_range}
+use Rattle.large_command.specs.AboutReports.{about_report}
+use Rattle.large_command.specs.LargeCommand.{AnswersText, IsReportOfText, is_in_range}
 use Rattle.large_command.specs.LargeReports.{Answers, Tells, TellsMarks, bounds_report}
 use Rattle.large_command.specs.LargeReports.{numbers_report, text_of}
 use Rattle.large_command.specs.TextReports.{TellsText}
@@ -190,37 +193,49 @@ some_text asked input = elim (fits_or_too_long input) [
 
 -- ---- of words
 
-some_by : (words : List (List ℕ)) (wanted : Option LargeRequest) (input : List ℕ)
+some_of_words : (words : List (List ℕ)) (wanted : Option LargeRequest) (input : List ℕ)
     → large_request_of words ≡ wanted
-    → HasReport words input
-some_by words None input asks = (
+    → (output : Report) × (rest : List ℕ) × IsReportOfText words (Some input) (Some rest) output
+some_of_words words None input asks = (
   wrong_words,
-  record { rest = input; report = inl (record { none = asks; kept = refl; says = refl }) },
+  input,
+  inl (record { none = asks; kept = refl; says = refl }),
 )
-some_by words (Some asked) input asks =
+some_of_words words (Some asked) input asks =
     bool_cases (is_in_range asked)
     (λ inside.
     let answer = some_text asked input in (
       answer.0,
-      record {
-        rest = answer.1;
-        report = inr (inr
-            (record { asked = asked; asks = asks; inside = inside; answers = answer.2 }));
-      },
+      answer.1,
+      inr (inr (record { asked = asked; asks = asks; inside = inside; answers = answer.2 })),
     ))
     (λ outside. (
       thread_count,
-      record {
-        rest = input;
-        report = inr (inl (record {
-          asked = asked;
-          asks = asks;
-          outside = outside;
-          kept = refl;
-          says = refl;
-        }));
-      },
+      input,
+      inr (inl (record {
+        asked = asked;
+        asks = asks;
+        outside = outside;
+        kept = refl;
+        says = refl;
+      })),
     ))
 
+some_by : (words : List (List ℕ)) (wanted : Option About) (input : List ℕ)
+    → about_of words ≡ wanted
+    → HasReport words input
+some_by words (Some about) input asks = (
+  about_report about,
+  record {
+    rest = input;
+    report = inl (record { about = about; asks = asks; kept = refl; says = refl });
+  },
+)
+some_by words None input none =
+    let told = some_of_words words (large_request_of words) input refl in (
+      told.0,
+      record { rest = told.1; report = inr (record { not_about = none; report = told.2 }) },
+    )
+
 pub some_report : (words : List (List ℕ)) (input : List ℕ) → HasReport words input
-some_report words input = some_by words (large_request_of words) input refl
+some_report words input = some_by words (about_of words) input refl

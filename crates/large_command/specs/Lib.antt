@@ -1,9 +1,11 @@
 pub mod Lengths
 pub mod TextInput
+pub mod GraphReports
 pub mod TableReports
 pub mod TextReports
 pub mod DocumentReports
 pub mod LargeReports
+pub mod AboutReports
 pub mod LargeCommand
 pub mod OneReport
 pub mod Answered

@@ -32,7 +32,7 @@ impl Model for Answer {
 impl Answer {
     ghost use Rattle.std.specs.Prelude.{◌≡◌, ◌≢◌, ◌+◌, ◌-◌, ◌^◌, ◌<◌, ◌≤◌, length, true};
     ghost use Rattle.counted_io.specs.Counted.{faults_of, inner_of};
-    ghost use Rattle.spanprof_command.specs.Command.{HadFaults, SendsWithin};
+    ghost use Rattle.spanprof_command.specs.Command.{SendsWithin, counts_of};
     ghost use Rattle.spanprof_command.specs.Flushes.{FlushesOnce};
     ghost use Rattle.spanprof_command.specs.GreedyRuns.{greedy_of};
     ghost use Rattle.spanprof_command.specs.Slacks.{slacks_of};
@@ -67,7 +67,7 @@ impl Answer {
         requires { faults_of writer.old + retries < 2 ^ 64 - 1 }
         ensures sends { SendsWithin retries self
             (W.contents (inner_of writer.old)) (W.contents (inner_of writer.new))
-            (HadFaults (faults_of writer.old) (faults_of writer.new)) result }
+            (counts_of writer.old writer.new) result }
         ensures flushes { FlushesOnce (result ≢ Status.Fault) writer.old writer.new }
     {
         match self.kind {

@@ -3,6 +3,7 @@ ghost use Rattle.std.specs.Prelude.{◌≡◌, ◌+◌, ◌-◌, ◌^◌, ◌<�
 ghost use Rattle.counted_io.specs.Counted.{inner_of, faults_of};
 ghost use Rattle.counted_io.specs.Input.{ConsumesAtMost};
 ghost use Rattle.large_text.specs.declared.limits.TheConstants.{LARGEST_TEXT};
+ghost use Rattle.spanprof_command.specs.Command.{counts_of};
 ghost use Rattle.spanprof_command.specs.Finished.{SpendsRetries};
 ghost use Rattle.large_command.specs.TextInput.{ReadsTooLong, ReadsWhole};
 
@@ -31,8 +32,8 @@ pub(crate) fn read_document<R: Read>(
     // In every case.
     ensures limited { ConsumesAtMost (LARGEST_TEXT + 1) (R.remaining (inner_of reader.old))
         (R.remaining (inner_of reader.new)) }
-    ensures retries { SpendsRetries InputFault.ReadFailed result (faults_of reader.old)
-        (faults_of reader.new) retries.old retries.new }
+    ensures retries { SpendsRetries InputFault.ReadFailed result (counts_of reader.old reader.new)
+        retries.old retries.new }
 {
     let mut document = Vec::new(alloc);
     let mut piece = [0u8; PIECE];

@@ -1,22 +1,24 @@
 //! Words, text, report and status, in that order.
 ghost use Rattle.std.specs.Prelude.{◌≡◌, ◌≢◌, ◌+◌, ◌-◌, ◌^◌, ◌<◌, ◌≤◌, List, ℕ, Err, map};
-ghost use Rattle.std.specs.Prelude.{string_bytes, IfOk, false, true, []};
+ghost use Rattle.std.specs.Prelude.{string_bytes, IfOk, IfSome, false, true, []};
 ghost use Rattle.counted_io.specs.Counted.{inner_of, faults_of};
 ghost use Rattle.counted_io.specs.Input.{ConsumesAtMost};
+ghost use Rattle.command_words.specs.About.{about_of};
 ghost use Rattle.command_words.specs.LargeWords.{large_request_of};
 ghost use Rattle.command_words.specs.declared.large.LargeRequest.TheVariants.{OfDocument};
-ghost use Rattle.spanprof_command.specs.Command.{EndsWith, HadFaults};
+ghost use Rattle.spanprof_command.specs.Command.{EndsWith, counts_of};
 ghost use Rattle.spanprof_command.specs.Finished.{SpendsRetries};
 ghost use Rattle.spanprof_command.specs.Flushes.{FlushesOnce};
 ghost use Rattle.spanprof_command.specs.Report.{input_too_long};
 ghost use Rattle.spanprof_command.specs.declared.engine.TheConstants.{MOST_RETRIES};
-ghost use Rattle.large_command.specs.LargeCommand.{AnswersText, IsReport, is_in_range};
+ghost use Rattle.large_command.specs.LargeCommand.{AnswersText, IsReport, IsReportOfText, is_in_range};
 ghost use Rattle.large_command.specs.LargeReports.{Answers};
 ghost use Rattle.large_command.specs.TextInput.{IsOfText, KeepsFor};
 ghost use Rattle.large_text.specs.Streamed.{CanTakeBytes, HasTaken};
 ghost use Rattle.large_command.specs.LargeCommand.{is_table_in_range, is_thread_count, wants_text};
 ghost use Rattle.large_text.specs.declared.limits.TheConstants.{LARGEST_TEXT};
 
+use crate::about::about_text;
 use crate::answer::Answer;
 use crate::document_input::read_document;
 use crate::documents::answer_document;
@@ -24,6 +26,7 @@ use crate::meter_answers::answer_meter;
 use crate::table_answers::answer_table;
 use crate::text_answers::answer_printed;
 use crate::text_input::take_input;
+use command_words::about::read_about;
 use command_words::large::{
     DocumentRequest, LargeRequest, MeterRequest, TableRequest, TextRequest, read_large_words,
 };
@@ -42,9 +45,10 @@ use task_program::name_key::NameKey;
 /// and segments the text has, its work and its span, each on a line of its own. `bounds --upto P`
 /// writes a table of bounds, as CSV: a row for one thread, two, and so on up to P. `slack`, `greedy`,
 /// `curve`, `whatif`, `show` and `certify` write what the commands of `spanprof` of these names write,
-/// and so do `replay` and `check` of a document. `account` reads a document of a text and the times of a run of it, and
-/// writes where the time of the run's threads went. Other words, and numbers of threads but those
-/// from 1 to 1,024, are refused before anything is read.
+/// and so do `replay` and `check` of a document. `graph` writes the recorded graph. `account` reads a document of a text and the times of a run of it, and
+/// writes where the time of the run's threads went. `--help` and `--version` write a text about the
+/// program. Other words, and numbers of threads but those from 1 to 1,024, are refused. Nothing is
+/// read then.
 ///
 /// An input with a line of more than [`LARGEST_LINE`] bytes is refused, and so is one of more than
 /// [`LARGEST_TEXT`] bytes. Reads and writes that are interrupted are tried again, together at most
@@ -66,14 +70,16 @@ pub fn command<H: AllocGlobal + Threads + Sync, R: Read, W: Write>(
 
     ensures answers { EndsWith (IsReport (map string_bytes words.now)
         (R.remaining (inner_of reader.old)) (R.remaining (inner_of reader.new)))
-        (HadFaults (faults_of reader.old) (faults_of reader.new))
+        (counts_of reader.old reader.new)
         (W.contents (inner_of writer.old)) (W.contents (inner_of writer.new))
-        (HadFaults (faults_of writer.old) (faults_of writer.new)) result }
+        (counts_of writer.old writer.new) result }
     ensures flushes { FlushesOnce (result ≢ Status.Fault) writer.old writer.new }
 
     // In every case.
     ensures reads_nothing { wants_text (large_request_of (map string_bytes words.now)) ≡ false
         → reader.new ≡ reader.old }
+    ensures reads_about { IfSome (about_of (map string_bytes words.now)) (λ about.
+        reader.new ≡ reader.old) }
     ensures reads_so_much { ConsumesAtMost (LARGEST_TEXT + 1) (R.remaining (inner_of reader.old))
         (R.remaining (inner_of reader.new)) }
 {
@@ -84,7 +90,7 @@ pub fn command<H: AllocGlobal + Threads + Sync, R: Read, W: Write>(
     }
 }
 
-/// Makes the report of the words and the text.
+/// Makes the report of the words and the text, or of words about the program.
 fn prepare<H: AllocGlobal + Threads + Sync, R: Read>(
     rt: &H,
     key: NameKey,
@@ -100,18 +106,45 @@ fn prepare<H: AllocGlobal + Threads + Sync, R: Read>(
 
     ensures reads_so_much { ConsumesAtMost (LARGEST_TEXT + 1) (R.remaining (inner_of reader.old))
         (R.remaining (inner_of reader.new)) }
-    ensures retries { SpendsRetries NoReport.ReadFault result (faults_of reader.old)
-        (faults_of reader.new) retries.old retries.new }
+    ensures reads_about { IfSome (about_of (map string_bytes words.now)) (λ about.
+        reader.new ≡ reader.old) }
+    ensures retries { SpendsRetries NoReport.ReadFault result (counts_of reader.old reader.new)
+        retries.old retries.new }
+{
+    match read_about(words) {
+        Some(about) => tell_known(rt.alloc(), about_text(about), Status::Done),
+        None => prepare_of_text(rt, words, key, reader, retries),
+    }
+}
+
+/// Makes the report of words for a text, and of the text.
+fn prepare_of_text<H: AllocGlobal + Threads + Sync, R: Read>(
+    rt: &H,
+    words: &[String],
+    key: NameKey,
+    reader: &mut Counted<R>,
+    retries: &mut u32,
+) -> Result<Answer, NoReport>
+    requires { faults_of reader.old + retries.old < 2 ^ 64 - 1 }
+    ensures report { IfOk result (λ report. IsReportOfText (map string_bytes words.now)
+        (R.remaining (inner_of reader.old)) (R.remaining (inner_of reader.new)) report) }
+    ensures reads_nothing { wants_text (large_request_of (map string_bytes words.now)) ≡ false
+        → reader.new ≡ reader.old }
+
+    ensures reads_so_much { ConsumesAtMost (LARGEST_TEXT + 1) (R.remaining (inner_of reader.old))
+        (R.remaining (inner_of reader.new)) }
+    ensures retries { SpendsRetries NoReport.ReadFault result (counts_of reader.old reader.new)
+        retries.old retries.new }
 {
     let alloc = rt.alloc();
     match read_large_words(alloc, words) {
         Ok(asked) => {
             if !is_in_range(&asked) {
-                return refuse(alloc, b"error: ThreadCount\n", Status::Refused);
+                return tell_known(alloc, b"error: ThreadCount\n", Status::Refused);
             }
             answer_text(rt, key, &asked, reader, retries)
         }
-        Err(WordsFault::WrongWords) => refuse(alloc, b"error: wrong words\n", Status::Usage),
+        Err(WordsFault::WrongWords) => tell_known(alloc, b"error: wrong words\n", Status::Usage),
         Err(WordsFault::OutOfMemory) => Err(NoReport::OutOfMemory),
     }
 }
@@ -136,6 +169,7 @@ fn is_table_in_range(asked: &TableRequest) -> bool
         TableRequest::Greedy { threads } => is_thread_count(*threads),
         TableRequest::Curve { upto } => is_thread_count(*upto),
         TableRequest::WhatIf { changes: _ } => true,
+        TableRequest::Graph => true,
     }
 }
 
@@ -160,8 +194,8 @@ fn answer_text<H: AllocGlobal + Threads + Sync, R: Read>(
 
     ensures reads_so_much { ConsumesAtMost (LARGEST_TEXT + 1) (R.remaining (inner_of reader.old))
         (R.remaining (inner_of reader.new)) }
-    ensures retries { SpendsRetries NoReport.ReadFault result (faults_of reader.old)
-        (faults_of reader.new) retries.old retries.new }
+    ensures retries { SpendsRetries NoReport.ReadFault result (counts_of reader.old reader.new)
+        retries.old retries.new }
 {
     let alloc = rt.alloc();
     match asked {
@@ -226,8 +260,8 @@ fn answer_whole<R: Read>(
 
     ensures reads_so_much { ConsumesAtMost (LARGEST_TEXT + 1) (R.remaining (inner_of reader.old))
         (R.remaining (inner_of reader.new)) }
-    ensures retries { SpendsRetries NoReport.ReadFault result (faults_of reader.old)
-        (faults_of reader.new) retries.old retries.new }
+    ensures retries { SpendsRetries NoReport.ReadFault result (counts_of reader.old reader.new)
+        retries.old retries.new }
 {
     match read_document(alloc, reader, retries) {
         Ok(document) => {
@@ -244,13 +278,13 @@ fn too_long(alloc: Global) -> Result<Answer, NoReport>
     ensures says { IfOk result (λ report. report ≡ input_too_long) }
     ensures memory { result ≢ Err NoReport.ReadFault }
 {
-    refuse(alloc, b"error: input too long\n", Status::Refused)
+    tell_known(alloc, b"error: input too long\n", Status::Refused)
 }
 
-/// A line that is known beforehand.
-fn refuse(alloc: Global, line: &[u8], status: Status) -> Result<Answer, NoReport>
-    ensures says { IfOk result (λ report. report ≡ record { text = line.now; status = status }) }
+/// A text that is known beforehand.
+fn tell_known(alloc: Global, text: &[u8], status: Status) -> Result<Answer, NoReport>
+    ensures says { IfOk result (λ report. report ≡ record { text = text.now; status = status }) }
     ensures memory { result ≢ Err NoReport.ReadFault }
 {
-    Ok(Answer::of_report(Report::of_line(alloc, line, status)?))
+    Ok(Answer::of_report(Report::of_line(alloc, text, status)?))
 }

@@ -2,14 +2,15 @@
 //!
 //! `run_program` is all of `main`; what the process gives and takes is named by no contract, so all
 //! else is in `start`.
-ghost use Rattle.std.specs.Prelude.{◌≡◌, ◌≢◌, ◌+◌, ◌<◌, ◌≤◌, ◌^◌, IfErr, IfOk, OnErr, map};
+ghost use Rattle.std.specs.Prelude.{◌≡◌, ◌≢◌, ◌+◌, ◌<◌, ◌≤◌, ◌^◌, IfErr, IfOk, IfSome, OnErr, map};
 ghost use Rattle.std.specs.Prelude.{false, string_bytes, true};
 ghost use Rattle.std.specs.Process.{exit_status};
 ghost use Rattle.std.specs.IoError.{error_kind};
 ghost use Rattle.counted_io.specs.Counted.{faults_of, inner_of};
 ghost use Rattle.counted_io.specs.Input.{ConsumesAtMost};
+ghost use Rattle.command_words.specs.About.{about_of};
 ghost use Rattle.command_words.specs.LargeWords.{large_request_of};
-ghost use Rattle.spanprof_command.specs.Command.{ExitsAfter, ExitsWith, HadFaults};
+ghost use Rattle.spanprof_command.specs.Command.{ExitsAfter, ExitsWith, counts_of};
 ghost use Rattle.spanprof_command.specs.Flushes.{FlushesOnce};
 ghost use Rattle.spanprof_command.specs.Report.{out_of_memory, wrong_words};
 ghost use Rattle.large_command.specs.LargeCommand.{IsReport, wants_text};
@@ -68,19 +69,21 @@ pub fn start<H: AllocGlobal + Threads + Sync, R: Read, W: Write>(
     requires writer { faults_of writer.old < 2 ^ 63 }
     ensures given { IfOk words (λ given. ExitsWith (IsReport (map string_bytes given.items)
         (R.remaining (inner_of reader.old)) (R.remaining (inner_of reader.new)))
-        (HadFaults (faults_of reader.old) (faults_of reader.new))
+        (counts_of reader.old reader.new)
         (W.contents (inner_of writer.old)) (W.contents (inner_of writer.new))
-        (HadFaults (faults_of writer.old) (faults_of writer.new)) result) }
+        (counts_of writer.old writer.new) result) }
     ensures memory { IfErr words (λ error. error_kind error ≡ OutOfMemory → ExitsAfter out_of_memory
         (W.contents (inner_of writer.old)) (W.contents (inner_of writer.new))
-        (HadFaults (faults_of writer.old) (faults_of writer.new)) result) }
+        (counts_of writer.old writer.new) result) }
     ensures no_text { IfErr words (λ error. error_kind error ≢ OutOfMemory → ExitsAfter wrong_words
         (W.contents (inner_of writer.old)) (W.contents (inner_of writer.new))
-        (HadFaults (faults_of writer.old) (faults_of writer.new)) result) }
+        (counts_of writer.old writer.new) result) }
     ensures reads_nothing { OnErr words (reader.new ≡ reader.old) }
     ensures reads_for_words { IfOk words (λ given.
         wants_text (large_request_of (map string_bytes given.items)) ≡ false
         → reader.new ≡ reader.old) }
+    ensures reads_about { IfOk words (λ given. IfSome (about_of (map string_bytes given.items))
+        (λ about. reader.new ≡ reader.old)) }
 
     // In every case, as of `command`.
     ensures reads_so_much { ConsumesAtMost (LARGEST_TEXT + 1) (R.remaining (inner_of reader.old))

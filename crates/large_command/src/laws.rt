@@ -1,5 +1,5 @@
 //! Laws of the definitions.
-ghost use Rattle.std.specs.Prelude.{ℕ, ◌⊎◌, ◌<◌, ◌≤◌, ◌++◌, List};
+ghost use Rattle.std.specs.Prelude.{ℕ, ◌≡◌, ◌⊎◌, ◌<◌, ◌≤◌, ◌++◌, List};
 ghost use Rattle.greedy_sim.specs.Greedy.{IsGreedy, IsLegalOn};
 ghost use Rattle.large_command.specs.Lengths.{IsTooLong};
 ghost use Rattle.large_command.specs.OneReport.{HasOneReport, HasReport};
@@ -13,6 +13,12 @@ ghost use Rattle.task_segments.specs.Moments.{last_moment};
 ghost use Rattle.task_segments.specs.Precedence.{MustPrecede};
 ghost use Rattle.task_segments.specs.Schedule.{end_of};
 ghost use Rattle.task_segments.specs.Table.{costs_of, table_of};
+ghost use Rattle.large_command.specs.declared.text_input.TheConstants.{PIECE};
+
+/// At most so many bytes are read at once.
+pub fn limits()
+    ensures piece { PIECE ≡ 65_536 }
+{}
 
 /// What work and span say of p threads, for nested marks of any number. No legal schedule ends
 /// before the greater of the span and of work / p rounded up (`least`). No greedy one ends after

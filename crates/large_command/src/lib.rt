@@ -2,12 +2,14 @@
 //! and a status.
 #![tactic(auto)]
 
+mod about;
 mod answer;
 mod bound_rows;
 mod document_input;
 mod documents;
 mod engine;
 mod entry;
+mod graph_rows;
 pub mod laws;
 mod meter_answers;
 mod room;

@@ -7,6 +7,7 @@ ghost use Rattle.large_command.specs.TableReports.{SaysOfTable, TellsTable};
 ghost use Rattle.spanprof_command.specs.GreedyRuns.{SaysGreedyRun};
 
 use crate::answer::Answer;
+use crate::graph_rows::tell_graph;
 use crate::meter_answers::table_or_refusal;
 use command_words::large::TableRequest;
 use large_text::TextMeter;
@@ -65,6 +66,7 @@ fn say_of_table(
             let report = try_changes(alloc, changes.as_slice(), table)?;
             Ok(Answer::of_report(report))
         }
+        TableRequest::Graph => Ok(Answer::of_report(tell_graph(alloc, table)?)),
     }
 }
 

@@ -4,6 +4,7 @@ ghost use Rattle.counted_io.specs.Counted.{inner_of, faults_of};
 ghost use Rattle.counted_io.specs.Input.{ConsumesAtMost};
 ghost use Rattle.large_text.specs.declared.limits.TheConstants.{LARGEST_TEXT};
 ghost use Rattle.large_text.specs.Streamed.{HasTaken, KeepsText};
+ghost use Rattle.spanprof_command.specs.Command.{counts_of};
 ghost use Rattle.spanprof_command.specs.Finished.{SpendsRetries};
 ghost use Rattle.large_command.specs.TextInput.{ReadsTooLong, TakesText};
 
@@ -36,8 +37,8 @@ pub(crate) fn take_input<R: Read>(
     // In every case.
     ensures limited { ConsumesAtMost (LARGEST_TEXT + 1) (R.remaining (inner_of reader.old))
         (R.remaining (inner_of reader.new)) }
-    ensures retries { SpendsRetries InputFault.ReadFailed result (faults_of reader.old)
-        (faults_of reader.new) retries.old retries.new }
+    ensures retries { SpendsRetries InputFault.ReadFailed result (counts_of reader.old reader.new)
+        retries.old retries.new }
 {
     let mut piece = [0u8; PIECE];
     let mut room = Room::new();

@@ -1,5 +1,6 @@
 //! Laws of the definitions.
 ghost use Rattle.std.specs.Prelude.{ℕ, ◌≡◌, ◌-◌, ◌^◌, List};
+ghost use Rattle.program_text.specs.declared.limits.TheConstants.{LARGEST_STEP};
 ghost use Rattle.large_text.specs.LargeTexts.{HasOneLargeReading};
 ghost use Rattle.large_text.specs.declared.limits.TheConstants.{LARGEST_TEXT, LARGEST_LINE};
 ghost use Rattle.large_text.specs.declared.limits.TheConstants.{MOST_LARGE_TOKEN_BYTES};
@@ -8,6 +9,7 @@ ghost use Rattle.large_text.specs.declared.limits.TheConstants.{MOST_LARGE_TURNS
 
 /// The limits are these numbers.
 pub fn limits()
+    ensures step { LARGEST_STEP ≡ 2_000_001 }
     ensures text { LARGEST_TEXT ≡ 2 ^ 63 - 2 }
     ensures line { LARGEST_LINE ≡ 4_000_000_000 }
     ensures tokens { MOST_LARGE_TOKEN_BYTES ≡ 2 ^ 63 - 2 }

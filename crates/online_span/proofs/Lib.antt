@@ -18,9 +18,3 @@ pub mod Hiding
 pub mod States
 pub mod Greatest
 pub mod Measured
-pub mod Shifted
-pub mod Runs
-pub mod Folding
-pub mod Standing
-pub mod Plain
-pub mod Folds

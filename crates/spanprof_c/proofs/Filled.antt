@@ -1,9 +1,10 @@
 -- Lists that are filled place by place.
 use Rattle.std.proofs.Common.{ℕ, ◌+◌, ◌<◌, ◌≤◌, ◌≡◌, ◌∙◌, List, [], ◌∷◌, length, get_or, map, suc}
-use Rattle.std.proofs.Common.{◌≢◌, below_more, get_or-set_other, get_or-set_same, refl, set, sym, arith}
+use Rattle.std.proofs.Common.{◌++◌, below_more, refl, subst, sym, arith}
 use Rattle.std.specs.Prelude.{Contains}
-use Rattle.std.proofs.lemmas.List.{get_or-map, get_or_default, length-map, same_lists}
-use Rattle.greedy_sim.specs.Greedy.{IsGreedyEnd}
+use Rattle.std.proofs.lemmas.List.{get_or-map, get_or_append_left, get_or_default, get_or_push}
+use Rattle.std.proofs.lemmas.List.{length-map, length_push, same_lists}
+use Rattle.greedy_sim.specs.Greedy.{IsCurve, IsGreedyEnd}
 use Rattle.task_segments.specs.Schedule.{AreSegments, IsChain}
 
 -- two lists of numbers with the same number at each place
@@ -45,10 +46,14 @@ few_in_chain costs R (s ∷ rest) up inside linked =
 
 -- the end on one thread more
 pub one_more_end : (costs : List ℕ) (R : ℕ → ℕ → Type 0) (ends : List ℕ) (n end : ℕ)
-    → n < length ends
-    → ((k : ℕ) → k < n → IsGreedyEnd costs R (k + 1) (get_or ends k 0))
+    → IsCurve costs R n ends
     → IsGreedyEnd costs R (n + 1) end
-    → (k : ℕ) → k < n + 1 → IsGreedyEnd costs R (k + 1) (get_or (set ends n end) k 0)
-one_more_end costs R ends n end inside before here = below_more _ _
-    (λ k h. let ne : k ≢ n = omega arith in rw get_or-set_other (before k h))
-    (rw get_or-set_same here)
+    → IsCurve costs R (n + 1) (ends ++ end ∷ [])
+one_more_end costs R ends n end before here = record {
+  each = omega (arith, before.each, length_push ends end);
+  at_each = below_more _ _
+      (λ k h. subst (IsGreedyEnd costs R (k + 1))
+      (sym (get_or_append_left ends (end ∷ []) 0 k (omega (arith, h, before.each))))
+      (before.at_each k h))
+      (subst (IsGreedyEnd costs R (n + 1)) (sym (get_or_push ends end 0 n before.each)) here);
+}

@@ -1,5 +1,5 @@
 //! The account of a timed run.
-ghost use Rattle.std.specs.Prelude.{◌≡◌, ◌≤◌, IfErr, IfOk, MatchResult, OnOk, length};
+ghost use Rattle.std.specs.Prelude.{◌≡◌, ◌≤◌, IfErr, IfOk, MatchResult, OnErr, OnOk, length};
 ghost use Rattle.dispatch_core.specs.RecordedGraph.{Precedes};
 ghost use Rattle.time_accounts.specs.Faults.{IsTimesFault};
 ghost use Rattle.spanprof_c.specs.Refusals.{nowhere};
@@ -44,6 +44,7 @@ pub(crate) fn tell_account(
         readies.new told.new graph.now) }
     ensures refused { IfErr result (IsTimesFault (length graph.now.costs) (Precedes graph.now)
         region.threads region.first region.last times.now) }
+    ensures kept { OnErr result ((readies.new ≡ readies.old) × (told.new ≡ told.old)) }
 {
     dispatch_core::laws::is_graph(graph);
     let account = account_of(alloc, graph, region, times)?;

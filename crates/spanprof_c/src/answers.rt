@@ -1,6 +1,7 @@
 //! What calls tell of a graph.
-ghost use Rattle.std.specs.Prelude.{◌≡◌, ◌<◌, IfErr, OnOk, [], ◌∷◌, length};
+ghost use Rattle.std.specs.Prelude.{◌≡◌, ◌<◌, ◌≤◌, IfErr, IfOk, OnErr, OnOk, [], ◌∷◌, length};
 ghost use Rattle.dispatch_core.specs.RecordedGraph.{Precedes};
+ghost use Rattle.greedy_sim.specs.Greedy.{IsCurve};
 ghost use Rattle.greedy_sim.specs.declared.greedy.TheConstants.{MOST_THREADS};
 ghost use Rattle.span_analysis.specs.Findings.{AreFindings};
 ghost use Rattle.spanprof_c.specs.Programs.{OfText, source};
@@ -20,12 +21,14 @@ use span_analysis::analysis::{Analysis, analyse};
 use span_analysis::legal::is_legal;
 use span_analysis::span::span_of;
 use std::alloc::Global;
+use task_program::AllocFault;
 use task_segments::table::BoundedTable;
 
 /// The number of segments, the work and the span.
 pub(crate) fn measure(alloc: Global, graph: &Graph, told: &mut Measured) -> Result<(), Refusal>
     ensures done { OnOk result (Measures told.new graph.now.costs (Precedes graph.now)) }
     ensures refused { IfErr result (RefusesGraph 1 [] (length graph.now.costs)) }
+    ensures kept { OnErr result (told.new ≡ told.old) }
 {
     match span_of(alloc, graph) {
         Ok(span) => {
@@ -52,6 +55,8 @@ pub(crate) fn tell_analysis(
     ensures path { OnOk result (StandAtHead told.new.path_length path.old path.new) }
     ensures refused { IfErr result (RefusesGraph 1
         (length starts.old ∷ length slacks.old ∷ length path.old ∷ []) (length graph.now.costs)) }
+    ensures kept { OnErr result ((starts.new ≡ starts.old) × (slacks.new ≡ slacks.old)
+        × (path.new ≡ path.old) × (told.new ≡ told.old)) }
 {
     if some_other(graph.len(), &[starts.len(), slacks.len(), path.len()]) {
         return Err(Refusal::WrongLength);
@@ -104,6 +109,8 @@ pub(crate) fn tell_run(
         (Precedes graph.now)) }
     ensures refused { IfErr result (RefusesGraph count
         (length starts.old ∷ length threads.old ∷ []) (length graph.now.costs)) }
+    ensures kept { OnErr result ((starts.new ≡ starts.old) × (threads.new ≡ threads.old)
+        × (end.new ≡ end.old)) }
 {
     if some_other(graph.len(), &[starts.len(), threads.len()]) {
         return Err(Refusal::WrongLength);
@@ -125,17 +132,34 @@ pub(crate) fn tell_curve(alloc: Global, graph: &Graph, ends: &mut [u64]) -> Resu
     ensures done { OnOk result
         (Curves (length ends.old) ends.new graph.now.costs (Precedes graph.now)) }
     ensures refused { IfErr result (RefusesGraph (length ends.old) [] (length graph.now.costs)) }
+    ensures kept { OnErr result (ends.new ≡ ends.old) }
 {
     if ends.is_empty() || ends.len() > MOST_THREADS as usize {
         return Err(Refusal::ThreadCount);
     }
-    for place in 0..ends.len() {
-        match greedy(alloc, graph, place as u32 + 1) {
-            Ok(run) => ends[place] = run.end(),
-            Err(_) => return Err(Refusal::OutOfMemory),
+    match greedy_ends(alloc, graph, ends.len() as u32) {
+        Ok(found) => {
+            ends.copy_from_slice(found.as_slice());
+            Ok(())
+        }
+        Err(_) => Err(Refusal::OutOfMemory),
+    }
+}
+
+/// The ends of the greedy runs on 1 thread, on 2, and so on up to so many.
+fn greedy_ends(alloc: Global, graph: &Graph, count: u32) -> Result<Vec<u64>, AllocFault>
+    requires { count ≤ MOST_THREADS }
+    ensures { IfOk result (λ ends.
+        IsCurve graph.now.costs (Precedes graph.now) count ends.items) }
+{
+    let mut ends = Vec::new(alloc);
+    for threads in 0..count {
+        match greedy(alloc, graph, threads + 1) {
+            Ok(run) => ends.push(run.end())?,
+            Err(_) => return Err(AllocFault),
         }
     }
-    Ok(())
+    Ok(ends)
 }
 
 /// Whether the starts are a legal schedule.
@@ -157,6 +181,7 @@ pub(crate) fn list_segments(
         (OfText (source any_size text.now) (ListsSegments tasks.new costs.new)) }
     ensures refused { IfErr result (IsRefused (asked (source any_size text.now) [] 1
         (length tasks.old ∷ length costs.old ∷ []))) }
+    ensures kept { OnErr result ((tasks.new ≡ tasks.old) × (costs.new ≡ costs.old)) }
 {
     if any_size {
         match large_table(alloc, text) {
@@ -180,6 +205,7 @@ fn tell_segments<const SEGMENTS: u32, const TASKS: u32>(
     ensures done { OnOk result (ListsSegments tasks.new costs.new table.now) }
     ensures refused { IfErr result (RefusesGraph 1
         (length tasks.old ∷ length costs.old ∷ []) (length table.now.segments)) }
+    ensures kept { OnErr result ((tasks.new ≡ tasks.old) × (costs.new ≡ costs.old)) }
 {
     if some_other(table.len(), &[tasks.len(), costs.len()]) {
         return Err(Refusal::WrongLength);

@@ -1,5 +1,5 @@
 //! The check of a certificate.
-ghost use Rattle.std.specs.Prelude.{◌≡◌, ◌≤◌, IfErr, IfOk, MatchResult};
+ghost use Rattle.std.specs.Prelude.{◌≡◌, ◌≤◌, IfErr, IfOk, MatchResult, OnErr};
 ghost use Rattle.std.specs.Option.{option_copied};
 ghost use Rattle.spanprof_c.specs.Documents.{AcceptsRest, RefusesRest, checked_told};
 ghost use Rattle.spanprof_c.specs.Documents.{claim_number, claim_place};
@@ -37,6 +37,7 @@ pub(crate) fn tell_verdict(
         (λ fault. (1 ≤ result) × (result ≡ claim_number fault)
         × (place.new ≡ claim_place fault)) }
     ensures nowhere { result ≡ 0 → place.new ≡ nowhere }
+    ensures kept { OnErr verdict (told.new ≡ told.old) }
 {
     match verdict {
         Ok(checked) => {

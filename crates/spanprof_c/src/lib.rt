@@ -3,7 +3,7 @@
 //!
 //! A call answers 0 where its answer is there, and else the number of a refusal, as
 //! `include/spanprof.h` lists them. It has also written a place: the line of a text's fault, or the
-//! segments of another one, and else zeros. What else it was to fill may hold anything then.
+//! segments of another one, and else zeros. What else it was to fill is as it was then.
 //!
 //! A text is read as `spanprof` reads it, within the limits of programs, or as `spanprof_large` does,
 //! in version 1 and of any size.
@@ -58,6 +58,7 @@ pub extern "C" fn spanprof_measure(
     ensures done { result ≡ 0 → OnCosts (source any_size text.now) costs.now (Measures told.new) }
     ensures nowhere { result ≡ 0 → place.new ≡ nowhere }
     ensures refused { result ≢ 0 → TellsWhy (asked (source any_size text.now) costs.now 1 []) result place.new }
+    ensures kept { result ≢ 0 → told.new ≡ told.old }
 {
     match graph_under(alloc, text, any_size, costs) {
         Ok(graph) => tell(measure(alloc, &graph, told), place),
@@ -79,6 +80,7 @@ pub extern "C" fn spanprof_segments(
     ensures nowhere { result ≡ 0 → place.new ≡ nowhere }
     ensures refused { result ≢ 0 → TellsWhy
         (asked (source any_size text.now) [] 1 (length tasks.old ∷ length costs.old ∷ [])) result place.new }
+    ensures kept { result ≢ 0 → (tasks.new ≡ tasks.old) × (costs.new ≡ costs.old) }
 {
     tell(list_segments(alloc, text, any_size, tasks, costs), place)
 }
@@ -103,6 +105,8 @@ pub extern "C" fn spanprof_analyse(
     ensures nowhere { result ≡ 0 → place.new ≡ nowhere }
     ensures refused { result ≢ 0 → TellsWhy (asked (source any_size text.now) costs.now 1
         (length starts.old ∷ length slacks.old ∷ length path.old ∷ [])) result place.new }
+    ensures kept { result ≢ 0 → (starts.new ≡ starts.old) × (slacks.new ≡ slacks.old)
+        × (path.new ≡ path.old) × (told.new ≡ told.old) }
 {
     match graph_under(alloc, text, any_size, costs) {
         Ok(graph) => tell(
@@ -132,6 +136,7 @@ pub extern "C" fn spanprof_greedy(
     ensures nowhere { result ≡ 0 → place.new ≡ nowhere }
     ensures refused { result ≢ 0 → TellsWhy (asked (source any_size text.now) costs.now count
         (length starts.old ∷ length threads.old ∷ [])) result place.new }
+    ensures kept { result ≢ 0 → (starts.new ≡ starts.old) × (threads.new ≡ threads.old) × (end.new ≡ end.old) }
 {
     match graph_under(alloc, text, any_size, costs) {
         Ok(graph) => tell(tell_run(alloc, &graph, count, starts, threads, end), place),
@@ -153,6 +158,7 @@ pub extern "C" fn spanprof_curve(
     ensures nowhere { result ≡ 0 → place.new ≡ nowhere }
     ensures refused { result ≢ 0
         → TellsWhy (asked (source any_size text.now) costs.now (length ends.old) []) result place.new }
+    ensures kept { result ≢ 0 → ends.new ≡ ends.old }
 {
     match graph_under(alloc, text, any_size, costs) {
         Ok(graph) => tell(tell_curve(alloc, &graph, ends), place),
@@ -175,6 +181,7 @@ pub extern "C" fn spanprof_is_legal(
     ensures done { result ≡ 0 → OnCosts (source any_size text.now) costs.now (Judges starts.now legal.new) }
     ensures nowhere { result ≡ 0 → place.new ≡ nowhere }
     ensures refused { result ≢ 0 → TellsWhy (asked (source any_size text.now) costs.now 1 []) result place.new }
+    ensures kept { result ≢ 0 → legal.new ≡ legal.old }
 {
     match graph_under(alloc, text, any_size, costs) {
         Ok(graph) => {
@@ -209,6 +216,7 @@ pub extern "C" fn spanprof_account(
     ensures refused { result ≢ 0 → TellsNoAccount
         (asked (source any_size text.now) [] count (length readies.old ∷ [])) first last
         (timed_run threads.now begins.now ends.now) result place.new }
+    ensures kept { result ≢ 0 → (readies.new ≡ readies.old) × (told.new ≡ told.old) }
 {
     let graph = match graph_under(alloc, text, any_size, &[]) {
         Ok(graph) => graph,
@@ -245,6 +253,7 @@ pub extern "C" fn spanprof_check(
     ensures nowhere { result ≡ 0 → place.new ≡ nowhere }
     ensures refused { result ≢ 0
         → TellsNoCertificate any_size document.now result place.new }
+    ensures kept { result ≢ 0 → told.new ≡ told.old }
 {
     let Document { program, rest } = split_document(document);
     if any_size {
@@ -266,6 +275,7 @@ pub extern "C" fn spanprof_check(
 pub extern "C" fn spanprof_bounds(work: u64, span: u64, threads: u32, told: &mut Bounds) -> u32
     ensures done { result ≡ 0 → AreBounds work span threads told.new }
     ensures refused { result ≢ 0 → RefusesBounds work span threads result }
+    ensures kept { result ≢ 0 → told.new ≡ told.old }
 {
     if threads < 1 || threads > MOST_THREADS {
         return 15;

@@ -1,13 +1,13 @@
 -- A command ends as what it made says.
-use Rattle.std.proofs.Common.{◌≡◌, ◌≤◌, ◌∙◌, ◌-◌, ℕ, List, Option, Result, Ok, Err, ap, arith}
+use Rattle.std.proofs.Common.{◌≡◌, ◌≤◌, ◌∙◌, ℕ, List, Option, Result, Ok, Err, ap}
 use Rattle.std.proofs.Common.{inl, inr, refl, subst, sym, OnErr, OnOk}
 use Rattle.std.specs.Prelude.{IfOk}
 use Rattle.std.specs.Io.KnownBytes.{Appends}
 use Rattle.counted_io.proofs.Joined.{as_bytes}
-use Rattle.counted_io.specs.Counted.{faults_of, inner_of}
+use Rattle.counted_io.specs.Counted.{inner_of}
 use Rattle.counted_io.specs.Parts.{WritesText}
 use Rattle.counted_io.specs.declared.counted.Counted.{Counted}
-use Rattle.spanprof_command.specs.Command.{EndsWith, HadFaults, Sends, SendsWithin}
+use Rattle.spanprof_command.specs.Command.{Counts, EndsWith, Sends, SendsWithin, counts_of}
 use Rattle.spanprof_command.specs.Finished.{SpendsRetries, told}
 use Rattle.spanprof_command.specs.Report.{Report}
 use Rattle.spanprof_command.specs.declared.engine.TheConstants.{MOST_RETRIES}
@@ -41,17 +41,15 @@ line_told made fault text is says =
     ap told is ∙ fault_told fault ∙ ap of_text (sym says)
 
 pub sends_told : (made : Result Report NoReport) (output : Report) (retries left : ℕ)
-    (held held_after : Option (List ℕ)) (WriterFaults : ℕ → Type 0) (status : Status)
+    (held held_after : Option (List ℕ)) (writer : Counts) (status : Status)
     → told made ≡ output
     → left ≤ retries
-    → Sends output held held_after WriterFaults (retries - left) status
-    → SendsWithin retries (told made) held held_after WriterFaults status
-sends_told made output retries left held held_after WriterFaults status is few sent = record {
-  writes_again = retries - left;
-  few = omega arith;
-  sent = subst
-      (λ (report : Report).
-      Sends report held held_after WriterFaults (retries - left) status)
+    → Sends output held held_after writer retries left status
+    → SendsWithin retries (told made) held held_after writer status
+sends_told made output retries left held held_after writer status is few sent = record {
+  retries_after = left;
+  fewer = few;
+  sent = subst (λ (report : Report). Sends report held held_after writer retries left status)
       (sym is) sent;
 }
 
@@ -63,48 +61,34 @@ pub appends_told : (made : Result Report NoReport) (output : Report)
 appends_told made output held held_after is appends =
     subst (λ (report : Report). Appends held held_after report.text) (sym is) appends
 
-pub ends_as_made : (IsReport : Report → Type 0) (made : Result Report NoReport)
-    (faults faults_after left : ℕ) (held held_after : Option (List ℕ))
-    (WriterFaults : ℕ → Type 0) (status : Status)
+pub ends_as_made : (IsReport : Report → Type 0) (made : Result Report NoReport) (reader : Counts)
+    (left : ℕ) (held held_after : Option (List ℕ)) (writer : Counts) (status : Status)
     → IfOk made IsReport
-    → SpendsRetries ReadFault made faults faults_after MOST_RETRIES left
-    → SendsWithin left (told made) held held_after WriterFaults status
-    → EndsWith IsReport (HadFaults faults faults_after) held held_after WriterFaults status
-ends_as_made IsReport (Ok report) faults faults_after left held held_after WriterFaults status is
-    spent sent =
-    record {
-      output = report;
-      reads_again = 1000 - left;
-      writes_again = sent.writes_again;
-      few = omega (arith, spent.retried, sent.few);
-      intended = inl (record {
-        faults = omega (arith, spent.paid (λ e. cc), spent.retried);
-        says = inl is;
-      });
-      sent = sent.sent;
-    }
-ends_as_made IsReport (Err OutOfMemory) faults faults_after left held held_after WriterFaults
-    status is spent sent =
+    → SpendsRetries ReadFault made reader MOST_RETRIES left
+    → SendsWithin left (told made) held held_after writer status
+    → EndsWith IsReport reader held held_after writer status
+ends_as_made IsReport (Ok report) reader left held held_after writer status is spent sent = record {
+  output = report;
+  retries = left;
+  few = spent.retried;
+  intended = inl (record { faults = spent.tries_again (λ e. cc); says = inl is });
+  sent = sent;
+}
+ends_as_made IsReport (Err OutOfMemory) reader left held held_after writer status is spent sent =
     record {
       output = told (Err OutOfMemory);
-      reads_again = 1000 - left;
-      writes_again = sent.writes_again;
-      few = omega (arith, spent.retried, sent.few);
-      intended = inl (record {
-        faults = omega (arith, spent.paid (λ e. cc), spent.retried);
-        says = inr refl;
-      });
-      sent = sent.sent;
+      retries = left;
+      few = spent.retried;
+      intended = inl (record { faults = spent.tries_again (λ e. cc); says = inr refl });
+      sent = sent;
     }
-ends_as_made IsReport (Err ReadFault) faults faults_after left held held_after WriterFaults status
-    is spent sent =
+ends_as_made IsReport (Err ReadFault) reader left held held_after writer status is spent sent =
     record {
       output = told (Err ReadFault);
-      reads_again = 1000 - left;
-      writes_again = sent.writes_again;
-      few = omega (arith, spent.retried, sent.few);
-      intended = inr (record { faults = omega (arith, spent.failed refl, spent.retried); says = refl });
-      sent = sent.sent;
+      retries = left;
+      few = spent.retried;
+      intended = inr (record { faults = spent.failed refl; says = refl });
+      sent = sent;
     }
 
 -- a report of which the text was written so is sent
@@ -113,26 +97,19 @@ pub sends_text : {W T E : Type 0} (contents : W → Option (List ℕ)) (first se
     → WritesText contents first second retries left output.text answer
     → OnOk answer (status ≡ output.status)
     → OnErr answer (status ≡ Fault)
-    → SendsWithin retries output (contents (inner_of first)) (contents (inner_of second))
-    (HadFaults (faults_of first) (faults_of second)) status
-sends_text contents first second retries left output (Ok x) status wrote done fault = record {
-  writes_again = retries - left;
-  few = omega arith;
-  sent = inl (record {
-    faults = omega (arith, wrote.paid, wrote.retried);
-    wrote = wrote.whole;
-    answers = done;
-  });
-}
+    → Sends output (contents (inner_of first)) (contents (inner_of second))
+    (counts_of first second) retries left status
+sends_text contents first second retries left output (Ok x) status wrote done fault =
+    inl (record {
+      faults = record { paid = wrote.paid; tried_again = wrote.tried_again };
+      wrote = wrote.whole;
+      answers = done;
+    })
 sends_text contents first second retries left output (Err e) status wrote done fault =
     let part = as_bytes (contents (inner_of first)) (contents (inner_of second)) output.text
-    wrote.prefix in record {
-      writes_again = retries - left;
-      few = omega arith;
-      sent = inr (record {
-        faults = omega (arith, wrote.failed, wrote.retried);
-        answers = fault;
-        size = part.0;
-        wrote = part.1;
-      });
-    }
+    wrote.prefix in inr (record {
+      faults = record { paid = wrote.failed; gave_up = wrote.gave_up };
+      answers = fault;
+      size = part.0;
+      wrote = part.1;
+    })

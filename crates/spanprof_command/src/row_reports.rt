@@ -1,7 +1,7 @@
 //! Reports that are tables which give their rows one by one.
 ghost use Rattle.std.specs.Prelude.{◌≡◌, ◌≢◌, ◌+◌, ◌-◌, ◌^◌, ◌<◌, ◌≤◌, true, IfOk};
 ghost use Rattle.counted_io.specs.Counted.{faults_of, inner_of};
-ghost use Rattle.spanprof_command.specs.Command.{HadFaults, SendsWithin};
+ghost use Rattle.spanprof_command.specs.Command.{SendsWithin, counts_of};
 ghost use Rattle.spanprof_command.specs.Flushes.{FlushesOnce};
 ghost use Rattle.spanprof_command.specs.Report.{table_report};
 
@@ -35,7 +35,7 @@ pub fn finish_rows<const COLUMNS: usize, R: Rows<COLUMNS>, W: Write>(
     ensures sends { SendsWithin retries
         (table_report R.names (R.fields rows.now) (R.count rows.now))
         (W.contents (inner_of writer.old)) (W.contents (inner_of writer.new))
-        (HadFaults (faults_of writer.old) (faults_of writer.new)) result }
+        (counts_of writer.old writer.new) result }
     ensures flushes { FlushesOnce (result ≢ Status.Fault) writer.old writer.new }
 {
     let mut left = retries;

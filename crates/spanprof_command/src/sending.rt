@@ -2,7 +2,7 @@
 ghost use Rattle.std.specs.Prelude.{◌≡◌, ◌≢◌, ◌+◌, ◌-◌, ◌^◌, ◌<◌, ◌≤◌, Err, true};
 ghost use Rattle.std.specs.Io.KnownBytes.{Appends};
 ghost use Rattle.counted_io.specs.Counted.{inner_of, faults_of, flushes_of, is_flushed};
-ghost use Rattle.spanprof_command.specs.Command.{HadFaults, Sends, SendsWithin};
+ghost use Rattle.spanprof_command.specs.Command.{Sends, SendsWithin, counts_of};
 ghost use Rattle.spanprof_command.specs.Finished.{told};
 ghost use Rattle.spanprof_command.specs.Flushes.{FlushesOnce};
 ghost use Rattle.spanprof_command.specs.declared.sending.NoReport.TheVariants.{OutOfMemory};
@@ -39,7 +39,7 @@ pub fn finish<W: Write>(
     requires { faults_of writer.old + retries < 2 ^ 64 - 1 }
     ensures sends { SendsWithin retries (told made)
         (W.contents (inner_of writer.old)) (W.contents (inner_of writer.new))
-        (HadFaults (faults_of writer.old) (faults_of writer.new)) result }
+        (counts_of writer.old writer.new) result }
     ensures flushes { FlushesOnce (result ≢ Status.Fault) writer.old writer.new }
     // A text that is not whole is not flushed.
     ensures flushed_last { flushes_of writer.old < flushes_of writer.new
@@ -73,7 +73,7 @@ pub fn send<W: Write>(
     requires { faults_of writer.old + retries.old < 2 ^ 64 - 1 }
     ensures sends { Sends (record { text = text.now; status = status })
         (W.contents (inner_of writer.old)) (W.contents (inner_of writer.new))
-        (HadFaults (faults_of writer.old) (faults_of writer.new)) (retries.old - retries.new)
+        (counts_of writer.old writer.new) retries.old retries.new
         result }
     ensures retried { retries.new ≤ retries.old }
     ensures flushes { FlushesOnce (result ≢ Status.Fault) writer.old writer.new }

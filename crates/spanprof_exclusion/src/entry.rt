@@ -10,11 +10,25 @@ ghost use Rattle.spanprof_exclusion.specs.Report.{Judges, fault_report};
 use counted_io::{Counted, InputFault, LARGEST_INPUT, read_input, write_text};
 use exclusive_tasks::{Verdict, judge, verdict_text};
 use std::alloc::{AllocError, Global};
-use std::io::{Read, Write};
-use std::process::ExitCode;
+use std::io::{Eprint, Read, Write};
+use std::process::{ExitCode, Termination};
 
 /// So many interrupted reads and writes, together, are tried again.
 const MOST_RETRIES: u32 = 1000;
+
+/// How the program ended. `main` returns it, and only `start` makes one.
+#[derive(Drop)]
+pub struct Ended {
+    code: ExitCode,
+}
+
+impl Termination for Ended {
+    fn report<R: Eprint>(self, _rt: &R) -> ExitCode
+        ensures { result ≡ self.code }
+    {
+        self.code
+    }
+}
 
 const DONE: u8 = 0;
 
@@ -28,10 +42,11 @@ pub fn start<R: Read, W: Write>(
     alloc: Global,
     reader: &mut Counted<R>,
     writer: &mut Counted<W>,
-) -> ExitCode
+) -> Ended
     requires reader { faults_of reader.old < 2 ^ 63 }
     requires writer { faults_of writer.old < 2 ^ 63 }
-    ensures ends { Ends R.remaining reader.old reader.new W.contents writer.old writer.new result }
+    ensures ends { Ends R.remaining reader.old reader.new W.contents writer.old writer.new
+        result.code }
 
     // In every case.
     ensures reads_so_much { ConsumesAtMost (LARGEST_INPUT + 1) (R.remaining (inner_of reader.old))
@@ -40,8 +55,12 @@ pub fn start<R: Read, W: Write>(
 {
     let mut retries = MOST_RETRIES;
     match read_input(alloc, reader, LARGEST_INPUT, &mut retries) {
-        Ok(input) => tell(alloc, input.as_slice(), writer, &mut retries),
-        Err(fault) => refuse(fault, writer, &mut retries),
+        Ok(input) => Ended {
+            code: tell(alloc, input.as_slice(), writer, &mut retries),
+        },
+        Err(fault) => Ended {
+            code: refuse(fault, writer, &mut retries),
+        },
     }
 }
 

@@ -8,11 +8,10 @@
 mod entry;
 
 use counted_io::Counted;
-use entry::start;
+use entry::{Ended, start};
 use std::io;
-use std::process::ExitCode;
 
-fn main(rt: HostRuntime) -> ExitCode {
+fn main(rt: HostRuntime) -> Ended {
     let mut reader = Counted::new(rt.reader());
     let mut writer = Counted::new(io::writer(&rt));
     start(rt.alloc(), &mut reader, &mut writer)

@@ -1,11 +1,13 @@
 -- What a cutter that takes marks holds after one more of them.
 use Rattle.std.proofs.Common.{ℕ, ◌+◌, ◌-◌, ◌<◌, ◌≤◌, ◌≡◌, ◌∙◌, List, [], ◌∷◌, Some, length}
-use Rattle.std.proofs.Common.{get_or, map, reverse, drop, refl, sym, ap, arith, Bool, false}
+use Rattle.std.proofs.Common.{get_or, map, reverse, drop, take, ◌++◌, refl, sym, ap, arith, Bool, false}
 use Rattle.std.specs.Prelude.{Vec}
 use Rattle.std.specs.Global.{Global}
 use Rattle.std.specs.List.{slice_get, count_by}
 use Rattle.std.specs.Option.{option_map}
-use Rattle.std.proofs.lemmas.List.{get_or-reverse, length-reverse}
+use Rattle.std.proofs.lemmas.Grind.{take_at_read}
+use Rattle.std.proofs.lemmas.List.{get_or-reverse, length-map, length-reverse, reverse-append}
+use Rattle.std.proofs.lemmas.List.{take_all}
 use Rattle.std.proofs.lemmas.List.Sums.{sum_by-cons}
 use Rattle.std.proofs.lemmas.Option.{get_or_from_slice_get, slice_get-get_or, slice_get_within}
 use Rattle.program_text.specs.declared.statement.Item.{Item}
@@ -69,6 +71,48 @@ last_first groups group is =
     (get_or-reverse groups 0 group (omega (arith, inside))
     ∙ ap (λ (place : ℕ). get_or groups place group) at_end
     ∙ get_or_from_slice_get groups (length groups - 1) group group is)
+
+-- what was put last, and what stands before it
+pub last_leaves : {X : Type 0} (items : List X) (x : X)
+    → x ≡ get_or items (length items - 1) x
+    → 0 < length items
+    → reverse items ≡ x ∷ reverse (take (length items - 1) items)
+last_leaves items x is some =
+    let i = length items - 1 in
+    let next : length items ≡ i + 1 = omega (arith, some) in
+    let whole : items ≡ take i items ++ x ∷ [] =
+    sym (take_all (length items) items (omega arith))
+    ∙ ap (λ (n : ℕ). take n items) next
+    ∙ (take_at_read items i x (omega (arith, some))).1
+    ∙ ap (λ y. take i items ++ y ∷ []) (sym is) in
+    ap (λ xs. reverse xs) whole ∙ reverse-append (take i items) (x ∷ [])
+
+-- a group is open
+pub some_group : (c : MarkCutter) (e : List Mark)
+    → Tables c e
+    → 1 ≤ length (open_groups e)
+    → 0 < length c.groups.items
+some_group c e h some =
+    omega (
+      arith,
+      some,
+      ap (λ (groups : List GroupRow). length groups) h.groups,
+      length-map (open_groups e) held_group,
+      length-reverse c.groups.items,
+    )
+
+-- the running task has a parent
+pub some_outer : (c : MarkCutter) (e : List Mark)
+    → Tables c e
+    → 2 ≤ length (open_tasks e)
+    → 0 < length c.outer.items
+some_outer c e h some =
+    omega (
+      arith,
+      some,
+      ap (λ (tasks : List ℕ). length tasks) h.tasks,
+      length-reverse c.outer.items,
+    )
 
 abbrev first_before : List GroupRow → ℕ
 first_before [] = 0

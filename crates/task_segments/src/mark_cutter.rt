@@ -1,6 +1,6 @@
 //! The cutting of a program whose marks come one after another.
 ghost use Rattle.std.specs.Prelude.{◌≡◌, ◌<◌, ◌∷◌, [], false, IfOk, OnOk, List};
-ghost use Rattle.std.specs.Prelude.{◌↔◌, IsTrue};
+ghost use Rattle.std.specs.Prelude.{◌↔◌, IsTrue, OnErr};
 ghost use Rattle.task_program.specs.Marks.{Mark};
 ghost use Rattle.task_program.specs.Marks.Mark.{Begins, Ends, GroupBegins, GroupEnds, Waits, Works};
 ghost use Rattle.task_segments.specs.MarkCutting.{AreWithin, CanTake, IsWhole, Tables, HasRoomForOne};
@@ -80,8 +80,10 @@ impl MarkCutter {
     /// Takes a wait of the running task for its children.
     pub fn wait(&mut self) -> Result<(), AllocFault>
         requires { CanTake self.old Waits }
-        ensures { OnOk result ((moment : List Mark) → Tables self.old moment
+        ensures ok { OnOk result ((moment : List Mark) → Tables self.old moment
             → Tables self.new (Waits ∷ moment)) }
+        ensures err { OnErr result ((moment : List Mark) → Tables self.old moment
+            → Tables self.new moment) }
     {
         self.cutter.wait(self.running)
     }
@@ -89,34 +91,43 @@ impl MarkCutter {
     /// Takes the beginning of a group.
     pub fn begin_group(&mut self) -> Result<(), AllocFault>
         requires { CanTake self.old GroupBegins }
-        ensures { OnOk result ((moment : List Mark) → Tables self.old moment
+        ensures ok { OnOk result ((moment : List Mark) → Tables self.old moment
             → Tables self.new (GroupBegins ∷ moment)) }
+        ensures err { OnErr result ((moment : List Mark) → Tables self.old moment
+            → Tables self.new moment) }
     {
         let children_before = self.cutter.children(self.running);
+        self.groups.reserve(1)?;
         let number = self.cutter.begin_group()?;
-        self.groups.push(GroupRow {
+        self.groups.push_reserved(GroupRow {
             number,
             children_before,
-        })?;
+        });
         Ok(())
     }
 
     /// Takes the end of the innermost group.
     pub fn end_group(&mut self) -> Result<(), AllocFault>
         requires { CanTake self.old GroupEnds }
-        ensures { OnOk result ((moment : List Mark) → Tables self.old moment
+        ensures ok { OnOk result ((moment : List Mark) → Tables self.old moment
             → Tables self.new (GroupEnds ∷ moment)) }
+        ensures err { OnErr result ((moment : List Mark) → Tables self.old moment
+            → Tables self.new moment) }
     {
-        let group = self.groups.pop().unwrap();
+        let group = self.groups[self.groups.len() - 1];
         self.cutter
-            .end_group(self.running, group.number, group.children_before)
+            .end_group(self.running, group.number, group.children_before)?;
+        self.groups.pop();
+        Ok(())
     }
 
     /// Takes the beginning of a child of the running task.
     pub fn begin_task(&mut self, undeferred: bool, items: Items) -> Result<(), AllocFault>
         requires { CanTake self.old (Begins undeferred items) }
-        ensures { OnOk result ((moment : List Mark) → Tables self.old moment
+        ensures ok { OnOk result ((moment : List Mark) → Tables self.old moment
             → Tables self.new (Begins undeferred items ∷ moment)) }
+        ensures err { OnErr result ((moment : List Mark) → Tables self.old moment
+            → Tables self.new moment) }
     {
         let group = self.innermost();
         let statement = TaskStmt {
@@ -124,8 +135,9 @@ impl MarkCutter {
             items,
             body: Body::new(Vec::new(self.alloc)),
         };
+        self.outer.reserve(1)?;
         let child = self.cutter.begin_task(&statement, self.running, group)?;
-        self.outer.push(self.running)?;
+        self.outer.push_reserved(self.running);
         self.running = child;
         Ok(())
     }
@@ -133,12 +145,16 @@ impl MarkCutter {
     /// Takes the end of the running task.
     pub fn end_task(&mut self) -> Result<(), AllocFault>
         requires { CanTake self.old Ends }
-        ensures { OnOk result ((moment : List Mark) → Tables self.old moment
+        ensures ok { OnOk result ((moment : List Mark) → Tables self.old moment
             → Tables self.new (Ends ∷ moment)) }
+        ensures err { OnErr result ((moment : List Mark) → Tables self.old moment
+            → Tables self.new moment) }
     {
-        let parent = self.outer.pop().unwrap();
+        let parent = self.outer[self.outer.len() - 1];
+        self.cutter.end_task(parent)?;
+        self.outer.pop();
         self.running = parent;
-        self.cutter.end_task(parent)
+        Ok(())
     }
 
     // The innermost open group, by its number.

@@ -1,11 +1,18 @@
 //! Laws of the definitions.
-ghost use Rattle.std.specs.Prelude.{ℕ, ◌≡◌, ◌≢◌, ◌<◌, List, length};
+ghost use Rattle.std.specs.Prelude.{ℕ, ◌≡◌, ◌≢◌, ◌<◌, ◌-◌, ◌^◌, List, length};
 ghost use Rattle.time_text.specs.OneReading.{HasReading};
 ghost use Rattle.time_text.specs.TimesTexts.{IsTextFault, TellsTimes};
 ghost use Rattle.time_text.specs.declared.fault.TimeTextFault.{TimeTextFault};
 ghost use Rattle.time_text.specs.declared.fault.TimeTextFault.TheVariants.{OutOfMemory};
 ghost use Rattle.time_text.specs.declared.line.RegionTimes.{RegionTimes};
 ghost use Rattle.time_text.specs.declared.line.SegmentTimes.{SegmentTimes};
+ghost use Rattle.time_text.specs.declared.line.TheConstants.{LARGEST_NUMBER, LARGEST_MOMENT};
+
+/// The limits of a table of times are these numbers.
+pub fn limits()
+    ensures number { LARGEST_NUMBER ≡ 2 ^ 32 - 1 }
+    ensures moment { LARGEST_MOMENT ≡ 10 ^ 18 }
+{}
 
 /// Each text of one line or more tells the times of a run of so many segments, or has a fault.
 pub fn some_reading()

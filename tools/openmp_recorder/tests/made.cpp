@@ -4,7 +4,7 @@
 
 #include "../compose.hpp"
 #include "../events.hpp"
-#include "../fold.hpp"
+#include "../size.hpp"
 #include "../online_replay.hpp"
 #include "check.hpp"
 
@@ -82,6 +82,10 @@ Made &Made::passed(unsigned thread, int64_t wall, int64_t processor, bool slept,
   return *this;
 }
 
+Made &Made::sample(unsigned thread, uint32_t stack, uint32_t microseconds, bool slept) {
+  return add(thread, Told::Sample, 0, microseconds, slept).path(thread, stack);
+}
+
 std::vector<Records *> Made::from_the_beginning() {
   std::vector<Records *> all;
   for (auto &thread : threads) {
@@ -109,12 +113,18 @@ Region &only_region(Run &run) {
   Region &region = *run.regions.begin()->second;
   EXPECT(compose(region), true);
   add_up(region);
-  fold(region, {});
+  size_of(region);
   return region;
 }
 
+std::string whole_text(Region &region, const Style &style, const Places &places) {
+  std::string words;
+  tell_program(region, style, places, [&](std::string_view piece) { words += piece; });
+  return words;
+}
+
 std::string text_of(Region &region, const Style &style) {
-  std::string words = program_text(region, style, Places()).words;
+  std::string words = whole_text(region, style, Places());
   return words.substr(words.find('\n') + 1);
 }
 

@@ -37,6 +37,7 @@ class Made {
   Made &barrier(unsigned thread, uint32_t task);  // begins
   Made &passed(unsigned thread, int64_t wall, int64_t processor, bool slept,
                bool taken = false);  // until the next record
+  Made &sample(unsigned thread, uint32_t stack, uint32_t microseconds, bool slept = false);
   int64_t now() const { return time; }
   Run read(Ending ending = {}, const HowToRead &how = {});
   OnlineSums measure(const HowToRead &how);  // the same records, as a run that goes on
@@ -50,6 +51,7 @@ class Made {
 };
 
 DependItem item(ompt_dependence_type_t type, uint64_t address);
-Region &only_region(Run &run);  // composed and added up, without folds
+Region &only_region(Run &run);  // composed and added up
+std::string whole_text(Region &region, const Style &style, const Places &places);
 std::string text_of(Region &region, const Style &style = {});  // without its first line
 std::string events_of(Region &region);  // after its text

@@ -1,6 +1,5 @@
 // A region whose threads make tasks, before and after barriers.
 #include "../compose.hpp"
-#include "../fold.hpp"
 #include "../program_time.hpp"
 #include "check.hpp"
 #include "made.hpp"
@@ -82,7 +81,7 @@ TEST(parts_are_left_out_by_their_sum) {
 unsigned parts_written(Parts asked, int64_t cost) {
   Run run = Made(3).create(0, 1, 4).barrier(0, 1).barrier(2, 3).after(cost).barrier(1, 2).run(0, 1, 4, 5).read();
   Region &region = *run.regions.begin()->second;
-  EXPECT(compose(region, {asked, false}), true);
+  EXPECT(compose(region, asked), true);
   EXPECT(region.remarks.count(Remark::PartsLeftOut), asked == Parts::None && cost ? 1u : 0u);
   return region.root->part ? 1 : region.root->children;
 }
@@ -98,23 +97,6 @@ TEST(parts_with_tasks_come_first) {
   Run run = Made(2).after(4).create(1, 2, 3).barrier(0, 1).barrier(1, 2).run(0, 1, 3, 5).read();
   EXPECT(text_of(only_region(run)),
          "taskgroup {\n" + part + "    work 4\n    task {\n      work 5\n    }\n  }\n" + part + "    work 4\n  }\n}\n");
-}
-
-TEST(what_the_commands_have_no_room_for_is_left_out_and_remarked) {
-  const unsigned steps = 2 * most_tasks;
-  Made made;
-  made.create(0, 1, 2);
-  for (unsigned i = 0; i < steps; i++)
-    made.add(0, Told::SyncBegin, 1, 0, ompt_sync_region_barrier_explicit)
-        .add(0, Told::SyncEnd, 1, 0, ompt_sync_region_barrier_explicit)
-        .after(10);
-  Run run = made.barrier(0, 1).run(0, 1, 2, 5).read();
-  Region &region = *run.regions.begin()->second;
-  EXPECT(compose(region), true);
-  EXPECT(region.root->children, most_tasks - 2);
-  EXPECT(region.remarks[Remark::PartsLeftOut].times > most_tasks - 100, true);
-  add_up(region);
-  EXPECT(over_the_limits(fold(region, {}), 1).what, "");
 }
 
 TEST(the_runtimes_own_region_is_no_code) {

@@ -39,14 +39,13 @@ struct Sums {
   uint64_t segments = 0, tasks = 0;
 };
 
-Sums sums_of(Region &region, const Folds &folds) {
+Sums sums_of(Region &region) {
   RootEnds ends;
   LocationEnds locations;
   Size size;
-  if (region.before) region.before->folds = folds;
   each_part(region, [&](Region &part) {
     add_up(part);
-    Size own = fold(part, folds);
+    Size own = size_of(part);
     span_of(part, locations);
     ends.add(*part.root);
     size.add(own);
@@ -54,8 +53,8 @@ Sums sums_of(Region &region, const Folds &folds) {
   return {ends.span(), size.total, size.segments, size.tasks};
 }
 
-void expect_same(Run &few, Run &all, const Folds &folds) {
-  Sums some = sums_of(*few.whole, folds), every = sums_of(*all.whole, folds);
+void expect_same(Run &few, Run &all) {
+  Sums some = sums_of(*few.whole), every = sums_of(*all.whole);
   EXPECT(some.span, every.span);
   EXPECT(some.work, every.work);
   EXPECT(some.segments, every.segments);
@@ -70,7 +69,7 @@ TEST(what_is_over_is_let_go_with_its_text) {
   EXPECT(few.whole->before != nullptr, true);
   EXPECT(few.whole->tasks.size() < all.whole->tasks.size() / 2, true);
   EXPECT(few.whole->before->tasks + few.whole->before->chunks.back() > 10, true);
-  for (Folds folds : {Folds{}, Folds{1, 0, 0}, Folds{0, 1500, 0}, Folds{0, 0, 2}}) expect_same(few, all, folds);
+  expect_same(few, all);
 }
 
 TEST(sums_of_what_is_let_go_are_those_of_what_is_held) {
@@ -98,7 +97,7 @@ TEST(places_of_what_is_let_go_stand_in_the_head) {
   Run &few = made.let_go();
   each_stretch(*few.whole, [&](Region &stretch) {
     add_up(stretch);
-    fold(stretch, {});
+    size_of(stretch);
     few.whole->before->take_sums(stretch, 1);
   });
   std::vector<const void *> codes = codes_of(*few.whole);

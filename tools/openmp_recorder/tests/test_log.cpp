@@ -1,4 +1,7 @@
 // Logs as the recorder's library leaves them, also where it was killed.
+#include <fcntl.h>
+#include <sys/file.h>
+#include <sys/stat.h>
 #include <unistd.h>
 
 #include <cstdio>
@@ -36,8 +39,8 @@ class MadeLog {
  public:
   MadeLog() {
     char name[] = "/tmp/spanprof-test-XXXXXX";
-    folder = std::string(mkdtemp(name)) + "/out.log";
-    if (system(("mkdir " + folder).c_str())) throw std::runtime_error("no folder");
+    folder = std::string(mkdtemp(name)) + "/out.spanprof/log";
+    if (system(("mkdir -p " + folder).c_str())) throw std::runtime_error("no folder");
     std::memcpy(head.magic, log_form::magic, sizeof head.magic);
     head.version = log_form::version;
     head.record_bytes = log_form::bytes_by_wall;
@@ -45,7 +48,7 @@ class MadeLog {
     write(log_form::modules_file, nullptr, 0);
   }
   ~MadeLog() {
-    if (system(("rm -r " + folder.substr(0, folder.rfind('/'))).c_str())) std::perror("rm");
+    if (system(("rm -r " + folder.substr(0, folder.rfind("/out"))).c_str())) std::perror("rm");
   }
   void full(std::vector<RawRecord> records) { write("/thread.0", records.data(), records.size() * sizeof(RawRecord)); }
   void last(std::vector<RawRecord> records) {
@@ -175,13 +178,34 @@ TEST(a_log_without_paths_is_of_the_version_before) {
   EXPECT(log.records().size(), 1u);
 }
 
-TEST(a_log_of_an_earlier_run_goes_with_its_paths) {
+TEST(a_recording_of_an_earlier_run_stays) {
   MadeLog log;
-  log.paths("4010a0 4020b0\n");
-  log.last({raw(10, Told::Schedule, 1, 2)});
   log.open();
-  remove_old_files(log.folder.substr(0, log.folder.rfind(".log")), INT64_MAX);
-  EXPECT(access(log.folder.c_str(), F_OK), -1);
+  std::string name = log.folder.substr(0, log.folder.rfind(".spanprof/")), own = name + ".child7";
+  EXPECT(free_folder(name + "x", own, false, 0), name + "x.spanprof");
+  EXPECT(free_folder(name, own, false, INT64_MAX), name + "-2.spanprof");
+  EXPECT(free_folder(name, own, false, 0), own + ".spanprof");  // it is of this run
+  EXPECT(free_folder(name, own, true, INT64_MAX), own + ".spanprof");
+  int head = open((log.folder + log_form::head_file).c_str(), O_RDONLY);
+  flock(head, LOCK_SH);
+  EXPECT(free_folder(name, own, false, INT64_MAX), own + ".spanprof");  // its program still runs
+  close(head);
+  if (system(("mkdir " + name + "-2.spanprof " + own + ".spanprof").c_str())) throw std::runtime_error("no folder");
+  EXPECT(free_folder(name, own, false, INT64_MAX), name + "-3.spanprof");
+  EXPECT(free_folder(name, own, true, INT64_MAX), own + "-2.spanprof");
+}
+
+// It may seem to begin later than the process did.
+TEST(a_program_that_a_process_goes_over_to_has_a_log_of_its_own) {
+  MadeLog log;
+  log.head.process = static_cast<uint32_t>(getpid());
+  log.open();
+  std::string name = log.folder.substr(0, log.folder.rfind(".spanprof/")), own = name + ".child7";
+  struct stat about {};
+  EXPECT(stat((log.folder + log_form::head_file).c_str(), &about), 0);
+  int64_t made = int64_t{about.st_mtim.tv_sec} * 1000000000 + about.st_mtim.tv_nsec;
+  EXPECT(free_folder(name, own, false, made + 9000000), own + ".spanprof");
+  EXPECT(free_folder(name, own, false, made + 11000000), name + "-2.spanprof");
 }
 
 TEST(full_blocks_come_before_the_last_one) {
@@ -257,10 +281,12 @@ TEST(what_is_no_log_is_refused) {
     }
     return "";
   };
-  MadeLog other, later;
+  MadeLog other, later, empty;
   other.head.magic[0] = 'X';
+  empty.head = {};
   later.head.version = 5;
   EXPECT(why(other), "no log of the recorder");
+  EXPECT(why(empty), "the program ended before recording began");
   EXPECT(why(later), "version 5 of the log, and this is for version 4");
 }
 

@@ -1,7 +1,8 @@
 // A run that is measured while it goes on: work and span are those of its text, by an oracle of their own.
 #include <random>
 
-#include "../fold.hpp"
+#include "../size.hpp"
+#include "../log_damage.hpp"
 #include "../online_sums.hpp"
 #include "../online_task.hpp"
 #include "../whole_program.hpp"
@@ -21,7 +22,7 @@ class Program : public Made {
   Numbers of_the_text() {
     Run run = read({}, {UINT64_MAX, true, 900, now()});
     finish_whole(run, {0, true, 900, now()}, 1);
-    fold(*run.whole, {});
+    size_of(*run.whole);
     return numbers_of(text_of(*run.whole));
   }
 };
@@ -57,6 +58,18 @@ TEST(serial_code_and_regions_are_measured) {
   expect_as_text(made, "0 107 107");
   EXPECT(made.measured().serial.work, 107);
   EXPECT(made.measured().regions, 1u);
+}
+
+TEST(an_implicit_task_without_a_number_is_refused) {
+  Program made;
+  made.add(0, Told::ImplicitBegin, 0, 0, is_initial);
+  std::string why;
+  try {
+    made.measured();
+  } catch (const DamagedLog &damage) {
+    why = damage.what();
+  }
+  EXPECT(why, "an implicit task without a number begins");
 }
 
 TEST(tasks_run_beside_their_maker) {

@@ -101,6 +101,19 @@ TEST(a_wait_for_dependences_and_an_undeferred_task_are_one) {
   EXPECT(text_of(only_region(run)), "task if(0) depend(in: a0) {\n  work 5\n}\nwork 1\n");
 }
 
+TEST(a_wait_that_is_told_alone_and_an_undeferred_task_are_two) {
+  Run run = Made()
+                .create(0, 1, 0, is_taskwait | is_undeferred | is_alone, 100)
+                .depend(0, 0, {item(ompt_dependence_type_in, 64)})
+                .go(0, 1, 0, ompt_taskwait_complete)
+                .create(0, 1, 2, is_undeferred, 120)
+                .run(0, 1, 2, 5)
+                .after(1)
+                .barrier(0, 1)
+                .read();
+  EXPECT(text_of(only_region(run)), "task if(0) depend(in: a0) {\n}\ntask if(0) {\n  work 5\n}\nwork 1\n");
+}
+
 TEST(a_wait_for_dependences_alone_is_an_empty_task) {
   Run run = Made()
                 .create(0, 1, 2)
@@ -260,6 +273,15 @@ TEST(what_ordered_turns_wait_for_is_remarked) {
   Region &region = only_region(run);
   EXPECT(region.remarks[Remark::BetweenTurns].times, 1u);
   EXPECT(region.remarks.count(Remark::UnknownItem), 0u);
+}
+
+TEST(items_beyond_the_limit_are_left_out) {
+  std::vector<DependItem> items;
+  for (uint64_t address = 1; address <= 40; address++) items.push_back(item(ompt_dependence_type_in, address));
+  Run run = Made().create(0, 1, 2).depend(0, 2, items).run(0, 1, 2, 1).barrier(0, 1).read();
+  Region &region = only_region(run);
+  EXPECT(region.tasks.back().items.size(), 32u);
+  EXPECT(region.remarks[Remark::ItemsLeftOut].times, 8u);
 }
 
 TEST(tasks_outside_of_regions_are_counted) {

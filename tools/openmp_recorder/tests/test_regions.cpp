@@ -47,6 +47,7 @@ TEST(regions_are_told_in_the_order_of_time) {
     Region &region = *(run.regions[number] = std::make_unique<Region>());
     region.code = &codes[number == 2];
     region.threads = 4;
+    region.asked = 8;
     region.created = 10 * number + number;
     region.chunks = number;  // which are no tasks of the program
     region.cost = 7 * number;
@@ -59,6 +60,7 @@ TEST(regions_are_told_in_the_order_of_time) {
   places.put(&codes[0], "steps.c:9");
   EXPECT(codes_of_regions(run).size(), 2u);
   EXPECT(region_table(run, {500, 1500, 80}, places),
-         "number,text,begin_ns,end_ns,threads,tasks,loops,code_ns,inside,place\n0,0,0,1000,1,0,0,80,0,\n"
-         "1,0,300,350,4,30,2,21,0,steps.c:9\n2,1,400,450,4,20,0,14,0,\n3,0,500,1000,4,10,0,7,1,steps.c:9\n");
+         "number,text,begin_ns,end_ns,threads,asked,tasks,loops,code_ns,inside,place\n0,0,0,1000,1,0,0,0,80,0,\n"
+         "1,0,300,350,4,8,30,2,21,0,steps.c:9\n2,1,400,450,4,8,20,0,14,0,\n"
+         "3,0,500,1000,4,8,10,0,7,1,steps.c:9\n");
 }

@@ -15,7 +15,7 @@ TEST(each_remark_moves_a_number_or_says_that_it_does_not) {
     EXPECT(names.insert(line.name).second, true);
     bool moves = line.work != Moved::Not || line.span != Moved::Not;
     bool tells_of_places = line.remark == Remark::LineOfAnother || line.remark == Remark::LinesOfGcc;
-    EXPECT(moves, line.remark != Remark::FoldedExactly && !tells_of_places);
+    EXPECT(moves, !tells_of_places);
   }
 }
 
@@ -25,7 +25,6 @@ TEST(a_remark_as_json) {
   EXPECT(remark_in_json(Remark::Detach, seen, Places()), "{\"remark\": \"detach\", \"times\": 1, \"span\": \"low\"}");
   EXPECT(remark_in_json(Remark::RoundedDown, seen, Places()),
          "{\"remark\": \"rounded down\", \"work\": \"low\", \"span\": \"either\"}");
-  EXPECT(remark_in_json(Remark::FoldedExactly, seen, Places()), "{\"remark\": \"folded exactly\", \"times\": 1}");
 }
 
 // Where the truth of each is known: what is left out makes less, what is ordered or counted twice makes more.
@@ -36,10 +35,9 @@ TEST(the_direction_of_each_remark) {
     all.insert(remarks);
     for (Remark remark : remarks) EXPECT(line_of(remark).work == work && line_of(remark).span == span, true);
   };
-  moves({Remark::OneThread, Remark::MutexAsInOut, Remark::UnknownItem, Remark::TurnsTogether, Remark::Folded}, Not,
-        High);
-  moves({Remark::MutexInOutSet, Remark::MutexBeside, Remark::AllMemory, Remark::Detach, Remark::UnseenDetach,
-         Remark::EqualTurns, Remark::HeldLock},
+  moves({Remark::OneThread, Remark::MutexAsInOut, Remark::UnknownItem, Remark::TurnsTogether}, Not, High);
+  moves({Remark::MutexInOutSet, Remark::MutexBeside, Remark::AllMemory, Remark::ItemsLeftOut, Remark::Detach,
+         Remark::UnseenDetach, Remark::EqualTurns, Remark::HeldLock},
         Not, Low);
   moves({Remark::Target, Remark::UnseenTarget, Remark::NestedWaits, Remark::LeftInside, Remark::RecordsFull,
          Remark::Unfinished, Remark::ToldElsewhere, Remark::PartsLeftOut, Remark::OtherThread, Remark::Slept},
@@ -49,6 +47,6 @@ TEST(the_direction_of_each_remark) {
   moves({Remark::Cancel, Remark::WaitsForTurns}, Either, Either);
   moves({Remark::RoundedDown}, Low, Either);
   moves({Remark::RoundedUp, Remark::BetweenTurns}, High, Either);
-  moves({Remark::FoldedExactly, Remark::LineOfAnother, Remark::LinesOfGcc}, Not, Not);
+  moves({Remark::LineOfAnother, Remark::LinesOfGcc}, Not, Not);
   EXPECT(all.size(), all_remarks);
 }

@@ -14,7 +14,7 @@
 
 extern "C" char __start_made_runtime[], __stop_made_runtime[];  // by the linker
 
-CodeRange runtime_code;
+CodeRange runtime_code, recorder_code;
 
 namespace {
 #define APART __attribute__((noinline))

@@ -78,6 +78,8 @@ class Appended {
   // What makes a task is the one that was gone over to last, but for each hundredth.
   static uint32_t task_of(uint32_t number) { return number % 100 ? 5 + number - (number % 3 == 1) : 3; }
   static uint64_t place_of(uint32_t number) { return 90 + number / 1000; }
+
+ public:
   log_form::Head head{};
 };
 }  // namespace
@@ -98,6 +100,22 @@ static uint32_t records_in_a_block() {
   uint32_t count = 0;
   while (!made.bytes_in_file()) made.append(log, count++);
   return count - 1;
+}
+
+TEST(time_before_the_first_record_is_appended_behind_it) {
+  Appended made(false);
+  ThreadLog log(0);
+  made.append(log, 0);
+  Look loaded{{1000, 300}, 1, 0}, met{{1000 + 2 * far_apart, 500}, 2, 0};
+  log.look_back(loaded, met, {beginning, 0});
+  ThreadReader reader(place.folder + "/thread.0", 0, made.head);
+  EXPECT(reader.next()->told() == Told::Create, true);
+  const Record *passed = reader.next();
+  EXPECT(passed && passed->told() == Told::Passed, true);
+  EXPECT(passed->passed.wall, 2 * far_apart);
+  EXPECT(passed->passed.processor, 200);
+  EXPECT(passed->passed.slept, true);
+  EXPECT(passed->passed.taken, false);
 }
 
 TEST(most_records_take_eight_bytes) { EXPECT(records_in_a_block() > log_form::block_bytes / 8 * 9 / 10, true); }

@@ -1,7 +1,5 @@
 // The whole program as one text.
 #include "../events.hpp"
-#include "../exact.hpp"
-#include "../fold.hpp"
 #include "../head.hpp"
 #include "../program_time.hpp"
 #include "../span.hpp"
@@ -73,6 +71,48 @@ TEST(pieces_of_a_chunk_share_its_time_and_are_made_at_once) {
                        "11 0 100 100\n12 0 11104 11104\n");
 }
 
+TEST(what_makes_the_pieces_of_a_later_chunk_stands_where_the_first_chunk_began) {
+  Program made;
+  loop(made.after(4), 0, 4, {{2, 4 * us}, {2, 6 * us}});
+  end_region(made);
+  EXPECT(made.times(), "0 0 0 100\n1 0 100 104\n2 0 104 2104\n3 0 104 104\n4 0 2104 4104\n5 0 104 104\n"
+                       "6 0 4104 7104\n7 0 104 104\n8 0 7104 10104\n9 0 104 104\n10 0 10104 10104\n"
+                       "11 0 100 100\n12 0 10104 10104\n");
+}
+
+TEST(pieces_have_their_times_in_a_text_of_any_size_too) {
+  Program made;
+  loop(made.after(4), 0, 4, {{3, 6 * us}, {1, 5 * us}});
+  end_region(made);
+  Events few = event_lines((made.times(), *made.found.whole));
+  tell_program(*made.found.whole, {1, false, true, true}, Places(), [](std::string_view) {});
+  Events many = event_lines(*made.found.whole);
+  EXPECT(many.whole, true);
+  EXPECT(times_table(many), times_table(few));
+}
+
+TEST(time_off_the_processor_is_told_by_segment) {
+  Program made;
+  made.after(50 * us).passed(0, 50 * us, 20 * us, true).add(0, Told::SyncBegin, 1, 0, ompt_sync_region_taskwait);
+  made.add(0, Told::SyncEnd, 1, 0, ompt_sync_region_taskwait).add(0, Told::Divided, 4, 1, 0, 50);
+  made.add(0, Told::Chunk, 4).after(80 * us).passed(0, 80 * us, 40 * us, true, true).add(0, Told::DividedEnd, 0, 1);
+  end_region(made);
+  made.times();
+  EXPECT(off_lines(*made.found.whole, made.found.whole->off),
+         "1 30000 0\n3 0 10000\n5 0 10000\n7 0 10000\n9 0 10000\n");
+}
+
+TEST(time_off_the_processor_in_chunks_that_are_joined_is_of_the_first) {
+  Program made;
+  loop(made, 0, 3, {{1, 300}, {1, 400}});
+  made.add(0, Told::Divided, 1, 1, 0, 50).add(0, Told::Chunk, 1).after(900).add(0, Told::Chunk, 1).after(90);
+  made.passed(0, 60 * us, 40 * us, true).add(0, Told::DividedEnd, 0, 1);
+  end_region(made);
+  std::string times = made.times();
+  EXPECT_PART(times, "\n5 0 800 1790\n");
+  EXPECT(off_lines(*made.found.whole, made.found.whole->off), "5 90 0\n");  // no more than the segment's time
+}
+
 TEST(chunks_that_are_written_together_ran_from_the_first_to_the_last) {
   Program made(2);
   loop(made.after(4), 0, 3, {{1, 300}, {1, 400}, {1, 500}});
@@ -132,7 +172,7 @@ TEST(turns_have_the_place_of_their_loop) {
   made.whole();
   Places places;
   places.put(reinterpret_cast<const void *>(50), "tri.c:9");
-  std::string words = program_text(*made.found.whole, {}, places).words;
+  std::string words = whole_text(*made.found.whole, {}, places);
   EXPECT_PART(words, "taskgroup {  # the loop at tri.c:9\n      task {  # turns of the loop at tri.c:9\n");
 }
 
@@ -279,22 +319,6 @@ TEST(by_the_processors_clock_it_has_its_code_outside_of_regions) {
   EXPECT_PART(words, part + "  work 1004\n  taskgroup {\n    " + part + "      work 6\n    }\n  }\n  work 5\n}\n");
 }
 
-TEST(exact_folds_keep_work_and_span_of_pieces) {
-  Program made(2);
-  for (unsigned thread : {0, 1}) loop(made.after(3), thread, 200, {{50, 100 * us}, {1, 7 * us}, {49, 98 * us}});
-  end_region(made, 2);
-  Region &whole = *made.whole().whole;
-  int64_t span = span_of(whole);
-  for (uint64_t together : {0, 1, 2, 4, 60, 1000}) {
-    Region folded;
-    EXPECT(fold_together(whole, together, folded), true);
-    add_up(folded);
-    fold(folded, {});
-    EXPECT(folded.root->total, whole.root->total);
-    EXPECT(span_of(folded), span);
-  }
-}
-
 TEST(chunks_that_are_shorter_than_a_piece_are_one_with_those_after_them) {
   Program made;
   loop(made, 0, 7, {{1, 400}, {1, 400}, {1, 400}, {1, 3 * us}, {1, 100}, {1, 200}, {1, 2 * us}});
@@ -330,6 +354,24 @@ TEST(turns_that_wait_for_each_other_are_tasks_with_depend) {
   EXPECT_PART(words, "  task depend(in: a0) depend(inout: a2) depend(out: a3) {  # turns of the loop\n    work 5000\n");
   EXPECT(made.found.whole->root->total, 100 + 9 * us + 1 * us + 4 * us);  // the last: what the first thread does then
   EXPECT(made.found.whole->remarks[Remark::WaitsForTurns].times, 1u);
+  EXPECT(made.found.whole->has_events, true);
+  std::string times = made.times();
+  EXPECT_PART(times, "\n5 0 100 5100\n");  // from where its chunk began
+  EXPECT_PART(times, "\n9 1 100 1100\n");  // without its wait for the other
+  EXPECT_PART(times, "\n11 1 5100 9100\n");
+}
+
+TEST(a_turn_in_order_ends_where_the_next_begins_though_it_is_told_later) {
+  Program made(2);
+  for (unsigned thread : {0, 1}) made.add(thread, Told::Divided, 2, 1, 0, 50).add(thread, Told::Chunk, 1);
+  made.after(3 * us).add(0, Told::LockGot, 7, 0, order_of_turns).after(2 * us);
+  made.add(1, Told::LockGot, 7, 0, order_of_turns).after(us).add(0, Told::LockLeft, 7, 0, order_of_turns);
+  made.after(us).add(1, Told::LockLeft, 7, 0, order_of_turns);
+  for (unsigned thread : {0, 1}) made.add(thread, Told::DividedEnd, 0, 1).barrier(thread, 1 + thread);
+  made.add(0, Told::ParallelEnd, 0, 1);
+  std::string times = made.times();
+  EXPECT_PART(times, " 0 3100 5100\n");
+  EXPECT_PART(times, " 1 5100 7100\n");
 }
 
 TEST(turns_that_take_a_lock_in_order_are_a_chain_there) {

@@ -6,7 +6,7 @@
 
 #include "../events.hpp"
 #include "../files.hpp"
-#include "../fold.hpp"
+#include "../size.hpp"
 #include "../head.hpp"
 #include "../merge.hpp"
 #include "../modules.hpp"
@@ -26,7 +26,7 @@ TEST(costs_are_in_the_unit_and_rounded) {
   Run run = two_tasks();
   Region &region = only_region(run);
   EXPECT(text_of(region, {1000, false}), "work 1\ntask {\n  work 3\n}\n");
-  EXPECT(program_text(region, {1000, false}, Places()).work, 4);
+  EXPECT(work_in_units(region, 1000), 4);
 }
 
 TEST(a_large_text_is_told_piece_by_piece_and_not_indented) {
@@ -53,8 +53,6 @@ TEST(the_work_is_that_of_the_lines) {
   Region &region = only_region(run);
   EXPECT(work_in_units(region, 1), 3999);
   EXPECT(work_in_units(region, 1000), 1 + 3);
-  fold(region, {0, 9999, 0});
-  EXPECT(work_in_units(region, 1000), 4);
 }
 
 TEST(deeply_nested_tasks_are_written_line_by_line) {
@@ -71,7 +69,7 @@ TEST(deeply_nested_tasks_are_written_line_by_line) {
     maker = &child;
   }
   add_up(region);
-  EXPECT(fold(region, {}).blocks, deep);
+  EXPECT(size_of(region).blocks, deep);
   size_t bytes = 0, pieces = 0;
   tell_program(region, {1, false, true, false}, Places(),
                [&](std::string_view piece) { bytes += piece.size(), pieces++; });
@@ -95,11 +93,12 @@ bool ends_where_six_bytes_fit(const std::string &name) {
   return ends;
 }
 
-TEST(a_new_file_stays_only_where_all_is_written) {
+TEST(a_new_file_is_there_only_where_all_is_written) {
   std::string name = "/tmp/spanprof_recorder_test." + std::to_string(getpid());
   NewFile whole(name);
   whole.put("four");
   whole.put("two");
+  EXPECT(access(name.c_str(), F_OK), -1);  // it has its name once it is whole
   EXPECT(whole.end(), true);
   EXPECT(access(name.c_str(), F_OK), 0);
   EXPECT(ends_where_six_bytes_fit(name), false);
@@ -156,7 +155,7 @@ TEST(the_head_tells_what_other_programs_took) {
   const Task *root = region.root, *task = &region.tasks.back();
   region.preempted = {{root, 0, 100}, {task, 0, 300}, {root, 0, 50}, {task, 9, 400}};
   EXPECT(head_of(region, {}, Options(), Places()).find("preempted"), std::string::npos);  // no text is written
-  program_text(region, {1, false, false, true}, Places());
+  text_of(region, {1, false, false, true});
   EXPECT_PART(head_of(region, {}, Options(), Places()), "# preempted: [[1, 300], [0, 150]]\n");
 }
 
@@ -236,31 +235,13 @@ TEST(locks_that_take_a_hundredth_are_remarked) {
   EXPECT(region.remarks[Remark::HeldLock].times, 4u);
 }
 
-TEST(lengths_are_limited) {
-  EXPECT(over_the_length("work 1 # " + std::string(1048577, 'x') + "\n").what, "");
-  EXPECT(over_the_length(std::string(1048577, 'x')).what, "bytes outside comments");
-  EXPECT(over_the_length(std::string(1048577, 'x')).has, 1048577u);
-  EXPECT(over_the_length("#" + std::string(4194304, 'x')).what, "bytes");
-}
-
-TEST(files_of_a_run_are_known_by_their_names) {
-  for (const char *name : {"out.tasks", "out.replay", "out.times", "out.timed", "out.2.tasks", "out.inout.tasks",
-                           "out.2.inout.tasks", "out.4711.tasks", "out.4711.2.replay", "out.regions", "out.large.tasks",
-                           "out.2.large.tasks", "out.2.large.inout.tasks", "out.whole.tasks", "out.whole.regions",
-                           "out.whole.large.tasks", "out.4711.whole.timed"})
-    EXPECT(is_of_run(name, "out"), true);
-  EXPECT(is_of_run("out.whole.tasks", "out.whole"), true);
-  for (const char *name : {"out", "other.tasks", "out.csv", "out2.tasks", "out.x.tasks", "about.tasks"})
-    EXPECT(is_of_run(name, "out"), false);
-}
-
 TEST(files_of_a_process_of_mpi_have_its_number) {
   EXPECT(name_of_rank("out"), "out");
   setenv("PMI_RANK", "3", 1);
   EXPECT(name_of_rank("out"), "out");
   setenv("PMI_SIZE", "4", 1);
   EXPECT(name_of_rank("out"), "out.rank3");
-  EXPECT(name_of_rank("out.rank3.runs/run1"), "out.rank3.runs/run1");
+  EXPECT(name_of_rank("out.rank3.spanprof.part/out.rank3"), "out.rank3.spanprof.part/out.rank3");
   setenv("PMI_SIZE", "1", 1);
   EXPECT(name_of_rank("out"), "out");
   unsetenv("PMI_RANK");
@@ -268,8 +249,8 @@ TEST(files_of_a_process_of_mpi_have_its_number) {
 }
 
 TEST(a_module_calls_what_its_relocations_name) {
-  EXPECT(one_module_calls({"opendir", "dl_iterate_phdr"}), true);  // run_files.cpp and modules.cpp
-  EXPECT(one_module_calls({"opendir", "GOMP_task"}), false);
+  EXPECT(one_module_calls({"flock", "dl_iterate_phdr"}), true);  // run_files.cpp and modules.cpp
+  EXPECT(one_module_calls({"flock", "GOMP_task"}), false);
   EXPECT(unseen_of_gcc(), 0u);
 }
 

@@ -5,7 +5,7 @@
 #include <vector>
 
 #include "../events.hpp"
-#include "../fold.hpp"
+#include "../size.hpp"
 #include "../stretches.hpp"
 #include "../whole_program.hpp"
 #include "check.hpp"
@@ -20,7 +20,7 @@ class Program : public Made {
   Run &whole(Ending ending = {}) {
     found = read(ending, {UINT64_MAX, true, began, ending.wall ? 0 : now(), nullptr, true, began, now()});
     finish_whole(found, {0, true, began, now()}, 1);
-    fold(*found.whole, {});
+    size_of(*found.whole);
     return found;
   }
   // Of records of which nothing runs by itself later than the last.
@@ -32,7 +32,7 @@ class Program : public Made {
       found = read({}, how);
     }
     finish_whole(found, {0, true, began, now()}, 1);
-    fold(*found.whole, {});
+    size_of(*found.whole);
     return found;
   }
   std::string text() {  // the same where what is over was let go

@@ -1,9 +1,11 @@
 """Runs many cases side by side."""
 import concurrent.futures
 import fnmatch
+import math
 import random
 import time
 
+from spanprof.conformance import self_checking
 from spanprof.conformance.cases import Case
 from spanprof.conformance.directed import directed_programs, kinds_of
 from spanprof.conformance.generate import random_program
@@ -12,6 +14,7 @@ from spanprof.conformance.results import Results
 from spanprof.conformance.second_try import SecondTries, doubtful
 from spanprof.conformance.variants import in_variant
 
+KINDS_IN_ORDER = {self_checking.VARIANT: 0, "tied": 1}
 DIRECTED_UNIT, RANDOM_UNIT = 100_000, 1_000  # nanoseconds for a cost of 1
 
 
@@ -30,6 +33,11 @@ def directed_cases(kinds, variants, pattern="*"):
     return cases, [name for name, body in programs if not kinds_of(body) <= kinds]
 
 
+def self_checking_cases(pattern="*"):
+    """Those of the self-checking programs whose names fit a pattern of the shell's."""
+    return self_checking.cases(lambda name: fnmatch.fnmatchcase(name, pattern))
+
+
 def random_cases(seeds, kinds, variants, without):
     """Cases of random programs. Each is named for its shape and the seed that makes it."""
     cases = []
@@ -45,13 +53,35 @@ def spread(cases):
     return random.Random(len(cases)).sample(cases, len(cases))
 
 
-def tried(bench, cases, plan, jobs):
+def telling_first(cases):
+    """The cases where only the first may be tried: programs that take little, then tied tasks, then the others."""
+    return sorted(spread(cases), key=lambda case: KINDS_IN_ORDER.get(case.variant, len(KINDS_IN_ORDER)))
+
+
+class InTime:
+    """Tries cases on a bench as a plan says, as long as there is time; `seconds` may be infinite."""
+
+    def __init__(self, bench, plan, seconds):
+        self.bench, self.plan = bench, plan
+        self.over = time.monotonic() + seconds if seconds < math.inf else None
+
+    def __call__(self, case):
+        """The case's tallies; None where it would begin too late."""
+        if self.over is not None and time.monotonic() > self.over:
+            return None
+        return self.bench.try_case(case, self.plan.conditions(case))
+
+
+def tried(bench, cases, plan, jobs, seconds=math.inf):
     """Each of the cases with its tallies, as it ends; each is run as the plan says. What may only have been slow comes
-    last, after a second try."""
+    last, after a second try. No case is begun after so many seconds."""
     progress, pool, slow = Progress(len(cases)), concurrent.futures.ThreadPoolExecutor(jobs), []
+    ordered, try_it = spread(cases) if seconds == math.inf else telling_first(cases), InTime(bench, plan, seconds)
     try:
-        futures = {pool.submit(bench.try_case, case, plan.conditions(case)): case for case in spread(cases)}
+        futures = {pool.submit(try_it, case): case for case in ordered}
         for future in concurrent.futures.as_completed(futures):
+            if future.result() is None:
+                continue
             progress.add(future.result())
             if doubtful(future.result()):
                 slow.append((futures[future], future.result()))
@@ -65,10 +95,10 @@ def tried(bench, cases, plan, jobs):
         pool.shutdown(cancel_futures=True)
 
 
-def run_cases(bench, cases, plan, jobs):
-    """The results of cases."""
+def run_cases(bench, cases, plan, jobs, seconds=math.inf):
+    """The results of cases; none is begun after so many seconds."""
     begun = time.monotonic()
-    return summed(tried(bench, cases, plan, jobs), begun)
+    return summed(tried(bench, cases, plan, jobs, seconds), begun)
 
 
 def summed(outcomes, begun):

@@ -17,6 +17,7 @@ from spanprof.conformance.forms import is_of_regions
 from spanprof.conformance.judge import TOO_MANY, Verdict
 from spanprof.conformance.launch import Conditions, launch
 from spanprof.conformance.segments import Table
+from spanprof.conformance.settings import without_harness
 from spanprof.conformance.text import text_of
 from spanprof.conformance.tied import moved, unconstrained
 from spanprof.conformance.toolchain import BuildFailed
@@ -88,9 +89,11 @@ class Plan:
     def conditions(self, case):
         """The conditions for a case; which setting goes with which number of threads differs from case to case, and so
         from tied to untied tasks of one program."""
-        variant = list(VARIANTS).index(case.variant)
+        has_text = case.variant in VARIANTS
+        variant = list(VARIANTS).index(case.variant) if has_text else len(VARIANTS)
+        usual = self.settings if has_text else without_harness(self.settings)
         first = zlib.crc32(case.name.encode()) + (self.seed + variant) * len(self.threads)
-        settings = [self.settings[(first + number) % len(self.settings)] for number in range(len(self.threads))]
+        settings = [usual[(first + number) % len(usual)] for number in range(len(self.threads))]
         favoured = next((setting for begin, setting in (*FULL.items(), *FAVOURED.items())
                          if case.name.startswith(begin) and setting in self.settings), "")
         if favoured in self.settings:
@@ -160,6 +163,7 @@ class Bench:
         self.toolchain, self.judge, self.environment = toolchain, judge, environment
         self.expectations = expectations
         self.programs, self.numbers = {}, itertools.count()
+        self.others = {}         # by the variant of a case: how it is tried, where it has no text
         self.sure_hangs = set()  # signatures of hangs that a second try has shown, in all batches of a campaign
 
     def build(self, source):
@@ -178,6 +182,8 @@ class Bench:
 
     def try_case(self, case, all_conditions):
         """A tally for each of the conditions."""
+        if case.variant in self.others:
+            return self.others[case.variant](self, case, all_conditions)
         examined = self.examined(case)
         try:
             program = self.build(examined.source())

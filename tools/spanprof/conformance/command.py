@@ -14,27 +14,27 @@ from spanprof.conformance.options import parse
 from spanprof.errors import Fault
 
 
-def parsed():
+def parsed(words):
     """The options; what --help prints is out."""
     try:
-        return parse(COMMANDS)
+        return parse(COMMANDS, words)
     finally:
         sys.stdout.flush()
 
 
-def tried():
+def tried(words):
     """The status of a command, of which all is printed."""
-    options = parsed()
+    options = parsed(words)
     with tempfile.TemporaryDirectory(prefix="conformance-") as folder:
         status = options.call(options, folder)
         sys.stdout.flush()
         return status
 
 
-def main():
+def main(words):
     open_closed_streams()
     try:
-        return tried()
+        return tried(words)
     except BrokenPipeError:
         leave(sys.stdout)   # `| head` has what it wants
     except Fault as fault:

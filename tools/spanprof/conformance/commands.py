@@ -5,10 +5,10 @@ import json
 import pathlib
 
 from spanprof.command import Console, words_of
-from spanprof.conformance import delays, gcov, store, tables
+from spanprof.conformance import delays, gcov, self_checking, store, tables
 from spanprof.conformance.bisect import UNTESTABLE, sample
 from spanprof.conformance.built import built_in
-from spanprof.conformance.campaign import cases_of, directed_cases, random_cases, run_cases
+from spanprof.conformance.campaign import cases_of, directed_cases, random_cases, run_cases, self_checking_cases
 from spanprof.conformance.cases import Bench, Case
 from spanprof.conformance.directed import directed_programs, first_comment
 from spanprof.conformance.discarding import completed, record_of
@@ -72,9 +72,10 @@ def run_once(options, bench, plan):
     """The results of the directed part and of so many random programs, or of a part of them."""
     kinds = bench.toolchain.kinds
     cases = directed_cases(kinds, options.tasks, options.match)[0] if options.directed else []
+    cases += self_checking_cases(options.match) if options.directed else []
     seeds = seeds_in_turn(options.seed, options.programs)
     cases += random_cases(seeds, kinds, options.tasks, options.without)
-    return run_cases(bench, options.shard.part(cases), plan, options.jobs)
+    return run_cases(bench, options.shard.part(cases), plan, options.jobs, options.seconds)
 
 
 def keep_part(options, what, results):
@@ -86,7 +87,8 @@ def keep_part(options, what, results):
 
 def shrink_failures(options, bench, results):
     """One small program for each kind of failure, the most frequent kinds first."""
-    failures = [group.smallest for _, group in results.most_frequent()[:options.shrink]]
+    failures = [group.smallest for _, group in results.most_frequent()
+                if not self_checking.is_self_checking(group.smallest.case)][:options.shrink]
     limits = Limits(options.shrink_runs, options.shrink_tries, options.shrink_seconds)
     return reproduce_all(bench, failures, limits, options.jobs)
 
@@ -200,7 +202,10 @@ def built_tally(bench, case, conditions):
 
 
 def command_emit(options, _folder):
-    """Prints the C file of a program."""
+    """Prints the C file of a program; of a self-checking one, by its name, one that needs no other file."""
+    if options.file in (program.name for program in self_checking.programs()):
+        print(self_checking.source(options.file), end="")
+        return 0
     bench = Bench(None, judge_of(options), {})
     body = in_variant(program_in(options.file, bench.judge), options.tasks)
     print(bench.examined(Case("", body, options.tasks, 0)).source(), end="")
@@ -230,6 +235,8 @@ def command_list(_options, _folder):
     """Names the directed programs."""
     for name, _ in directed_programs():
         print(f"{name:34} {first_comment(name)}")
+    for program in self_checking.programs():
+        print(f"{program.name:34} {program.shows} (self-checking)")
     return 0
 
 

@@ -7,6 +7,7 @@ from spanprof.conformance.launch import Conditions, launch
 from spanprof.conformance.tables import table
 from spanprof.conformance.timed import Waits, of_run
 from spanprof.conformance.toolchain import BuildFailed
+from spanprof.proof import proved
 
 SHARES = ("busy", "delayed", "starved", "outside")
 ACCOUNT_HEADS = ("runtime", "threads", "runs", *SHARES)
@@ -66,8 +67,9 @@ def wait_rows(found, threads):
 
 def tables_of(found):
     """Lines of Markdown, the runtimes side by side."""
-    yield from ("Shares of the threads' time, from the first begin to the last end (measured; the sums are proved of",
-                "each text and its times):", "", *table(ACCOUNT_HEADS, account_rows(found)), "")
+    yield from ("Shares of the threads' time, from the first begin to the last end (measured; %s):" %
+                proved("the sums are proved of each text and its times"), "",
+                *table(ACCOUNT_HEADS, account_rows(found)), "")
     for threads in next(iter(found.values())):
         yield f"On {threads} threads, from ready to begin: how many segments, median and ninth tenth in us (measured):"
         yield from ("", *table(("rule", "construct", *found), wait_rows(found, threads)), "")

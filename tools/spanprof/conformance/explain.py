@@ -22,7 +22,7 @@ KINDS = {
     "UnknownWorker": ("unknown", "spanprof counts 64 threads"),
 }
 MOST_RUNNING, MOST_READY = 3, 5  # segments that are named
-CUT_SHORT = "rest of an untied task beside a cancelled group"
+CUT_SHORT = "rest of an untied task next to a cancelled group"
 OF_EXCLUSIVE = ", of a task with mutexinoutset or one below it"
 
 

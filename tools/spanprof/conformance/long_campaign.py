@@ -2,7 +2,7 @@
 import sys
 
 from spanprof.conformance import store
-from spanprof.conformance.campaign import directed_cases, random_cases, run_cases
+from spanprof.conformance.campaign import directed_cases, random_cases, run_cases, self_checking_cases
 from spanprof.conformance.progress import say
 from spanprof.conformance.results import Results
 
@@ -20,7 +20,9 @@ def next_seeds(batches, first, count):
 def cases_of_batch(options, kinds, seeds):
     if seeds:
         return random_cases(seeds, kinds, options.tasks, options.without)
-    return directed_cases(kinds, options.tasks, options.match)[0] if options.directed else []
+    if not options.directed:
+        return []
+    return directed_cases(kinds, options.tasks, options.match)[0] + self_checking_cases(options.match)
 
 
 def run_batch(options, bench, plan, seeds):

@@ -5,7 +5,7 @@ import random
 import time
 from dataclasses import asdict, dataclass, field, replace
 
-from spanprof.conformance.campaign import directed_cases, random_cases
+from spanprof.conformance.campaign import directed_cases, random_cases, self_checking_cases
 from spanprof.conformance.generate import seeds_in_turn
 
 ENOUGH = 2        # programs that fail, after which a campaign ends
@@ -71,14 +71,16 @@ def tries(case, rule):
 
 
 def cases_of_campaign(options, kinds, number):
-    """What `run` tries: the directed part, and random programs that no other campaign has, in a random order; each
-    program first with tasks of the first kind."""
+    """What `run` tries: the self-checking programs, the directed part, and random programs that no other campaign has,
+    in a random order; each program first with tasks of the first kind."""
     first = options.seed + number * SEEDS_APART
     directed = directed_cases(kinds, options.tasks, options.match)[0] if options.directed else []
     seeds = seeds_in_turn(first, options.programs)
     cases = directed + random_cases(seeds, kinds, options.tasks, options.without)
+    alone = self_checking_cases(options.match) if options.directed else []
     random.Random(first).shuffle(cases)
-    return sorted(cases, key=lambda case: options.tasks.index(case.variant))
+    random.Random(first).shuffle(alone)
+    return alone + sorted(cases, key=lambda case: options.tasks.index(case.variant))
 
 
 def in_order(cases, rule):

@@ -3,6 +3,7 @@ import os
 import pathlib
 
 from spanprof.command import check_files
+from spanprof.conformance import self_checking
 from spanprof.conformance.cases import Bench, Plan
 from spanprof.conformance.exclusion import found_search
 from spanprof.conformance.expected import USUAL, Expectations, read_expected
@@ -32,7 +33,9 @@ def open_bench(options, folder):
     files = [USUAL] * options.known_faults + options.expected
     usual = family_of(toolchain.runtime(dict(os.environ)))
     expectations = Expectations(toolchain.runtime(environment), read_expected(files), usual)
-    return Bench(toolchain, judge_of(options), environment, expectations)
+    bench = Bench(toolchain, judge_of(options), environment, expectations)
+    bench.others[self_checking.VARIANT] = self_checking.try_case
+    return bench
 
 
 def entry_points(bench):

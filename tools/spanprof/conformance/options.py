@@ -4,6 +4,7 @@ import fnmatch
 import math
 import os
 
+from spanprof.conformance import self_checking
 from spanprof.conformance.campaign import DIRECTED_UNIT
 from spanprof.conformance.directed import directed_files
 from spanprof.conformance.generate import CONSTRUCTS
@@ -13,9 +14,9 @@ from spanprof.conformance.variants import VARIANTS
 from spanprof.version import Version
 
 AFTER = """Exit status 0: every run was accepted, or of mutants all were caught; 1: not so; 2: nothing could be tried, or
-wrong words; 125: bisect could not try the program."""
+wrong arguments; 125: bisect could not try the program."""
 OWN_STATUS = {"bisect": "Exit status 0: it fails less often; 1: it fails often enough; 125: it cannot be tried; "
-                        "2: wrong words."}
+                        "2: wrong arguments."}
 MOST_THREADS = 64
 REPORT = "files for the report, with commas: .md, .json, .xml (JUnit), .tap"
 RANDOM_PROGRAMS = 100
@@ -45,8 +46,9 @@ def hours(word):
 
 def pattern(word):
     """Of the shell's, which a directed program's name fits."""
-    if not any(fnmatch.fnmatchcase(path.stem, word) for path in directed_files()):
-        raise argparse.ArgumentTypeError(f"no directed program's name fits {word}; spanprof-conformance list has them")
+    if not any(fnmatch.fnmatchcase(path.stem, word) for path in [*directed_files(), *self_checking.files()]):
+        raise argparse.ArgumentTypeError(f"no directed or self-checking program's name fits {word}; "
+                                         "spanprof-conformance list has them")
     return word
 
 
@@ -131,14 +133,14 @@ def add_bench_options(name, parser):
     add("--settings", type=some_of(SETTINGS), default=[], metavar=",".join(SETTINGS),
         help="how programs are started (each of those for the runtime in turn)")
     add("--expected", type=lambda word: [word], default=[], metavar="FILE",
-        help="failures that do not count, beside those of expected.txt")
+        help="failures that do not count, besides those of expected.txt")
     add("--no-known-faults", dest="known_faults", action="store_false", help="count the failures of expected.txt too")
     add("--seed", type=natural, default=1, help="the least number of a random program, and the delays' seed (1)")
     add("--timeout", type=positive, default=10, help="seconds until a run counts as hung (10)")
     add("--jobs", type=positive, default=max(1, (os.cpu_count() or 1) // 2),
         help="programs that are tried side by side (half as many as processors)")
     add("--match", type=pattern, default="*", metavar="PATTERN",
-        help="only the directed programs whose names fit it (*)")
+        help="only the directed and self-checking programs whose names fit it (*)")
     add("--keep", default="", metavar="FOLDER", help="keep the built programs there, and take those that are there")
     add("--report", type=report_files, default="", help=REPORT)
     if name in ("shrink", "bisect"):
@@ -178,6 +180,8 @@ def add_failure_options(name, parser):
     if name == "run":
         add("--programs", type=natural, default=None,
             help=f"how many random programs ({RANDOM_PROGRAMS}); with --hours: of a batch ({OF_BATCH})")
+        add("--seconds", type=positive, default=math.inf,
+            help="begin no more programs after so many; those that tell most come first (no limit)")
         add("--hours", type=hours, default=0, help="go on with batch after batch until so many hours are full")
         add("--state", default="campaign.jsonl",
             help="the file from which a campaign of hours goes on, and to which a part goes (campaign.jsonl)")

@@ -2,7 +2,7 @@
 import sys
 import time
 
-MINUTE = 60
+MINUTE, HALF_A_MINUTE = 60, 30
 TO_LINE_END = "\033[K"  # clears what is left of a longer line
 
 
@@ -18,18 +18,41 @@ def rough(seconds):
 
 
 class Progress:
-    """A line that tells how many cases are done, and about how long the others take if they are like these."""
+    """How many cases are done, and about how long the others take if they are like these: a line of a terminal that
+    changes, or a line of a log each half minute. Each new kind of failure has a line of its own."""
 
     def __init__(self, cases):
-        self.cases, self.done, self.failed, self.begun = cases, 0, 0, time.perf_counter()
+        self.cases, self.done, self.failed = cases, 0, 0
+        self.begun = self.reported = time.perf_counter()
+        self.kinds = set()
 
     def add(self, tallies):
         self.done += 1
-        self.failed += any(tally.failures for tally in tallies)
+        failures = [failure for tally in tallies for failure in tally.failures]
+        self.failed += bool(failures)
+        for failure in failures:
+            self.report(failure)
         is_last = self.done == self.cases
         left = "" if is_last else f", about {rough(self.seconds_left())} left"
-        say(f"\r{self.done} of {self.cases} cases, {self.failed} with failures{left}{TO_LINE_END}",
-            "\n" if is_last else "")
+        self.show(f"{self.done} of {self.cases} cases, {self.failed} with failures{left}", is_last)
+
+    def show(self, words, is_last):
+        if sys.stderr.isatty():
+            say(f"\r{words}{TO_LINE_END}", "\n" if is_last else "")
+            return
+        at = time.perf_counter()
+        if is_last or at - self.reported >= HALF_A_MINUTE:
+            self.reported = at
+            print(words, file=sys.stderr, flush=True)
+
+    def report(self, failure):
+        """The first failure of its kind, on a line of its own."""
+        if failure.signature in self.kinds:
+            return
+        self.kinds.add(failure.signature)
+        begin = "\r" if sys.stderr.isatty() else ""
+        print(f"{begin}failed: {failure.case.name} ({failure.case.variant}) on {failure.conditions.threads} threads: "
+              f"{failure.verdict.kind}: {failure.rule}{TO_LINE_END * bool(begin)}", file=sys.stderr, flush=True)
 
     def seconds_left(self):
         return (time.perf_counter() - self.begun) * (self.cases - self.done) / self.done

@@ -43,3 +43,16 @@ SETTINGS = {
 def settings_of(family):
     """The names of those that are for a runtime."""
     return [name for name, setting in SETTINGS.items() if family in setting.families]
+
+
+OF_HARNESS = "CONFORMANCE_"     # how variables begin that only programs with the harness read
+
+
+def without_harness(names):
+    """Those of some settings that mean something to a program without the harness."""
+    own = [name for name in names if not any(map(is_of_harness, SETTINGS[name].variables))]
+    return own or ["free"]
+
+
+def is_of_harness(variable):
+    return variable.startswith(OF_HARNESS)

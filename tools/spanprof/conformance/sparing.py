@@ -27,7 +27,7 @@ class SparingBench(Bench):
 
     def __init__(self, bench):
         super().__init__(bench.toolchain, PlainFirst(bench.judge.spanprof), bench.environment, bench.expectations)
-        self.known = {}
+        self.known, self.others = {}, bench.others
 
     def in_environment(self, environment):
         """A bench for another runtime, with the same programs."""

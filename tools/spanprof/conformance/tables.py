@@ -3,7 +3,7 @@ from spanprof.conformance.coverage import MEASURES, TRIED_RULES, all_waits, neve
 from spanprof.conformance.results import EXPECTED, SEEN_ONCE
 
 COUNTS = ("programs", "runs", "events", "refused", "incomplete", "values", "moved", "unconstrained",
-          "overlapping", "chunks", "hung", SEEN_ONCE, "crashed", "not built", EXPECTED)
+          "overlapping", "chunks", "wrong", "hung", SEEN_ONCE, "crashed", "not built", EXPECTED)
 
 
 def table(heads, rows):

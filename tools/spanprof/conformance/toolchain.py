@@ -1,6 +1,7 @@
 """A compiler and its runtime: what they can do, and programs built with them."""
 import functools
 import hashlib
+import itertools
 import os
 import pathlib
 import shlex
@@ -47,6 +48,7 @@ class Toolchain:
     other processes to find."""
 
     def __init__(self, cc, flags, folder, kept=None):
+        self.numbers = itertools.count()
         self.cc, self.folder, self.kept = shlex.split(cc), pathlib.Path(folder), kept and pathlib.Path(kept).resolve()
         self.shown_flags = ["-O1", "-g", "-fopenmp", *flags]
         if "clang" in self.cc[0] and not any("fopenmp-version" in flag for flag in flags):
@@ -118,6 +120,18 @@ class Toolchain:
         if not target.exists():
             self.move(self.build_text(text, name, self.harness), target)
         return target
+
+    def build_alone(self, text, name, suffix=".c"):
+        """Compiles a program that needs no harness, as C or C++; the same text is compiled once."""
+        made = (self.kept or self.folder) / f"alone-{self.digest(text)}"
+        if not made.exists():
+            own = f"{name}-{next(self.numbers)}"    # several threads may compile one program
+            source, program = self.folder / f"{own}{suffix}", self.folder / own
+            source.write_text(text)
+            self.compile(["-pthread", *(["-x", "c++"] if suffix == ".cpp" else []), source, "-x", "none",
+                          *(["-lstdc++"] if suffix == ".cpp" else []), "-o", program])
+            self.move(program, made)
+        return made
 
     @functools.cached_property
     def origin(self):

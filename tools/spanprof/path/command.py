@@ -2,17 +2,18 @@
 import argparse
 import sys
 
+from spanprof.answers import Answers
 from spanprof.command import Console, check_files, end_with
-from spanprof.errors import Fault
 from spanprof.head import head_text, said
-from spanprof.measure import HOW, measure, spanprof_large
 from spanprof.path.found import find_path
 from spanprof.path.table import lines, write_csv
+from spanprof.proof import proved
+from spanprof.recording import text_of
 from spanprof.version import Version
 
 CONSOLE = Console("spanprof-path")
-DESCRIPTION = """Adds up, by place in the source, all costs of a program text of version 1 and of any size, and those on
-the critical path that spanprof_large slack shows."""
+DESCRIPTION = """Adds up, by place in the source, all costs of a program text of any size, and those on the critical path
+that spanprof_large slack shows."""
 AFTER = """spanprof_large keeps the table and the graph of the whole text for it. Exit status 1: the text is refused,
 there is no memory for its table, or the places do not add up to its work and span; 2: wrong
 words."""
@@ -22,7 +23,7 @@ VERDICT = "proved of this text: its work, span and this critical path (spanprof_
 
 def parse(words):
     parser = argparse.ArgumentParser(prog="spanprof-path", description=DESCRIPTION, epilog=AFTER, allow_abbrev=False)
-    parser.add_argument("text", metavar="FILE", help="the text, such as mine.large.tasks")
+    parser.add_argument("text", metavar="MINE.spanprof", help="the recording, or a program text, MINE.tasks")
     parser.add_argument("--csv", action="store_true", help="print a row for each place: span,work,segments,place")
     parser.add_argument("--version", action=Version)
     return parser.parse_args(words)
@@ -38,18 +39,16 @@ def show(options, path):
     if options.csv:
         write_csv(path.places, sys.stdout)
         return
-    for line in said(head_text(options.text)) + [title(path), VERDICT]:
+    for line in said(head_text(options.text)) + [title(path), proved(VERDICT)]:
         print(line)
     for line in lines(path.places, path.numbers["work"], path.numbers["span"]):
         print(line)
 
 
 def answer(options):
+    options.text = text_of(options.text)
     check_files(options.text)
-    large = spanprof_large()
-    if not large:
-        raise Fault(HOW)
-    show(options, find_path(large, options.text, measure(large, options.text)))
+    show(options, find_path(Answers(options.text)))
 
 
 def main(words):

@@ -12,12 +12,12 @@ from spanprof.predict.words import as_json, burden_words, lines
 from spanprof.remarks import in_json
 from spanprof.version import Version
 
+CONSOLE = Console("spanprof-predict")
 DESCRIPTION = """Estimates by a model of the runtime's scheduling how long the recorded region would take on some
-threads, as a time and an interval. Several texts are recordings of one program: of those on one number of threads the
-median is told, and those on different numbers show how costs grow with threads."""
-AFTER = """What the runtime takes for a task is that of this machine, which spanprof-record measures once. A
-MINE.scale.json of spanprof-record stands for the recordings that it names.
-Exit status 1: a file is missing, or a text tells no time; 2: wrong words."""
+threads, as a time and an interval. Several texts are recordings of one program: recordings with equal thread counts
+are reduced to their median, and different thread counts show how costs grow."""
+AFTER = """spanprof-record measures once what a task costs in the runtime of this machine. Exit status 1: a file is
+missing, or a text has no times; 2: wrong arguments."""
 MOST_THREADS = 1024
 
 
@@ -27,10 +27,11 @@ def numbers(word):
 
 
 def parse(words):
-    parser = argparse.ArgumentParser(prog="spanprof-predict", usage="%(prog)s [options] MINE.tasks ..",
+    parser = argparse.ArgumentParser(prog="spanprof-predict", usage="%(prog)s [options] MINE.spanprof ..",
                                      description=DESCRIPTION, epilog=AFTER, allow_abbrev=False)
     add = parser.add_argument
-    add("texts", nargs="+", metavar="MINE.tasks", help="the recordings")
+    add("texts", nargs="+", metavar="MINE.spanprof",
+        help="the recordings, or texts of a region; of a recording its region with the most code is predicted")
     add("--threads", type=numbers, metavar="P,..", help="without it as many as were recorded, and twice as many")
     add("--machine", metavar="FILE", help="the model of the machine; without it that of this one")
     add("--runtime", choices=RUNTIMES, default=LLVM, help="whose scheduling: llvm (without it), or gnu, gcc's")
@@ -46,7 +47,7 @@ def remark(one):
 
 
 def answer(chosen):
-    several = [texts(word) for word in chosen.texts]
+    several = [texts(word, CONSOLE.tell) for word in chosen.texts]
     paths = [path for one in several for path in one.paths]
     for path in paths:
         check_files(path, chosen.output, "burdened text")
@@ -61,4 +62,4 @@ def answer(chosen):
 
 
 def main(words):
-    end_with(Console("spanprof-predict"), lambda: answer(parse(words)))
+    end_with(CONSOLE, lambda: answer(parse(words)))

@@ -2,7 +2,6 @@
 import os
 
 from spanprof import client
-from spanprof.answers import named_numbers
 from spanprof.errors import Fault
 from spanprof.predict.burden import burdened_text
 from spanprof.predict.estimate import LLVM, estimate
@@ -25,7 +24,7 @@ def by_threads(paths):
 
 def least_end(text, costs, threads):
     """What no schedule on so many threads passes, by what spanprof tells of the burdened text."""
-    numbers = named_numbers(client.ask(["span"], burdened_text(text, costs)))
+    numbers = client.numbers(burdened_text(text, costs))
     return max(numbers["span"], -(-numbers["work"] // threads))
 
 
@@ -49,7 +48,7 @@ def told_of(chosen):
     try:
         told = by_the_model(chosen.paths)
     except Fault as why:
-        return ["not told: %s" % why], {"none": str(why)}
+        return ["unavailable: %s" % why], {"none": str(why)}
     return (lines(*told, chosen.notes), as_json(*told, chosen.notes)) if told else ([], None)
 
 

@@ -4,12 +4,12 @@ from dataclasses import dataclass, replace
 from typing import Optional, Tuple
 
 from spanprof import client
-from spanprof.account import timed_beside
-from spanprof.claims import is_divided, is_folded
+from spanprof.claims import is_divided
 from spanprof.errors import Fault
 from spanprof.head import Head, comments, read_head
 from spanprof.predict.burden import with_costs
 from spanprof.predict.program import Program, read_program
+from spanprof.recording import beside
 from spanprof.predict.times import rows_of, times_of
 from spanprof.text import DIVIDER, has_loops, segments_of, statements, text_lines
 
@@ -58,8 +58,6 @@ def why_not(head, text):
     """Why a text tells no time of its program; empty where nothing is known against it."""
     if has_loops(text) or not head.nanoseconds or not head.threads:
         return "it is no recording"
-    if is_folded(head):
-        return "tasks are folded, and what they cost the runtime is not told"
     if head.whole:
         return "it is of a whole program"
     return "its code is divided among its threads" if is_divided(head) else ""
@@ -107,7 +105,7 @@ def take_times(one, timed):
 
 def recorded(path):
     """That of a file, with the times beside it where they are there."""
-    one, timed = recorded_as(client.read(path), path), timed_beside(path)
-    if os.path.exists(timed):
+    one, timed = recorded_as(client.read(path), path), beside(path, ".timed")
+    if timed:
         take_times(one, lines_after_the_divider(timed))
     return one

@@ -5,10 +5,13 @@ import re
 import statistics
 from typing import List, NamedTuple
 
+from spanprof.converting import region_text
 from spanprof.errors import Fault
 from spanprof.head import head_text, read_head
+from spanprof.recording import folder_of, open_recording
 
-ENDING = ".scale.json"
+ENDING = ".scale.json"   # beside a plain text
+SCALE = "scale.json"    # in the folder of a recording
 SLOW = 1.15     # of the unrecorded runs' median: a recording that took longer was made in a slow moment
 OF_THE_PROGRAM = ("outside regions", "in other regions")    # beside the region's own time
 
@@ -41,7 +44,7 @@ def chosen_on(threads, paths, unrecorded):
     of = "%d of %d recordings on %d thread%s took %.0f %% longer than the unrecorded runs, or more" % (
         len(slow), len(paths), threads, "" if threads == 1 else "s", 100 * (min(slow) - 1))
     if len(slow) == len(paths):
-        return Chosen(paths, [of + ": the times may be told too long"])
+        return Chosen(paths, [of + ": the predicted times may be too long"])
     return Chosen([path for path, ratio in found if ratio <= SLOW], [of + ", and are left out"])
 
 
@@ -71,6 +74,8 @@ def chosen_of(told, folder):
 def together(path):
     """The text and those that were recorded with it on as many threads, but for slow ones; it alone where there are
     none."""
+    if folder_of(path):
+        return on_the_most(open_recording(path))
     scale = re.sub(r"\.tasks$", "", path) + ENDING
     try:
         with open(scale, encoding="utf-8") as file:
@@ -83,17 +88,41 @@ def together(path):
     return [path]
 
 
-def texts(path):
-    """A text, or those of a scale."""
-    if not path.endswith(ENDING):
-        return Chosen([path])
+def on_the_most(recording):
+    """The texts of its region that were recorded on as many threads as it was."""
+    scale = recording.file(SCALE)
+    by_threads, times = tables(read_json(scale), recording.folder) if scale else ({}, {})
+    if not by_threads:
+        return [region_text(recording)]
+    most = max(by_threads)
+    return chosen_on(most, by_threads[most], times.get(most)).paths
+
+
+def texts_of(recording, tell):
+    """Those of its scale, or that of its region with the most code."""
+    scale = recording.file(SCALE)
+    return read_scale(scale) if scale else Chosen([region_text(recording, tell=tell)])
+
+
+def texts(path, tell=lambda words: None):
+    """A text, those of a scale, or what a recording has of both."""
+    if folder_of(path):
+        return texts_of(open_recording(path), tell)
+    return read_scale(path) if path.endswith(ENDING) else Chosen([path])
+
+
+def read_json(path):
     try:
         with open(path, encoding="utf-8") as file:
-            found = chosen_of(json.load(file), os.path.dirname(path))
+            return json.load(file)
     except OSError as wrong:
         raise Fault("%s: %s" % (path, wrong.strerror)) from wrong
     except ValueError as wrong:
         raise Fault("%s is no file of spanprof-record --scale, as it is no JSON" % path) from wrong
+
+
+def read_scale(path):
+    found = chosen_of(read_json(path), os.path.dirname(path))
     if not found.paths:
         raise Fault("%s names no recording that is there" % path)
     return found

@@ -4,14 +4,18 @@ from math import exp
 from spanprof.account_words import lasting
 from spanprof.predict.estimate import GNU, LLVM
 from spanprof.predict.gnu import LOCK
+from spanprof.proof import proved
 
 MODEL = "predicted: by a model of LLVM's scheduling, not proved; its intervals held in three of four cases of 14 " \
     "programs that nothing was fitted to, on 4 threads, and by five recordings in five of six"
-AT_LEAST = "at least (proved, of the burdened text)"
 OF_GNU = "predicted: by a model of gcc's scheduling, not proved; tried on eight programs on 4 threads, recorded with " \
     "LLVM's runtime; the intervals are those of LLVM's model"
 UNMATCHED = 0.05    # of the work, from which on it is told
 PREEMPTED = 0.01    # likewise
+
+
+def at_least():
+    return "at least (%s)" % proved("proved, of the burdened text")
 
 
 def in_us(nanoseconds):
@@ -43,7 +47,7 @@ def estimate_words(one):
 
 
 def with_least(one, least):
-    return "%s, %s %s" % (estimate_words(one), lasting(least), AT_LEAST)
+    return "%s, %s %s" % (estimate_words(one), lasting(least), at_least())
 
 
 def notes_on(one):

@@ -10,18 +10,17 @@ from collections import defaultdict
 
 from spanprof import client
 from spanprof.built import Product, find_or_build
+from spanprof.converting import RECORDERS, convert, converter
 from spanprof.errors import Fault
-from spanprof.folders import builds_in
 from spanprof.predict.machine import COSTS, Machine, Measured, machine_file, write_machine
 from spanprof.predict.program import read_program
+from spanprof.recording import ENDING, LOG
 from spanprof.record.console import say, tell
-from spanprof.record.convert import convert, converter
 from spanprof.record.recorder import recorder_library
 from spanprof.record.run import environment, without_recorder
 from spanprof.record.runtime import llvm_runtime
 from spanprof.text import OF_A_THREAD
 
-RECORDERS = builds_in("openmp_recorder")
 CALIBRATION = Product("calibrate", "the program for --calibrate", "clang-19 libomp-19-dev make")
 SECONDS = 30        # for all numbers of threads together, begun by then
 PROCESSES = 8
@@ -79,11 +78,11 @@ def cost_of_a_task(program):
 def recorded(options, program, preload, threads, folder):
     """The cost of an empty task in the text of each recorded region."""
     out = os.path.join(folder, "threads%d" % threads)
-    library, to_texts = recorder_library(RECORDERS, say), converter(RECORDERS, say)
+    library, to_texts = recorder_library(RECORDERS, say), converter(say)
     options.threads, options.clock, options.unit = threads, "wall", "ns"
     variables = environment(dict(os.environ, SPANPROF_REGIONS=str(REGIONS)), options, library, preload, out)
     run([program, str(threads), "trees"], variables)
-    convert(to_texts, out + ".log", variables, out)
+    convert(to_texts, os.path.join(out + ENDING, LOG), out, variables)
     found = [cost_of_a_task(read_program(client.read(text))) for text in glob.glob(glob.escape(out) + "*.tasks")]
     return [cost for cost in found if cost]
 

@@ -1,45 +1,37 @@
 """spanprof-record: a program's run as a program text, and what it could gain from more threads."""
 import os
-import re
 import signal
 import subprocess
 import sys
 import webbrowser
 
+from spanprof.client import HOW
 from spanprof.command import end_with, show
+from spanprof.diagnosis.compare import is_slower
 from spanprof.errors import OWN_FAULT, Fault
 from spanprof.folders import PREFIX, TOOLS
-from spanprof.measure import HOW
 from spanprof.record.calibrate import calibrate
 from spanprof.record.console import CONSOLE, say, tell
-from spanprof.record.online import online_summary
+from spanprof.record.online import ONLINE, online_summary
 from spanprof.record.options import parse
-from spanprof.record.run import end_as, signal_name
+from spanprof.record.run import end_as
+from spanprof.record.runs import record_often
 from spanprof.record.scale import record_scale
 from spanprof.record.scale_words import scale_json, scale_lines
 from spanprof.record.session import Session
 from spanprof.record.summaries import print_summaries
 from spanprof.record.summary import named
 from spanprof.record.summary_json import write_json
-from spanprof.regions import table_beside
 
+SLOWER = 3      # than an earlier recording, by more than it may be
 REPORTERS = [os.path.join(TOOLS, "spanprof-report"), os.path.join(PREFIX, "bin", "spanprof-report")]
 
 
-def text_for_page(recording):
-    """Where there are several regions the first one's, by which the page is of them all."""
-    table, number = table_beside(recording.text) or ("", 1)
-    stem = table[:-len(".regions")]
-    return next((name for name in (stem + ".tasks", stem + ".large.tasks") if number > 1 and os.path.exists(name)),
-                recording.text)
-
-
 def write_page(options, recording):
-    """Of a recording that a page can show; there is none where all are for spanprof_large, and that is not there."""
     if not recording:
         raise Fault("no page is written: the recording is beyond the limits of the ten commands; " + HOW)
     reporter = next((path for path in REPORTERS if os.path.exists(path)), REPORTERS[0])
-    words = [sys.executable, reporter, text_for_page(recording), "-o", options.html]
+    words = [sys.executable, reporter, recording.folder, "-o", options.html]
     tell("making %s" % options.html)
     if subprocess.run(words, check=False).returncode:
         raise Fault("no page is written")
@@ -55,47 +47,38 @@ def try_page(options, recording):
         say(str(fault))
 
 
-def report(session, found, said, scale=None):
-    recording = print_summaries(session, found, said, scale)
+def report(session, recorded, scale=None):
+    recording = print_summaries(session, recorded, scale)
     if session.options.html:
         try_page(session.options, recording)
 
 
-def scale_file(session, scale):
-    """Beside the text that it is of; under the first name of all where there is none."""
-    region = scale.regions.get(scale.most)
-    stem = os.path.join(os.path.dirname(session.out), re.sub(r"\.tasks$", "", region.name)) if region else session.out
-    return stem + ".scale.json"
-
-
-def write_scale(session, scale):
-    """What `--json` names has it with the account, where a region has a summary."""
-    told = scale_json(scale)
-    write_json(scale_file(session, scale), told, "")
-    if session.options.json:
-        write_json(session.options.json, {"scale": told})
-
-
-def report_all(session, found, said, scale):
-    if scale:
-        write_scale(session, scale)
+def report_all(session, recorded, scale):
+    """The lines of a scale stand behind the summary, and there is a scale where no region has one."""
     try:
-        if found:
-            report(session, found, said, scale)
+        if recorded.found:
+            report(session, recorded, scale)
+        elif scale and session.options.json:
+            write_json(session.options.json, {"scale": scale_json(scale)})
     finally:
         for name, lines in scale_lines(scale).items() if scale else ():
             show(named(name, lines))
 
 
-def measure_online(session):
-    """The status of the program, or of a run of which nothing was measured."""
-    status, found, said = session.record_online()
-    killed = ["the program ended by " + signal_name(status)] if status < 0 else []
-    news = session.notes + killed + said.without(found).news(session.out)
-    for path in found:
+def tell_measured(session, recorded):
+    """Of a run that was measured while it went on."""
+    paths = [os.path.join(folder, ONLINE) for folder in recorded.found]
+    news = session.notes + recorded.said.without(paths).news(session.out)
+    for path in paths:
         show(online_summary(path, news))
         news = []
-    return status if found else status or OWN_FAULT
+
+
+def record_as_asked(session):
+    """What was recorded, and a scale where it was asked for."""
+    if session.options.scale:
+        return record_scale(session)
+    return record_often(session) if session.options.runs > 1 else session.record_once(), None
 
 
 def record_and_report(options):
@@ -103,11 +86,16 @@ def record_and_report(options):
     status = 0
     try:
         session = Session(options)
+        with session.begun():
+            recorded, scale = record_as_asked(session)
+        status = recorded.status
         if options.online:
-            return measure_online(session)
-        status, found, said, scale = record_scale(session) if options.scale else (*session.record(), None)
-        report_all(session, found, said, scale)
-        return status if found else status or OWN_FAULT
+            tell_measured(session, recorded)
+        else:
+            report_all(session, recorded, scale)
+        if is_slower(session.comparison, options.fail_above):
+            return status or SLOWER
+        return status if recorded.found else status or OWN_FAULT
     except Fault as fault:
         say(str(fault))
         return status or fault.status

@@ -1,65 +1,49 @@
-"""spanprof-convert: the log of a recorded run as texts, as often and in whichever way is asked for."""
+"""spanprof-convert: makes the text of a recording anew from its log, or a text of a part of it."""
 import os
+import shutil
+import sys
 
-from spanprof.command import Console, count, end_with
+from spanprof.command import Console, end_with, naming
+from spanprof.converting import (convert, convert_into, converter, has_failed, made_text, no_region, of_region)
 from spanprof.errors import OWN_FAULT, Fault
-from spanprof.record.convert import convert, converter
+from spanprof.recording import ENDING, LOG, META, is_recording, made_folder, open_recording
 from spanprof.record.files import check_folder
-from spanprof.record.options import FOLD_WORDS, Parser, check_name, fold, unit
-from spanprof.record.session import RECORDERS
+from spanprof.record.meta import old_meta, write_meta
+from spanprof.record.options import Parser, check_name, unit
 from spanprof.record.told import in_words
 from spanprof.text import HEADER
 from spanprof.version import Version
 
 CONSOLE = Console("spanprof-convert")
-DESCRIPTION = """Writes the texts of a log that the recorder has left: NAME.tasks, NAME.replay and so on, in place
-of those that are there. The log stays, and can be converted again in another way."""
-AFTER = "Exit status 125: wrong words, a log cannot be converted, or a text cannot be written."
-OF_A_TEXT = ("unit", "whole", "fold", "regions", "parts", "times")
+DESCRIPTION = """Writes the text of a recording anew from its log. --region makes a text of one of its regions, in
+files of its own: NAME.tasks, and NAME.timed with its times."""
+AFTER = "Exit status 125: wrong arguments, a log that cannot be converted, or a text that cannot be written."
 MOST_LINES, LONGEST = 1000, 1000    # of the comments before a text's first word
-WANTED = "; a log is the folder NAME.log that spanprof-record leaves"
+WANTED = "; a recording is the folder NAME.spanprof that spanprof-record leaves"
 
 
 def parser():
     out = Parser(prog="spanprof-convert", description=DESCRIPTION, epilog=AFTER, allow_abbrev=False,
-                 usage="spanprof-convert [options] NAME.log ..")
+                 usage="spanprof-convert [options] NAME.spanprof")
     add = out.add_argument
-    add("--out", metavar="NAME", help="the first name of the files, of one log; without it the log's")
+    add("--out", metavar="NAME", help="write another recording, NAME.spanprof, whose log is a link; or the name of the "
+        "text that --region makes, NAME.tasks")
     add("--unit", type=unit, help="what a cost of 1 is: ns (without it), us, ms, or a number of nanoseconds")
-    add("--whole", action="store_true", help="the whole program as one text: serial code, regions, chunks of loops")
-    add("--online", action="store_const", const=1,
-        help="in place of texts NAME.online.json: work and span by place, in the memory of what is open at one time")
-    add("--fold", type=fold, action="append", default=[], metavar=FOLD_WORDS,
-        help="where a recording is too large, write fewer tasks with the same work and span; or tasks at depth D with "
-        "all below them as one cost; tasks cheaper than C as work of their parent; N neighbours as one task")
-    add("--regions", type=count(1, 9999), metavar="N",
-        help="how many regions with tasks, 10 without it: of each place those next to its median")
-    add("--parts", choices=("heavy", "all", "none", "all-or-none"),
-        help="which parts without tasks: heavy (without it)")
-    add("--times", action="store_const", const=1,
-        help="write NAME.timed too, the document of the text and its times that spanprof_large account reads")
+    add("--region", metavar="FILE:LINE", help="a text of the region there; of several, of the one with the median work")
+    add("--text", action="store_true", help="print the text, and write none")
+    add("--online", action="store_true",
+        help="in place of a text online.json: work and span by place, in the memory of what is open at one time")
     add("--version", action=Version)
-    add("logs", nargs="+", metavar="NAME.log", help="the folder of a log")
+    add("recording", metavar="NAME.spanprof", help="the recording, or the folder of a log")
     return out
-
-
-def variables(base, chosen):
-    """What the converter takes; what is not asked for stays as it is."""
-    asked = {"SPANPROF_UNIT": chosen.unit, "SPANPROF_REGIONS": chosen.regions, "SPANPROF_PARTS": chosen.parts,
-             "SPANPROF_TIMES": chosen.times, "SPANPROF_ONLINE": chosen.online}
-    asked.update(("SPANPROF_FOLD_" + name.upper(), number) for name, number in chosen.fold)
-    asked["SPANPROF_WHOLE"] = 1 if chosen.whole else None
-    return dict(base, **{name: str(value) for name, value in asked.items() if value is not None})
 
 
 def parse(words):
     reader = parser()
     chosen = reader.parse_args(words)
-    if chosen.out is not None and len(chosen.logs) > 1:
-        reader.error("--out takes one log")
     if chosen.out is not None:
         check_name(reader, chosen.out)
-    kept = [name for name in OF_A_TEXT if getattr(chosen, name)] if chosen.online else []
+    kept = [name for name in ("unit", "region", "text") if getattr(chosen, name)] if chosen.online else []
     if kept:
         reader.error("--online writes no text, which --%s is for" % kept[0])
     return chosen
@@ -75,28 +59,113 @@ def is_text(path):
     return first == HEADER.encode()
 
 
-def check_log(log):
-    """Ends with a fault where this is no folder with a log, and says what it is."""
-    if not os.path.exists(log):
-        raise Fault("%s: no such folder%s" % (log or "''", WANTED))
-    if is_text(log):
-        raise Fault("%s: a text already, and no log: spanprof-report makes its page, spanprof-whatif changes it" % log)
-    if not os.path.isdir(log):
-        raise Fault("%s: no folder%s" % (log, WANTED))
-    if not os.path.exists(os.path.join(log, "head")) and os.access(log, os.X_OK):
-        raise Fault("%s: a folder without a log in it%s" % (log, WANTED))
+def log_of(path):
+    """The log of a recording, or the folder itself where it is one; else a fault says what it is."""
+    path = path.rstrip(os.sep) or path
+    if not os.path.exists(path):
+        raise Fault("%s: no such folder%s" % (path or "''", WANTED))
+    if is_text(path):
+        raise Fault("%s: a text already, and no recording: spanprof-report makes its page, spanprof-whatif changes it" %
+                    path)
+    if not os.path.isdir(path):
+        raise Fault("%s: no folder%s" % (path, WANTED))
+    found = next((log for log in (os.path.join(path, LOG), path) if os.path.exists(os.path.join(log, "head"))), None)
+    if not found:
+        raise Fault("%s: a folder without a log in it%s" % (path, WANTED))
+    return found
+
+
+def variables(chosen, folder):
+    """What the converter takes; the unit is that of the text that is there, where no other is asked for."""
+    unit_there = str(old_meta(folder).get("unit", "")).partition(" ")[0]
+    asked = {"SPANPROF_UNIT": chosen.unit or unit_there, "SPANPROF_ONLINE": chosen.online and 1}
+    return dict(os.environ, **{name: str(value) for name, value in asked.items() if value})
+
+
+def tell_all(told, made="", name=""):
+    """Ends with a fault where something could not be done. Files are named as they are in the end."""
+    for one in told:
+        CONSOLE.say(in_words(one).replace(made, name) if made else in_words(one))
+    if has_failed(told):
+        raise Fault("nothing is written; --out names a recording elsewhere", OWN_FAULT)
+
+
+def target(chosen, log):
+    """The folder that the text is written into: that of the log, or a new one, with a link to the log."""
+    own = chosen.recording.rstrip(os.sep)
+    if chosen.out is None and is_recording(own):
+        return own
+    folder = (chosen.out or own.removesuffix(".log")) + ENDING
+    check_folder(folder)
+    if os.path.exists(folder):
+        raise Fault("%s is there already; --out names another" % folder)
+    with naming(folder):
+        os.mkdir(folder)
+        os.symlink(os.path.abspath(log), os.path.join(folder, LOG))
+    return folder
+
+
+def write_recording(chosen, program, log):
+    folder = target(chosen, log)
+    facts = {**old_meta(chosen.recording), "unit": variables(chosen, chosen.recording).get("SPANPROF_UNIT", "ns")}
+    told = convert_into(program, log, folder, variables(chosen, chosen.recording))
+    if not has_failed(told):
+        if os.path.exists(os.path.join(folder, META)):
+            os.remove(os.path.join(folder, META))
+        write_meta(folder, {name: value for name, value in facts.items() if name != "files"})
+    tell_all(told)
+
+
+def part_text(chosen, program, log, out, name):
+    """The text of a region, or of the program in another unit."""
+    asked = variables(chosen, chosen.recording)
+    asked = of_region(asked, chosen.region) if chosen.region else dict(asked, SPANPROF_WHOLE="1")
+    told = convert(program, log, out, asked)
+    tell_all([one for one in told if one["told"] not in ("more regions", "text")], out, name)
+    text = made_text(out)
+    if not text and chosen.region:
+        raise no_region(open_recording(chosen.recording), chosen.region)
+    if not text:
+        raise Fault("%s: no text can be made" % chosen.recording)
+    return text
+
+
+def name_of_part(chosen):
+    stem = chosen.recording.rstrip(os.sep).removesuffix(ENDING)
+    return chosen.out or stem + ".region" * bool(chosen.region)
+
+
+def print_text(path):
+    with open(path, encoding="utf-8", errors="surrogateescape", newline="") as file:
+        shutil.copyfileobj(file, sys.stdout)
+
+
+def write_part(chosen, program, log):
+    """Moves text and times of the part to where they are asked for."""
+    name = name_of_part(chosen)
+    made = part_text(chosen, program, log, os.path.join(made_folder(), "part"), name)
+    if chosen.text:
+        print_text(made)
+        return
+    check_folder(name)
+    for ending in (".tasks", ".timed", ".inout.tasks"):
+        part = made.removesuffix(".tasks") + ending
+        if os.path.exists(part):
+            with naming(name + ending):
+                shutil.move(part, name + ending)
+            CONSOLE.say("written: " + name + ending)
 
 
 def answer(chosen):
-    for log in chosen.logs:
-        check_log(log)
-        check_folder(log.rstrip(os.sep) if chosen.out is None else chosen.out)
-    program, failed = converter(RECORDERS, CONSOLE.say), False
-    for log in chosen.logs:
-        for one in convert(program, log, variables(os.environ, chosen), chosen.out):
-            CONSOLE.say(in_words(one))
-            failed |= one["told"] in ("fault", "unwritten")
-    raise SystemExit(OWN_FAULT if failed else 0)
+    if chosen.text and not (chosen.region or chosen.unit):
+        print_text(open_recording(chosen.recording).text)
+        return
+    log = log_of(chosen.recording)
+    program = converter(CONSOLE.say)
+    if chosen.region or chosen.text:
+        write_part(chosen, program, log)
+    else:
+        write_recording(chosen, program, log)
 
 
 def main(words):

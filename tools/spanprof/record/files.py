@@ -1,5 +1,4 @@
 """The files of a recording."""
-import glob
 import os
 import re
 from dataclasses import dataclass
@@ -7,9 +6,6 @@ from dataclasses import dataclass
 from spanprof.errors import Fault
 
 USUAL_REGIONS = 10
-OF_A_RECORDING = re.compile(r"(\.rank[0-9]+)?(\.[0-9]+)?(\.whole)?((\.large)?(\.inout)?\.(tasks|replay|times|timed)|"
-                            r"\.scale\.json|\.online\.json|\.regions)")
-IN_A_LOG = re.compile(r"head|modules|paths|online(\.new)?|thread\.[0-9]+(\.last)?")
 
 
 @dataclass
@@ -51,30 +47,6 @@ def recordings(out):
     return [one for one in found if os.path.exists(one.text)]
 
 
-def large_recordings(out):
-    """Those of the regions that are beyond the limits of the ten commands: NAME.large.tasks, NAME.2.large.tasks .."""
-    stems = [(stem_of(out, number), number) for number in range(1, most_regions(os.environ) + 1)]
-    found = [Recording(stem + ".large.tasks", beside(stem, ".large.replay"), number=number, is_large=True)
-             for stem, number in stems]
-    return [one for one in found if os.path.exists(one.text)]
-
-
-def whole_name(out):
-    """The first name of the files of the whole program, beside those of its regions."""
-    return out + ".whole"
-
-
-def whole_recording(out):
-    """That of the whole program, beside those of its regions; None where there is none."""
-    return next(iter(recordings(whole_name(out)) + large_recordings(whole_name(out))), None)
-
-
-def name_of(one):
-    """The first name of the files that this recording is among."""
-    stem = re.sub(r"(\.large)?\.tasks$", "", one.text)
-    return stem[:-len(".%d" % one.number)] if one.number > 1 else stem
-
-
 def stem_of(out, number):
     return out if number == 1 else "%s.%d" % (out, number)
 
@@ -86,22 +58,3 @@ def beside(stem, end):
 
 def recording(stem, number=1):
     return Recording(stem + ".tasks", beside(stem, ".replay"), beside(stem, ".times"), number)
-
-
-def remove_log(folder):
-    """Takes away what the recorder wrote there, and the folder where nothing else is in it."""
-    for name in filter(IN_A_LOG.fullmatch, os.listdir(folder)):
-        os.remove(os.path.join(folder, name))
-    try:
-        os.rmdir(folder)
-    except OSError:
-        pass  # somebody else's file is in it
-
-
-def remove_old(out):
-    """Takes away what an earlier run of this name left, as the recorder does where it is loaded."""
-    for path in glob.glob(glob.escape(out) + ".*"):
-        if OF_A_RECORDING.fullmatch(path[len(out):]):
-            os.remove(path)
-        elif re.fullmatch(r"(\.rank[0-9]+)?(\.[0-9]+(-[0-9]+)?)?\.log", path[len(out):]) and os.path.isdir(path):
-            remove_log(path)

@@ -9,6 +9,7 @@ from spanprof.errors import Fault
 
 GCC, LLVM = "gcc's runtime (libgomp)", "LLVM's runtime (libomp)"
 NAMES = {"libgomp.so": GCC, "libomp.so": LLVM, "libomp-": LLVM, "libiomp5.so": LLVM}
+SANITIZERS = ("libasan.so", "libtsan.so", "libclang_rt.asan", "libclang_rt.tsan")
 ELF = b"\x7fELF"   # the first bytes of a program, or of a library
 ENTRIES = {"GOMP_parallel": GCC, "GOMP_task": GCC, "__kmpc_fork_call": LLVM}
 
@@ -21,6 +22,8 @@ class Linkage:
     libraries: Dict[str, str] = field(default_factory=dict)  # each runtime with the path, empty where none was found
     inside: Set[str] = field(default_factory=set)            # runtimes that are linked into the program itself
     called: Set[str] = field(default_factory=set)            # what it calls of gcc's runtime
+    loads: bool = False                                      # libraries by itself, which may have OpenMP in them
+    is_checked: bool = False                                 # by a sanitizer's library, which has to be loaded first
 
 
 def runtime_of(name):
@@ -38,6 +41,10 @@ def shared_runtimes(listing):
             path = rest if arrow else name
             found[runtime] = "" if path.startswith("not found") else path.rpartition(" (")[0]
     return found
+
+
+def is_checked(listing):
+    return any(name in listing for name in SANITIZERS)
 
 
 def is_static(listing):
@@ -80,4 +87,5 @@ def linkage(path):
     defined, undefined = symbols(listed(["readelf", "-W", "--symbols", path]))
     inside = {runtime for name, runtime in ENTRIES.items() if name in defined}
     called = {name for name in undefined if name.startswith("GOMP_")}
-    return Linkage(False, is_static(libraries), shared_runtimes(libraries), inside, called)
+    return Linkage(False, is_static(libraries), shared_runtimes(libraries), inside, called,
+                   "dlopen" in undefined, is_checked(libraries))

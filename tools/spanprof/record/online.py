@@ -1,21 +1,13 @@
 """What a run was measured to be while it went on: sums without a text, so nothing of them is proved."""
-import glob
 import json
-import os
-import re
 
 from spanprof.report.figures import percent, rounded_down, rounded_up
 from spanprof.remarks import remark_of
+from spanprof.recording import shown_name
 from spanprof.record.summary import CLOCKS, MOST_PLACES, THREADS, grouped, named
 
+ONLINE = "online.json"    # in the folder of a recording
 UNPROVED = "measured while the program ran, and no text is kept"
-
-
-def online_files(out):
-    """Those of this name: the program's own, those of its processes of MPI, and those of their children."""
-    found = [path for path in glob.glob(glob.escape(out) + ".*json")
-             if re.fullmatch(r"(\.rank[0-9]+)?(\.[0-9]+(-[0-9]+)?)?\.online\.json", path[len(out):])]
-    return sorted(found, key=lambda path: (path.count("."), path))
 
 
 def read_online(path):
@@ -44,11 +36,11 @@ def title(name, told):
 
 def thread_lines(told):
     if told["threads"] == 1:
-        return ["it is of one thread, and says nothing of more"]
-    return ["%s times as fast as its work in a row at most (of the measured sums)" % ", ".join(
-        "%d: %s" % (p, rounded_up(told["work"], least(told, p))) for p in THREADS),
-            "%s and more as long as no thread idles beside code that could run (of the measured sums)" % ", ".join(
-                "%d: %s" % (p, rounded_down(told["work"], bound(told, p))) for p in THREADS)]
+        return ["it was recorded on one thread, and says nothing about more"]
+    most = ", ".join("%d: %s" % (p, rounded_up(told["work"], least(told, p))) for p in THREADS)
+    greedy = ", ".join("%d: %s" % (p, rounded_down(told["work"], bound(told, p))) for p in THREADS)
+    return ["speedup at most %s (of the measured sums)" % most,
+            "speedup at least %s for a greedy schedule (of the measured sums)" % greedy]
 
 
 def with_function(place):
@@ -70,7 +62,7 @@ def region_lines(told):
 
 def online_summary(path, news=()):
     told = read_online(path)
-    return [title(os.path.basename(path), told)] \
+    return [title(shown_name(path), told)] \
         + named("tasks", ["%s, in %s regions (recorded)" % (grouped(told["tasks"]), grouped(told["regions"]))]) \
         + named("work", ["%s: code on all threads, added up (measured)" % nanoseconds(told["work"])]) \
         + named("span", ["%s: a longest way through what was measured (measured)" % nanoseconds(told["span"])]) \
@@ -79,4 +71,4 @@ def online_summary(path, news=()):
         + named("threads", thread_lines(told)) \
         + named("span by place", place_lines(told)) \
         + named("regions", region_lines(told)) \
-        + named("remarks", [UNPROVED] + [remark_of(one) for one in told["remarks"]] + list(news))
+        + named("warnings", [UNPROVED] + [remark_of(one) for one in told["remarks"]] + list(news))

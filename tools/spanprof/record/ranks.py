@@ -1,5 +1,4 @@
 """Processes of one MPI program: which one a process is, by its launcher's variables, and what launches them."""
-import glob
 import os
 import re
 
@@ -19,7 +18,7 @@ def rank_of(variables):
 
 
 def of_rank(out, rank):
-    """The first name of a rank's files, as the recorder has it."""
+    """The name of a rank's recording, as the recorder has it."""
     return out if rank is None else "%s.rank%d" % (out, rank)
 
 
@@ -27,11 +26,6 @@ def is_launcher(path):
     return bool(LAUNCHERS.fullmatch(os.path.basename(path)))
 
 
-def are_ranks(recordings):
-    return any(re.search(r"\.rank[0-9]+\.[^/]*$", one.text) for one in recordings)
-
-
-def names_of_ranks(out):
-    """The first names of what the ranks of a run wrote, in order."""
-    ends = [re.match(r"\.rank([0-9]+)\.", path[len(out):]) for path in glob.glob(glob.escape(out) + ".rank*.tasks")]
-    return [of_rank(out, rank) for rank in sorted({int(end[1]) for end in ends if end})]
+def is_child(folder):
+    """Whether a process wrote this recording that the program started."""
+    return bool(re.search(r"\.child[0-9]+\.spanprof$", folder))

@@ -3,8 +3,11 @@ import os
 import resource
 import signal
 import subprocess
+import time
+from typing import NamedTuple, Optional
 
 from spanprof.errors import NOT_EXECUTABLE, Fault
+from spanprof.record.counters import counters
 
 PASSED_ON = (signal.SIGTERM, signal.SIGHUP, signal.SIGQUIT)
 
@@ -21,9 +24,8 @@ def environment(base, options, library, preload, out):
     if preload:
         new["LD_PRELOAD"] = with_others(preload, base.get("LD_PRELOAD"))
     asked = {"SPANPROF_UNIT": options.unit, "SPANPROF_CLOCK": options.clock, "OMP_NUM_THREADS": options.threads}
-    asked.update(("SPANPROF_FOLD_" + name.upper(), number) for name, number in options.fold)
     new.update((name, str(value)) for name, value in asked.items() if value is not None)
-    for name in ("whole", "online", "call_paths"):
+    for name in ("online", "call_paths"):
         if getattr(options, name):
             new["SPANPROF_" + name.upper()] = "1"
     return new
@@ -56,18 +58,19 @@ class PassedOn:
     """
 
     def __init__(self):
-        self.process, self.early, self.before = None, [], {}
+        self.pid, self.early, self.before = None, [], {}
 
     def hand_on(self, number, _):
-        if self.process is None:
+        if self.pid is None:
             self.early.append(number)
         else:
-            self.process.send_signal(number)
+            os.kill(self.pid, number)
 
-    def to(self, process):
-        self.process = process
-        for number in self.early:
-            process.send_signal(number)
+    def to(self, pid):
+        """None once it has ended."""
+        self.pid = pid
+        for number in self.early if pid else ():
+            os.kill(pid, number)
 
     def __enter__(self):
         handlers = {number: self.hand_on for number in PASSED_ON}
@@ -82,17 +85,39 @@ class PassedOn:
             signal.signal(number, handler)
 
 
+class Ended(NamedTuple):
+    """`status` is the exit status, or less than 0 the signal; `elapsed` is in nanoseconds."""
+    status: int
+    elapsed: int
+    usage: resource.struct_rusage
+    counters: Optional[dict]
+
+
+def begun(path, words, variables):
+    try:
+        return subprocess.Popen(words, executable=path, env=variables, close_fds=False)
+    except FileNotFoundError as wrong:
+        raise Fault("%s: the interpreter or loader that it names is not there" % path, NOT_EXECUTABLE) from wrong
+    except OSError as wrong:
+        raise Fault("%s: %s" % (path, wrong.strerror), NOT_EXECUTABLE) from wrong
+
+
+def watched(path, words, variables):
+    """How the program ended, how long it took, and what the system counted of it."""
+    with PassedOn() as passed_on, counters() as read_counters:
+        since = time.perf_counter_ns()
+        process = begun(path, words, variables)
+        passed_on.to(process.pid)
+        _, status, usage = os.wait4(process.pid, 0)
+        passed_on.to(None)
+        elapsed = time.perf_counter_ns() - since
+        process.returncode = os.waitstatus_to_exitcode(status)
+        return Ended(process.returncode, elapsed, usage, read_counters())
+
+
 def run(path, words, variables):
     """How the program ended: its exit status, or less than 0 the signal."""
-    with PassedOn() as passed_on:
-        try:
-            process = subprocess.Popen(words, executable=path, env=variables, close_fds=False)
-        except FileNotFoundError as wrong:
-            raise Fault("%s: the interpreter or loader that it names is not there" % path, NOT_EXECUTABLE) from wrong
-        except OSError as wrong:
-            raise Fault("%s: %s" % (path, wrong.strerror), NOT_EXECUTABLE) from wrong
-        passed_on.to(process)
-        return process.wait()
+    return watched(path, words, variables).status
 
 
 def signal_name(status):

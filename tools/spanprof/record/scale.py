@@ -1,8 +1,8 @@
 """The program's true times: unrecorded runs on several numbers of threads, in turns, and recordings on each number."""
+import glob
 import os
-import re
+import shutil
 import statistics
-import time
 from collections import Counter
 from dataclasses import dataclass, field
 from typing import Dict, List, NamedTuple, Optional
@@ -10,12 +10,19 @@ from typing import Dict, List, NamedTuple, Optional
 from spanprof.account import Account, account_beside
 from spanprof.answers import Answers
 from spanprof.claims import tasks_made
-from spanprof.errors import Fault
+from spanprof.converting import logs_in
 from spanprof.head import Head, head_text, read_head
+from spanprof.predict.scaled import SCALE
 from spanprof.record.console import say, tell
-from spanprof.record.files import recordings, remove_old
-from spanprof.record.run import rewind, run, signal_name, without_recorder
+from spanprof.record.files import recordings
+from spanprof.record.run import rewind, signal_name, watched, without_recorder
 from spanprof.record.scale_gap import on_threads
+from spanprof.record.scale_words import scale_json
+from spanprof.record.session import Recorded
+from spanprof.record.summary_json import write_json
+from spanprof.recording import ENDING
+
+KEPT = "scale"  # the folder of the texts, in that of the recording
 
 
 @dataclass
@@ -66,16 +73,15 @@ class Failed(Exception):
 
     def __init__(self, status, where):
         how = "by " + signal_name(status) if status < 0 else "with status %d" % status
-        super().__init__("%s ended %s: no speed-up is told" % (where, how))
+        super().__init__("%s ended %s: no speedup" % (where, how))
         self.status = status
 
 
 def timed_run(session, variables):
     """The elapsed time of one unrecorded run, and how it ended."""
     rewind()
-    begun = time.perf_counter_ns()
-    status = run(session.path, session.options.command, variables)
-    return time.perf_counter_ns() - begun, status
+    ended = watched(session.path, session.options.command, variables)
+    return ended.elapsed, ended.status
 
 
 def unrecorded(session, numbers, runs):
@@ -94,19 +100,6 @@ def unrecorded(session, numbers, runs):
     return times
 
 
-def make_folder(out):
-    """Where the recordings go beside the one that the summary is of."""
-    folder = out + ".scale"
-    try:
-        os.makedirs(folder, exist_ok=True)
-        for stem in {name.partition(".")[0] for name in os.listdir(folder)}:
-            if re.fullmatch(r"threads\d+(-\d+)?", stem):
-                remove_old(os.path.join(folder, stem))
-    except OSError as wrong:
-        raise Fault("%s: %s" % (wrong.filename, wrong.strerror)) from wrong
-    return folder
-
-
 def prepare(session, threads, turn):
     """The next run is recorded on so many threads."""
     tell("recorded run %d of %d %s" % (turn, session.options.runs, on_threads(threads)))
@@ -119,17 +112,36 @@ def name_of(folder, threads, turn):
     return os.path.join(folder, "threads%d" % threads + ("-%d" % turn if turn > 1 else ""))
 
 
+def write_regions(session, folder, stem):
+    """The texts of the regions and their times."""
+    session.write_regions(folder, stem)
+    for path in glob.glob(glob.escape(stem) + "*"):
+        if path.endswith((".replay", ".times", ".regions")):
+            os.remove(path)
+
+
+def record_regions(session, threads, turn):
+    """One recording, of which the texts of its regions are kept: their first name, and how the program ended."""
+    stem = name_of(session.work.scale, threads, turn)
+    prepare(session, threads, turn)
+    status = session.run(stem).status
+    for folder in logs_in(session.work.scale):
+        if folder == stem + ENDING:
+            write_regions(session, folder, stem)
+        shutil.rmtree(folder)
+    return stem, status
+
+
 def record_each(session, numbers):
     """The first names of the recordings on each of these numbers of threads, in turns as the unrecorded runs. The last
     one on the most threads is left: that is the one with a summary."""
-    folder, names, runs = make_folder(session.out), {threads: [] for threads in numbers}, session.options.runs
+    names, runs = {threads: [] for threads in numbers}, session.options.runs
     for turn in range(1, runs + 1):
         for threads in numbers if turn < runs else numbers[:-1]:
-            prepare(session, threads, turn)
-            names[threads].append(name_of(folder, threads, turn))
-            status, _ = session.run(names[threads][-1], may_be_whole=False)
+            name, status = record_regions(session, threads, turn)
             if status:
                 raise Failed(status, "recorded run %d of %d %s" % (turn, runs, on_threads(threads)))
+            names[threads].append(name)
     return names
 
 
@@ -188,21 +200,38 @@ def regions_of(names, found, most):
     return regions, texts
 
 
+def scale_of(session, times, names, folder):
+    """That of the recording in this folder, with the texts of its regions and those of the others."""
+    most = session.options.scale[-1]
+    kept = os.path.join(folder, KEPT)
+    os.rename(session.work.scale, kept)
+    last = name_of(kept, most, session.options.runs)
+    write_regions(session, folder, last)
+    moved = {threads: [os.path.join(kept, os.path.basename(name)) for name in several]
+             for threads, several in names.items()}
+    return Scale(session.options.runs, times, *regions_of(moved, recordings(last), most),
+                 os.path.basename(session.preload), len(os.sched_getaffinity(0)))
+
+
 def record_scale(session):
-    """The status, recordings and words of the run on the most threads, as `record` answers them, and the scale. At a
-    run that fails it ends without one."""
+    """What the run on the most threads left, as `record_once` answers it, and the scale. At a run that fails it ends
+    without one."""
     numbers, runs = session.options.scale, session.options.runs
     try:
         times = unrecorded(session, numbers, runs)
+        os.mkdir(session.work.scale)
         names = record_each(session, numbers)
     except Failed as failed:
         say(str(failed))
-        return failed.status, [], None, None
+        return Recorded(failed.status), None
     prepare(session, numbers[-1], runs)
-    status, found, said = session.record_once()
-    if status:
-        say(str(Failed(status, "recorded run %d of %d %s" % (runs, runs, on_threads(numbers[-1])))))
-        return status, found, said, None
-    scale = Scale(runs, times, *regions_of(names, found, numbers[-1]), os.path.basename(session.preload),
-                  len(os.sched_getaffinity(0)))
-    return status, found, said, scale
+    found = []
+
+    def finish(folder):
+        found.append(scale_of(session, times, names, folder))
+        write_json(os.path.join(folder, SCALE), scale_json(found[0]), "")
+    recorded = session.record_once(finish)
+    if recorded.status:
+        say(str(Failed(recorded.status, "recorded run %d of %d %s" % (runs, runs, on_threads(numbers[-1])))))
+        return recorded, None
+    return recorded, found[0] if found else None

@@ -9,12 +9,12 @@ WHAT = {
     "work on one thread": "code, recorded on one thread; " + UNDEFERRED,
     "inflation": "code on %(threads)d threads, recorded, less that on one",
     "recorder": "the recorder's own time in code",
-    "held up": "in code, off the processor, asleep or waiting for locks",
-    "delayed": "idle though code was ready",
-    "starved": "idle with nothing ready",
-    "outside": "before the region's code and after it"}
+    "held up": "in code, preempted, asleep or waiting for locks",
+    "delayed": "scheduling delay",
+    "starved": "idle",
+    "outside": "startup and shutdown"}
 OF_PIECES = "the pieces of loops of a whole program are not timed one by one"
-BY_PROCESSOR = "in code, off the processor or in the recorder, asleep or waiting for locks"
+BY_PROCESSOR = "in code, preempted or in the recorder, asleep or waiting for locks"
 
 
 @dataclass
@@ -51,7 +51,7 @@ def account_on(scale, threads):
         raise NoGap("the recording %s has no such region within the limits of spanprof" % on)
     if region.account is None:
         why = region.why or (OF_PIECES if region.head.whole else "")
-        raise NoGap("the recording %s has no account%s" % (on, ": " + why if why else ""))
+        raise NoGap("the recording %s has no time breakdown%s" % (on, ": " + why if why else ""))
     if region.account.threads != threads:
         raise NoGap("the region ran %s, and not %s: the program or its environment decides that" % (
             on_threads(region.account.threads), on))
@@ -76,7 +76,7 @@ def remarks_of(scale):
             *map(lasting, left), scale.most))
     rest = beside_the_region(most.head)
     if 1000 * rest > most.head.elapsed > 0:
-        out.append("beside this region the recorded program took %s on %d threads, which is no part of the sum" % (
+        out.append("outside of this region the recorded program took %s on %d threads, which is no part of the sum" % (
             lasting(rest * most.head.nanoseconds), scale.most))
     return out
 
@@ -90,5 +90,5 @@ def gap_of(scale):
              "outside": on_most.outside}
     found = Gap(threads, on_most.elapsed, parts, remarks_of(scale), on_most.by_processor)
     if sum(parts.values()) != found.whole:
-        raise NoGap("the sums of the account are not %d x elapsed" % threads)
+        raise NoGap("the sums of the time breakdown are not %d x elapsed" % threads)
     return found

@@ -10,7 +10,7 @@ LEAST = 0.01        # of P x elapsed, from which on a place's loss is told
 
 @dataclass(frozen=True)
 class Place:
-    """In nanoseconds. `beside` is what segments lasted beyond their costs: held up, or the recorder's."""
+    """In nanoseconds. `beside` is what segments lasted beyond their costs: blocked, or the recorder's."""
     name: str
     on_one: int
     inflation: int
@@ -49,8 +49,8 @@ def place_line(place, whole):
     def share(part):
         return "%.1f %%" % (100 * part / whole)
 
-    parts = [(place.inflation, "inflation"), (place.beside, "held up or the recorder's"),
-             (place.delayed, "idle beside it"), (place.starved, "idle while it ran")]
+    parts = [(place.inflation, "inflation"), (place.beside, "blocked or the recorder's"),
+             (place.delayed, "delayed while it was ready"), (place.starved, "idle while it ran")]
     told = ", ".join("%s %s" % (share(part), name) for part, name in parts if abs(part) >= LEAST * whole / 10)
     return "%s lost at %s: %s (measured)" % (share(place.lost), place.name, told)
 

@@ -1,4 +1,4 @@
-"""The true speed-up and the gap as lines of the summary, and as JSON."""
+"""The true speedup and the gap as lines of the summary, and as JSON."""
 import os
 
 from spanprof.account_words import lasting
@@ -6,8 +6,8 @@ from spanprof.head import part_of_program
 from spanprof.record.scale_gap import NoGap, gap_of
 from spanprof.record.scale_places import place_lines, places_json
 
-HEADS = ("threads", "median", "least", "greatest", "speed-up", "region, recorded")
-SAID = "speed-up: the median time on one thread over that on so many, the true one (measured)"
+HEADS = ("threads", "median", "least", "greatest", "speedup", "region, recorded")
+SAID = "speedup: the median time on one thread over that on so many, the true one (measured)"
 
 
 def region_time(scale, threads):
@@ -54,7 +54,7 @@ def gap_lines(scale):
     try:
         found = gap_of(scale)
     except NoGap as why:
-        return ["not told: %s" % why]
+        return ["unavailable: %s" % why]
     region = scale.regions[scale.most]
     first = "%d x %s of the recorded run, %s, are the sum of (measured)" % (
         found.threads, lasting(found.elapsed), part_of_program(region.head))
@@ -81,9 +81,9 @@ def gap_json(scale):
 
 
 def recordings(scale, threads):
-    """Where the region's texts on so many threads lie, from the folder of that with the summary."""
+    """Where the region's texts on so many threads lie, from the folder of the recording."""
     most = scale.regions.get(scale.most)
-    folder = os.path.dirname(most.path) if most else ""
+    folder = os.path.dirname(os.path.dirname(most.path)) if most else ""
     return [os.path.relpath(path, folder or ".") for path in scale.texts.get(threads, [])]
 
 
@@ -92,7 +92,7 @@ def row_json(scale, threads):
     recorded = region and region.head.elapsed and region.head.nanoseconds
     low, high = scale.speed_up_from_to(threads)
     return {"threads": threads, "times": times, "median": scale.median(threads), "least": min(times),
-            "greatest": max(times), "speed-up": scale.speed_up(threads), "speed-up from": low, "speed-up to": high,
+            "greatest": max(times), "speedup": scale.speed_up(threads), "speedup from": low, "speedup to": high,
             "region elapsed": region.head.elapsed * region.head.nanoseconds if recorded else None,
             "recordings": recordings(scale, threads)}
 

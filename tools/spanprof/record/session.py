@@ -1,25 +1,35 @@
 """One program, recorded once or several times."""
 import os
+from contextlib import contextmanager
+from dataclasses import dataclass, field
+from typing import List
 
 from spanprof import client
+from spanprof.converting import RECORDERS, convert, convert_into, converter, has_failed
 from spanprof.errors import Fault
-from spanprof.folders import builds_in
-from spanprof.measure import spanprof_large
+from spanprof.recording import ENDING, LOG, META, TEXT, open_recording
 from spanprof.record.console import say, tell
-from spanprof.record.convert import convert_all, converter
-from spanprof.record.files import (check_file, check_folder, large_recordings, recordings, remove_old,
-                                   whole_name)
+from spanprof.record.facts import facts_of_run, processors_there_are
+from spanprof.record.files import check_file, check_folder
+from spanprof.record.full import full_facts
 from spanprof.record.linkage import linkage
-from spanprof.record.online import online_files
-from spanprof.record.ranks import is_launcher, names_of_ranks, of_rank, rank_of
+from spanprof.record.meta import old_meta, write_meta
+from spanprof.record.ranks import is_launcher, of_rank, rank_of
 from spanprof.record.recorder import recorder_library
-from spanprof.record.repeat import FIRST_PARTS, combine_all, make_folder, parts_of_the_next
-from spanprof.record.run import environment, rewind, run, signal_name
-from spanprof.record.runtime import refuse_targets, to_preload, what_it_lacks
+from spanprof.record.run import environment, signal_name, watched
+from spanprof.record.runtime import choose, refuse_targets, what_it_lacks
+from spanprof.record.runtime_name import note_of
 from spanprof.record.target import find, launched
-from spanprof.record.whole import convert_wholes, convert_without_regions
+from spanprof.record.told import Told
+from spanprof.record.work import Work, taken
 
-RECORDERS = builds_in("openmp_recorder")
+
+@dataclass
+class Recorded:
+    """How the program ended, its recordings with a text (or, measured while it ran, without), and what is told."""
+    status: int
+    found: List[str] = field(default_factory=list)
+    said: Told = None
 
 
 def check_spanprof():
@@ -35,22 +45,19 @@ def notes_on(preload, called, is_asked=False):
     return ["LLVM's runtime has no %s, which the program calls: gcc's is used there" % name for name in lacking]
 
 
-def why_nothing(status, said, out, is_script):
+def loaded_first(chosen, library):
+    """The recorder's library before gcc's runtime, and before the program's own libraries."""
+    return ":".join(filter(None, [library if chosen.in_front else "", chosen.preload]))
+
+
+def why_nothing(status, said, out):
     """The reason for which there is no text."""
     if status < 0:
         ended = "the program ended by %s" % signal_name(status)
         return "; ".join([ended] + said.news(out))
     if said.loaded:
         return "; ".join(said.news(out)) or "the recorder says nothing of it"
-    if is_script:
-        return "no OpenMP runtime loaded the recorder; where the script runs a program of gcc's, say --runtime FILE"
-    return "its OpenMP runtime did not load the recorder; it begins only where a program meets a construct of OpenMP"
-
-
-def with_whole(said, options):
-    """What else helps where nothing is recorded."""
-    return "; without --no-whole loops and serial code are recorded" if said.tells("no tasks") and options.no_whole \
-        else ""
+    return "no OpenMP runtime loaded the recorder; it begins only where a program meets a construct of OpenMP"
 
 
 class Session:
@@ -63,75 +70,117 @@ class Session:
         check_folder(options.out)
         check_file(options.html, "--html")
         check_file(options.json, "--json")
+        self.comparison = None      # with an earlier recording, where that is asked for
+        if options.against:
+            open_recording(options.against)     # ends with a fault before the run where it is none
         check_spanprof()
-        if options.scale and (launches or self.rank is not None):
-            raise Fault("--scale takes no processes of MPI")
+        for name in ("scale", "full"):
+            if getattr(options, name) and (launches or self.rank is not None):
+                raise Fault("--%s takes no processes of MPI" % name)
         if launches and options.runs > 1:
             raise Fault("--runs takes no launcher; as in: mpirun -n 4 spanprof-record --runs 5 -- PROGRAM")
         target = launched(options.command) if launches else self.path
         linked = linkage(target)
-        self.is_script = linked.is_script
-        self.preload = to_preload(target, linked, options.runtime)
+        chosen = choose(target, linked, options.runtime)
+        self.preload = chosen.preload
         self.library = os.path.realpath(recorder_library(RECORDERS, tell))
-        self.converter = converter(RECORDERS, tell)
+        self.preload_recorded = loaded_first(chosen, self.library)
+        self.converter = converter(tell)
         self.notes = notes_on(self.preload, linked.called, bool(options.runtime))
+        self.work = None
 
-    def run(self, out, others=None, may_be_whole=True):
-        """One run, with other variables too: how the program ended, and what is told of its logs. The whole program
-        has a text beside those of its regions where that is not ruled out."""
-        remove_old(out)
-        asked = dict(os.environ, **others or {})
-        if spanprof_large():
-            asked["SPANPROF_TIMES"] = "1"
-        variables = environment(asked, self.options, self.library, self.preload, out)
-        status = run(self.path, self.options.command, variables)
-        tell("converting " + os.path.basename(out) + ".log")
-        said = convert_all(self.converter, out, variables)
-        if self.options.whole or self.options.no_whole or self.options.online:
-            return status, said
-        if said.tells("no tasks"):
-            said = said.and_also(convert_without_regions(self.converter, out, variables))
-        return status, said.and_also(convert_wholes(self.converter, out, variables)) if may_be_whole else said
+    @contextmanager
+    def begun(self):
+        """While it holds, the recording's own folder is there."""
+        self.work = Work(self.out, self.options.force)
+        if self.work.is_renamed:
+            why = "is there already" if taken(self.out) else "is being recorded, or its recording was killed"
+            say("%s.spanprof %s: this recording is %s.spanprof (--force replaces the other)" % (
+                self.out, why, os.path.basename(self.work.name)))
+        try:
+            yield
+        finally:
+            self.work.close()
 
-    def record_once(self):
-        """The program's end, the recordings, and what was said."""
-        status, said = self.run(self.out)
+    def variables(self, out, others=None):
+        asked = environment(dict(os.environ, **others or {}), self.options, self.library, self.preload_recorded, out)
+        return dict(asked, **others or {})
+
+    def run(self, out, others=None):
+        """One run, with other variables too, whose logs are OUT.spanprof/log and so on: how it ended."""
+        return watched(self.path, self.options.command, self.variables(out, others))
+
+    def facts_of(self, ended, out):
+        """What a recording tells of its run."""
+        return {**facts_of_run(ended, self.variables(out), processors_there_are()), "arguments": self.options.command}
+
+    def write(self, folder, out, facts):
+        """The texts of a log in its folder, and what is told of them."""
+        tell("converting the log of " + os.path.basename(folder))
+        told = convert_into(self.converter, os.path.join(folder, LOG), folder, self.variables(out))
+        self.note_once(note_of(os.path.join(folder, LOG)))
+        if not has_failed(told):
+            write_meta(folder, facts)
+        return told
+
+    def write_all(self, folders, out, ended):
+        facts = self.facts_of(ended, out)
+        return Told(bool(folders), [one for folder in folders for one in self.write(folder, out, facts)])
+
+    def record_aside(self, out, others):
+        """The program's end and the text of the whole program, of a run beside the one that is kept."""
+        ended = self.run(out, others)
+        folder = out + ENDING
+        if os.path.isdir(folder):
+            convert_into(self.converter, os.path.join(folder, LOG), folder, self.variables(out))
+        text = os.path.join(folder, TEXT)
+        return ended.status, text if os.path.exists(text) else ""
+
+    def add_full(self, folder):
+        """What more runs tell."""
+        facts = old_meta(folder)
+        threads = facts.get("threads") or {}
+        number = threads.get("most") or threads.get("asked") or facts.get("processors") or 1
+        write_meta(folder, {**facts, **full_facts(self, number)})
+
+    def note_once(self, note):
+        if note and note not in self.notes:
+            self.notes = self.notes + [note]
+
+    def publish(self, said):
+        """The recordings under their names, those of the program and its ranks that have what was asked for."""
+        moved = self.work.publish()
+        for folder in moved.values():
+            if not os.path.exists(os.path.join(folder, META)):
+                say("%s has the log alone; spanprof-convert makes its text, with --out elsewhere" % folder)
+        wanted = "online.json" if self.options.online else TEXT
+        found = [final for final in moved.values() if os.path.exists(os.path.join(final, wanted))]
+        return found, said.moved(moved)
+
+    def note_end(self, status):
         if status < 0:
             self.notes = self.notes + ["the program ended by " + signal_name(status)]
-        found = [one for name in [self.out] + names_of_ranks(self.out)
-                 for one in recordings(name) + large_recordings(name)]
+
+    def tell_nothing(self, status, said):
+        nothing = "nothing is measured" if self.options.online else "nothing is recorded"
+        what = "the run is recorded, and its text is not made" if has_failed(said.things) else nothing
+        say("%s: %s" % (what, why_nothing(status, said, self.out)))
+
+    def write_regions(self, folder, out):
+        """The texts of the regions of a log, OUT.tasks and so on."""
+        convert(self.converter, os.path.join(folder, LOG), out, dict(self.variables(out), SPANPROF_TIMES="1"))
+
+    def record_once(self, finish=None):
+        """The program's end, the recordings, and what was said. `finish` adds to the folder of the program's own."""
+        ended = self.run(self.work.stem)
+        self.note_end(ended.status)
+        folders = self.work.folders
+        if finish and folders and not ended.status:
+            finish(folders[0])
+        said = self.write_all(folders, self.work.stem, ended)
+        if self.options.full and folders and not ended.status and not has_failed(said.things):
+            self.add_full(folders[0])
+        found, said = self.publish(said)
         if not found:
-            say("nothing is recorded: " + why_nothing(status, said, self.out, self.is_script) +
-                with_whole(said, self.options))
-        return status, found, said
-
-    def record_often(self):
-        """The same for all runs together; at one that fails or writes nothing they end."""
-        remove_old(self.out)
-        names = make_folder(self.out, self.options.runs)
-        parts = FIRST_PARTS
-        for i, name in enumerate(names):
-            tell("run %d of %d" % (i + 1, len(names)))
-            rewind()
-            status, said = self.run(name, {"SPANPROF_PARTS": parts})
-            if status or not recordings(name):
-                why = why_nothing(status, said, name, self.is_script) if not recordings(name) else \
-                    "the program ended with status %d" % status
-                say("run %d of %d is the last, and there is no median: %s" % (i + 1, len(names), why))
-                return status, [], said
-            parts = parts_of_the_next([one.text for one in recordings(name)]) if parts == FIRST_PARTS else parts
-        tell("taking medians")
-        self.notes += combine_all(self.out, names)
-        last = recordings(names[-1]) + recordings(whole_name(names[-1]))
-        return 0, recordings(self.out), said.without([one.text for one in last])
-
-    def record_online(self):
-        """The program's end, the files of what was measured, and what was said."""
-        status, said = self.run(self.out)
-        found = online_files(self.out)
-        if not found:
-            say("nothing is measured: " + why_nothing(status, said, self.out, self.is_script))
-        return status, found, said
-
-    def record(self):
-        return self.record_often() if self.options.runs > 1 else self.record_once()
+            self.tell_nothing(ended.status, said)
+        return Recorded(ended.status, found, said)

@@ -6,7 +6,9 @@ says of what, and where the head tells that the text is not the program the line
 from spanprof.claims import (OTHERWISE, against_parallelism, against_span, gain_may_be_less, gain_may_be_more,
                              is_divided, is_of_one_thread, is_partial, least_end, lock_binds, pieces_words,
                              share_covered, tasks_made, tenths, why_not_of_more_threads)
+from spanprof.client import Refused
 from spanprof.head import part_of_program, with_function
+from spanprof.proof import proved
 from spanprof.record.program_lines import program_line
 from spanprof.report.figures import rounded_down, rounded_up
 from spanprof.report.places import places
@@ -15,7 +17,7 @@ from spanprof.report.units import Units
 THREADS = (2, 4, 8, 16)
 CLOCKS = {"wall": " of wall time", "cpu": " of processor time"}
 MOST_PLACES = 3
-LESS_HELD = "another run may hold it for less, beside its work (remarks)"
+LESS_HELD = "another run may hold it for less (warnings)"
 
 
 def grouped(number):
@@ -42,30 +44,30 @@ def title(answers):
 def covers_line(head):
     """What of the program is in the text, and where the rest is."""
     if not share_covered(head):
-        return "not told how much of the program's thread-time"
+        return "unknown share of the program's thread-time"
     rest = ", ".join("%s %s" % (costs(value, head), name) for name, value in head.not_covered.items() if value)
     return "%s in code%s (measured)" % (share_covered(head), "; not covered: " + rest if rest else "")
 
 
-def tasks_line(answers, verdict):
+def tasks_line(answers):
     head, whose = answers.head, "regions'" if answers.head.whole else "region's"
     parts = "%s parts of the %s own code" % (grouped(answers.parts), whose) if answers.parts else ""
-    return "%s, in %s segments (recorded)%s" % (
+    return "%s, in %s segments (recorded)" % (
         ", and ".join(filter(None, [grouped(tasks_made(answers)), pieces_words(head), parts])),
-        grouped(answers.span_numbers["segments"]), "; " + verdict if verdict else "")
+        grouped(answers.span_numbers["segments"]))
 
 
 def runs_line(head, takes_several=True):
     """`--runs` takes no recording that is beyond the limits of the ten commands."""
     if head.runs and head.runs > 1:
         return "%d, and each cost is %s (measured)" % (
-            head.runs, "the median of theirs" if head.is_median else
-            "that of the one with the median work, since they have no median")
-    return "1: another run has other costs" + ("; --runs 9 tells how far they spread" if takes_several else "")
+            head.runs, "the median of theirs" if head.is_median else "that of the run with the median elapsed time")
+    return "1" + ("; --runs 9 measures the variation" if takes_several else "")
 
 
 def proved_of_text(head):
-    return "(proved of the recorded text%s)" % (", a part of the program" if is_partial(head) else "")
+    part = ", a part of the program" if is_partial(head) else ""
+    return "(%s)" % proved("proved of the recorded text" + part)
 
 
 def with_spread(number, name, head):
@@ -87,7 +89,7 @@ def span_line(answers):
     number = with_spread(answers.span, "span", head)
     if why_not:
         return "%s: a longest chain of the recorded text; %s" % (number, why_not)
-    return "%s: it ends no sooner on any number of threads %s" % (number, proved_of_text(head))
+    return "%s: lower bound of the run time on any number of threads %s" % (number, proved_of_text(head))
 
 
 def parallelism_line(answers):
@@ -95,13 +97,13 @@ def parallelism_line(answers):
     number = rounded_up(answers.work, answers.span)
     if why_not:
         return "%s: work / span of the recorded text; %s" % (number, why_not)
-    return "%s: work / span; it gains no more on any number of threads %s" % (number, proved_of_text(head))
+    return "%s: work / span, the greatest speedup on any number of threads %s" % (number, proved_of_text(head))
 
 
 def elapsed_line(answers):
     elapsed = answers.head.elapsed
     if not elapsed:
-        return "not told"
+        return "unknown"
     threads = " on %s" % (threads_of(answers.head) or "all threads")
     return "%s%s: %.2f of them busy in this code on average (measured)" % (
         costs(elapsed, answers.head), threads, answers.work / elapsed)
@@ -120,19 +122,19 @@ def told_threads(answers):
 def at_most_line(answers, told):
     """By `least`, and by the lock that was held the longest, which is measured and no part of what is proved."""
     head = answers.head
-    gains = ", ".join("%d: up to %s" % (p, rounded_up(answers.work, least_end(answers, p))) for p in told)
+    gains = ", ".join("%d: %s" % (p, rounded_up(answers.work, least_end(answers, p))) for p in told)
     if gain_may_be_more(head):
         why = "(of the recorded text; %s)" % (OTHERWISE % "more")
     elif any(lock_binds(answers, p) for p in told):
         why = "(measured: work / the recorded text's least end, or / the time inside the most held lock)"
     else:
         why = proved_of_text(head)
-    return "%s times as fast as its work in a row %s" % (gains, why)
+    return "speedup at most %s %s" % (gains, why)
 
 
 def at_least_line(answers, told):
     gains = ", ".join("%d: %s" % (p, rounded_down(answers.work, answers.curve[p]["bound"])) for p in told)
-    return "%s and more as long as no thread idles beside a ready segment, which tied tasks can force %s" % (
+    return "speedup at least %s for a greedy schedule; tied tasks can do worse %s" % (
         gains, proved_of_text(answers.head))
 
 
@@ -153,8 +155,8 @@ def lock_lines(answers, least):
         return []
     if gain_may_be_more(answers.head):
         return ["%s inside the most held one; %s (measured)" % (costs(inside, head), LESS_HELD)]
-    return ["%s inside the most held one: no run of this code is more than %s times as fast as its work in a row "
-            "(measured)" % (costs(inside, head), rounded_up(answers.work, inside))]
+    return ["%s inside the most held one: speedup at most %s (measured)" % (
+        costs(inside, head), rounded_up(answers.work, inside))]
 
 
 def clock_lines(head):
@@ -162,12 +164,18 @@ def clock_lines(head):
     told = head.clocks_differ
     if not told:
         return []
-    return ["in %s %% of the work they differ by more than a twentieth, together by %s (measured)" % (
+    return ["they differ by more than 5 %% in %s %% of the work, by %s in all (measured)" % (
         tenths(told["affected"], told["work"]), costs(told["by"], head))]
 
 
 def place_lines(answers):
-    heaviest = [place for place in places(answers) if place.critical_cost][:MOST_PLACES]
+    try:
+        found = places(answers)
+    except Refused as refused:
+        if not refused.is_of_memory:
+            raise
+        return ["left out: %s" % refused]
+    heaviest = [place for place in found if place.critical_cost][:MOST_PLACES]
     return ["%.1f %% of the span, %.1f %% of the work: %s (measured)" % (
         100 * place.critical_cost / answers.span, 100 * place.cost / answers.work,
         with_function(answers.head, place.name)) for place in heaviest]
@@ -196,24 +204,19 @@ def first_lines(answers, tasks, takes_several=True):
         + named("both clocks", clock_lines(answers.head))
 
 
-def lead_lines(lead):
-    """What to read first: the cause, and the change that comes first by it."""
-    return named("cause", [lead.cause]) + named("first change", filter(None, lead[1:])) if lead else []
-
-
 def program_lines(program):
     return named("program", [program_line(program)] if program and program.regions else [])
 
 
-def summary(answers, verdict="", news=(), others=(), of_what="regions", account=(), lead=None, program=None):
-    heading, *lines = first_lines(answers, tasks_line(answers, verdict))
-    return [heading] + lead_lines(lead) + program_lines(program) + lines \
-        + named("account", account) \
+def summary(answers, news=(), others=(), account=(), program=None):
+    heading, *lines = first_lines(answers, tasks_line(answers))
+    return [heading] + program_lines(program) + lines \
+        + named("breakdown", account) \
         + named("threads", threads_lines(answers)) \
         + named("locks", lock_lines(answers, answers.curve[max(THREADS)]["least"])) \
         + named("span by place", place_lines(answers)) \
-        + named("remarks", remark_lines(answers, news)) \
-        + named("other " + of_what, others)
+        + named("warnings", remark_lines(answers, news)) \
+        + named("other ranks", others)
 
 
 def other_region(answers):

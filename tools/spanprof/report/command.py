@@ -4,13 +4,13 @@ import json
 import os
 import sys
 
-from spanprof.command import Console, check_files, count, end_with, naming, show
+from spanprof.command import Console, check_files, count, end_with, naming, percent, show
+from spanprof.diagnosis.compare import as_json as comparison_json, compared, is_slower, lines as comparison_lines
+from spanprof.diagnosis.tell import told_of
 from spanprof.errors import Fault
-from spanprof.head import said
+from spanprof.head import head_text, said
+from spanprof.recording import open_recording, text_of
 from spanprof.regions import program_of, table_beside
-from spanprof.report.large_answers import is_large
-from spanprof.report.large_page import page as page_of_any_size
-from spanprof.report.large_view import LargeView
 from spanprof.report.live import module
 from spanprof.report.page import page
 from spanprof.report.program_page import program_page, texts
@@ -22,17 +22,19 @@ from spanprof.report.what_if import all_at_once, read_factors
 from spanprof.version import Version
 
 DESCRIPTION = "Writes one page (HTML that needs no other file and no network) on a program text of spanprof."
-AFTER = "Exit status 1: a file or a place is missing, a file cannot be written, or a text is refused; 2: wrong words."
+AFTER = """Exit status 1: a file or a place is missing, a file cannot be written, or a text is refused; 2: wrong arguments;
+3: slower by more than --fail-above."""
+SLOWER = 3
 ANSWER = ("work", "span", "was")
 LONGEST_WORDS = 100
 MOST_THREADS = 1024
 OF_ONE_TEXT = ("other", "trace", "speedscope", "factor", "json", "replay", "live")
-OPTIONS = {"other": "with"}
+NOT_OF_A_LONG_TEXT = ("trace", "replay", "live")
 
 
 def beside(text):
     """The page's name where none is given; never the text's own."""
-    stem, ending = os.path.splitext(text)
+    stem, ending = os.path.splitext(text.rstrip(os.sep))
     return stem + ".html" if ending != ".html" else text + ".html"
 
 
@@ -43,17 +45,21 @@ def outputs(chosen):
 
 
 def arguments(words):
-    parser = argparse.ArgumentParser(prog="spanprof-report", usage="%(prog)s [options] MINE.tasks",
+    parser = argparse.ArgumentParser(prog="spanprof-report", usage="%(prog)s [options] MINE.spanprof",
                                      description=DESCRIPTION, epilog=AFTER, allow_abbrev=False)
     add = parser.add_argument
-    add("program", metavar="MINE.tasks", help="the program text")
+    add("program", metavar="MINE.spanprof", help="the recording, or a program text, MINE.tasks")
+    add("after", metavar="AFTER.spanprof", nargs="?",
+        help="a recording of the changed program: print whether it is faster, where, and what was predicted")
+    add("--fail-above", type=percent, metavar="5%", help="exit with status 3 where AFTER is slower by more than that")
     add("-o", "--output", metavar="MINE.html",
-        help="the page; without it, and where nothing else is asked for, it is written beside the text")
-    add("--replay", metavar="MINE.replay", help="the recorded run; without it the one beside the text, if there is one")
-    add("--with", dest="other", metavar="OTHER.tasks", help="a second program, side by side with the first")
+        help="the page; without it, and where nothing else is asked for, it is MINE.html")
+    add("--replay", metavar="MINE.replay", help="the recorded run; without it the one next to the text, if any")
+    add("--with", dest="other", metavar="OTHER.spanprof", help="a second recording or text, compared with the first")
     add("--threads", type=count(1, MOST_THREADS), metavar="P",
-        help="of the greedy run; without it as many as were recorded")
-    add("--source", action="append", metavar="FOLDER", help="where the source is; without it beside the text, and here")
+        help="of the greedy schedule; without it as many as were recorded")
+    add("--source", action="append", metavar="FOLDER",
+        help="where the source is; without it next to the text, and here")
     add("--factor", action="append", default=[], metavar="PLACE=F",
         help="what if the costs at PLACE were F times as much; may be given several times")
     add("--live", action="store_true",
@@ -69,6 +75,10 @@ def arguments(words):
 
 def check_words(parser, chosen):
     """Ends the process where they exclude each other; the page has a name then, where it is asked for."""
+    if chosen.fail_above is not None and not chosen.after:
+        parser.error("--fail-above compares two recordings: name a second one")
+    if chosen.after:
+        return
     if chosen.json and chosen.factor and not chosen.output:
         parser.error("--json prints the summary, and --factor without -o its answer: ask for one of them")
     if not (chosen.output or chosen.trace or chosen.speedscope or chosen.factor or chosen.json):
@@ -106,8 +116,8 @@ class Progress:
 
 def print_factors(view, factors):
     """Remarks first, then how many segments change, and spanprof's answer."""
-    remarks = said(view.answers.text)
-    changed = sum(1 for place, _ in factors for s in place.segments if view.answers.rows[s].cost)
+    remarks = said(head_text(view.answers.path))
+    changed = sum(1 for place, _ in factors for s in place.segments if view.answers.rows.cost[s])
     after = all_at_once(view, factors)
     count = "%d segment%s changed" % (changed, "" if changed == 1 else "s")
     print("\n".join([*remarks, count, *("%s %d" % (name, after[name]) for name in ANSWER)]))
@@ -131,18 +141,17 @@ def write_all(chosen, views, factors):
     return [path for path, _ in written if path]
 
 
-def write_large_page(chosen, progress):
-    """Of a text beyond the limits of spanprof: what needs no table of its segments."""
-    asked = ["--" + OPTIONS.get(option, option) for option in OF_ONE_TEXT if getattr(chosen, option)]
-    if asked:
-        raise Fault("%s: the text is beyond the limits of spanprof, and has a page (-o), but no %s" % (
+def refuse_of_a_long_text(chosen, view):
+    """What would be as long as the text, or keep all of its graph."""
+    asked = ["--" + option for option in NOT_OF_A_LONG_TEXT if getattr(chosen, option)]
+    if asked and view.is_long:
+        raise Fault("%s: the text is beyond the limits of spanprof, and has no %s" % (
             chosen.program, " or ".join(asked)))
-    write(chosen.output, page_of_any_size(LargeView(chosen.program, chosen.threads, chosen.source, progress)))
-    progress.end([chosen.output])
 
 
 def write_the_rest(chosen, progress):
     views = views_of(chosen, progress)
+    refuse_of_a_long_text(chosen, views[0])
     try:
         factors = read_factors(chosen.factor, views[0].places)
     except Fault as wrong:
@@ -178,11 +187,25 @@ def check(chosen):
             raise Fault("--source %s: no such folder" % folder)
 
 
+def compare(chosen):
+    """Prints what two recordings differ in; the process ends where the second is slower than it may be."""
+    told = [told_of(open_recording(path), chosen.source or ()) for path in (chosen.program, chosen.after)]
+    found = compared(*told)
+    print(json.dumps(comparison_json(found), indent=2) if chosen.json else "\n".join(comparison_lines(found)))
+    if is_slower(found, chosen.fail_above):
+        sys.exit(SLOWER)
+
+
 def answer(chosen):
+    if chosen.after:
+        compare(chosen)
+        return
+    chosen.program = text_of(chosen.program)
+    chosen.other = chosen.other and text_of(chosen.other)
     check(chosen)
     progress = Progress(sys.stderr)
     if not write_program_page(chosen, progress):
-        (write_large_page if is_large(chosen.program) else write_the_rest)(chosen, progress)
+        write_the_rest(chosen, progress)
 
 
 def main(words):

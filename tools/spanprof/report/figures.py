@@ -4,6 +4,7 @@ A source is written in a few words that the tests read again: `span work`, `curv
 `whatif 3 0.5 span`. `A - B` is a difference, `A / B` a quotient, `percent A / B` the same in per cent. `other` before
 all of it means the second program of the page, and `change A` how that differs from the first in per cent.
 """
+from spanprof.proof import proved
 from spanprof.report.markup import join, tag
 from spanprof.report.units import grouped
 
@@ -12,10 +13,10 @@ PREDICTED, BURDENED = "predicted", "burdened"
 MEANINGS = {
     MEASURED: "read from the recorder's clock, or a sum or quotient of such readings",
     DECLARED: "stated by the text, with no recording behind it, or a sum of such statements",
-    RECORDED: "taken from the run: tasks and segments, what waits for what, the order of events",
-    PROVED: "follows from the costs and the shape that the text has, computed by a program that is proved correct; of "
-            "the program that was recorded it says as much as the text is that program",
-    PREDICTED: "told by a model of the runtime's scheduling and of this machine, without a proof",
+    RECORDED: "from the run: tasks and segments, dependences, the order of events",
+    PROVED: "follows from the costs and the shape that the text has, %s; of the program that was recorded it says as "
+            "much as the text is that program",
+    PREDICTED: "predicted by a model of the runtime's scheduling and of this machine, without a proof",
     BURDENED: "the same of the text with what a dispatch takes put in its code",
 }
 LABELS = {PROVED: "proved of the text", BURDENED: "proved of the burdened text"}
@@ -37,7 +38,12 @@ def rounded_up(above, below):
 
 def label(kind):
     """The word for a kind of number; what is proved is proved of the text."""
-    return LABELS.get(kind, kind)
+    return proved(LABELS[kind]) if kind in LABELS else kind
+
+
+def meaning(kind):
+    words = MEANINGS[kind]
+    return words % proved("computed by a program that is proved correct") if kind == PROVED else words
 
 
 class Figures:
@@ -69,7 +75,7 @@ class Figures:
         return self.data(grouped(value, 1) + " %", value, "percent " + source, kind)
 
     def times(self, above, below, source, kind):
-        """A quotient such as a speed-up; 1 where nothing costs anything."""
+        """A quotient such as a speedup; 1 where nothing costs anything."""
         return self.number(above / below if below else 1.0, source, kind, 2)
 
     def times_at_most(self, above, below, source, kind):
@@ -93,7 +99,8 @@ class Figures:
 
 def badge(kind):
     """The word itself, where a column or a tile holds numbers of one kind."""
-    return tag("span", label(kind), class_="badge " + kind, title=MEANINGS[kind])
+    colour = kind if label(kind) == LABELS.get(kind, kind) else "unverified"
+    return tag("span", label(kind), class_="badge " + colour, title=meaning(kind))
 
 
 def badges(*kinds):

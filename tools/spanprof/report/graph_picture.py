@@ -169,5 +169,5 @@ def picture(figures, boxes, edges, labelled):
     pieces, (left, width, height) = draw_all(figures, boxes, edges, labelled)
     svg = tag("svg", arrow(), *pieces, viewBox="%.0f -4 %.0f %.0f" % (left, width, height), width="%.0f" % width,
               height="%.0f" % height, class_="graph large" if width > WIDEST else "graph", role="img",
-              aria_label="What waits for what")
+              aria_label="Dependences")
     return tag("div", svg, class_="wide")

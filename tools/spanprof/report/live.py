@@ -2,9 +2,11 @@
 import base64
 import os
 from functools import cached_property
+from typing import NamedTuple
 
 from spanprof.claims import why_not_of_more_threads
 from spanprof.errors import Fault
+from spanprof.proof import NOT_VERIFIED, is_proved
 from spanprof.report.live_waits import Waits
 from spanprof.report.markup import join, note, tag
 from spanprof.report.what_if import FACTORS
@@ -13,6 +15,9 @@ from spanprof.whatif.advice import with_article
 NAME = "spanprof.wasm"
 BEGINNING = b"\0asm\1\0\0\0"
 MOST_BYTES = 1 << 20
+PROVED_CODE = "computed here by the proved code, compiled for the page"
+BEYOND = " Beyond the proof this trusts what compiled it for the page, its heap, the page's script, which writes the " \
+    "text without a wait, and the browser."
 
 
 def places():
@@ -26,8 +31,12 @@ def places():
     return [os.path.join(above, "out", "library", NAME), os.path.join(above, "..", "lib", NAME)]
 
 
+class Module(NamedTuple):
+    held: bytes
+    by: str     # what is said of what it computes
+
+
 def module():
-    """Its bytes."""
     found = [place for place in places() if os.path.isfile(place)]
     if not found:
         raise Fault("--live: no %s; tools/live_module.sh makes it, and SPANPROF_MODULE names it" % NAME)
@@ -35,7 +44,7 @@ def module():
         read = file.read(MOST_BYTES + 1)
     if not read.startswith(BEGINNING) or len(read) > MOST_BYTES:
         raise Fault("--live: %s is no module of spanprof" % found[0])
-    return read
+    return Module(read, PROVED_CODE if is_proved(found[0]) else NOT_VERIFIED % os.path.basename(found[0]))
 
 
 def trial_rows(view, trials):
@@ -49,8 +58,8 @@ def trial_rows(view, trials):
 class Live:
     """What a live page has beside the others."""
 
-    def __init__(self, view, wasm):
-        self.view, self.wasm = view, wasm
+    def __init__(self, view, compiled):
+        self.view, self.module = view, compiled
 
     @cached_property
     def waits(self):
@@ -59,7 +68,7 @@ class Live:
     def data(self, trials):
         answers = self.view.answers
         curve = [[threads, row["end"]] for threads, row in answers.curve.items() if "end" in row]
-        module_words, text = [base64.b64encode(one).decode() for one in (self.wasm, answers.text.encode())]
+        module_words, text = [base64.b64encode(one).decode() for one in (self.module.held, answers.text.encode())]
         return {"module": module_words, "text": text, "threads": answers.threads, "curve": curve,
                 "trials": list(trial_rows(self.view, trials)), **self.waits.data()}
 
@@ -80,9 +89,8 @@ def wait_boxes(live):
 def live_line(live):
     """The script shows it where the module answers."""
     view = live.view
-    trust = note("These numbers are computed here by the proved code, compiled for the page. It gave the answers that "
-                 "stand on this page. Beyond the proof this trusts what compiled it for the page, its heap, the page's "
-                 "script, which writes the text without a wait, and the browser.")
+    trust = note("These numbers are %s. It gave the answers that stand on this page.%s" % (
+        live.module.by, BEYOND if live.module.by == PROVED_CODE else ""))
     asked = tag("p", tag("label", "On ", threads_box(view.answers), " threads, with the factors of the table: "),
                 tag("output"))
     yours = tag("p", "Whether the program stays right without it is yours to know. The same from a terminal:",

@@ -6,7 +6,7 @@ from spanprof.errors import Fault
 from spanprof.report.timeline_data import packed
 from spanprof.text import line, text_lines
 from spanprof.whatif.changes import DropWait
-from spanprof.whatif.numbers import Numbers, by_spanprof
+from spanprof.whatif.numbers import Numbers, numbers_of
 from spanprof.whatif.survey import survey
 from spanprof.whatif.texts import Text, version_of
 
@@ -56,7 +56,7 @@ class Waits:
 
     def without(self, name):
         try:
-            return Wait(name, by_spanprof("".join(text_lines(DropWait(name)(self.stream), self.version)), self.threads))
+            return Wait(name, numbers_of("".join(text_lines(DropWait(name)(self.stream), self.version)), self.threads))
         except Fault:
             return Wait(name, None)
 

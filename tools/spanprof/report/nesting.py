@@ -24,24 +24,19 @@ class Node:
 
 def creators(code):
     """Of each task the one that creates it: the task of the segment before its first. The root has none."""
-    out = {}
-    for s, segment in enumerate(code):
-        if not segment.after and segment.task:
-            out[segment.task] = code[s - 1].task
-    return out
+    return [code.task[s - 1] if s else None for s in code.firsts()]
 
 
-def nesting(code, tasks, place_of):
-    """The root's node. `tasks` tell their costs, by number; a task has a greater number than its creator."""
-    by, nodes = creators(code), {0: Node((place_of[0],))}
+def nesting(creator_of, tasks, place_of):
+    """The root's node. `tasks` have columns of costs, by number; a task has a greater number than its creator."""
+    nodes = [Node((place_of[0],))]
     for number in range(1, len(tasks)):
-        above = nodes[by[number]]
-        nodes[number] = above.child(place_of[number]) if len(above.path) < MOST_LEVELS else above
-    for number, task in enumerate(tasks):
-        node = nodes[number]
+        above = nodes[creator_of[number]]
+        nodes.append(above.child(place_of[number]) if len(above.path) < MOST_LEVELS else above)
+    for node, cost, critical_cost in zip(nodes, tasks.cost, tasks.critical_cost):
         node.tasks += 1
-        node.cost += task.cost
-        node.critical_cost += task.critical_cost
+        node.cost += cost
+        node.critical_cost += critical_cost
     add_up(nodes[0])
     return nodes[0]
 

@@ -2,6 +2,7 @@
 import json
 import os
 
+from spanprof.proof import proved
 from spanprof.report.colours import colour_rules
 from spanprof.report.live import Live
 from spanprof.report.markup import Markup, join, markup, section, tag
@@ -19,6 +20,7 @@ from spanprof.report.part_tasks import tasks_part
 from spanprof.report.part_timeline import timeline_part
 from spanprof.report.part_what_if import what_if_part
 from spanprof.report.timeline_data import timeline_data
+from spanprof.report.true_times import scale_name
 from spanprof.report.what_if import Trials
 
 HERE = os.path.dirname(os.path.abspath(__file__))
@@ -36,14 +38,26 @@ def asked_part(views):
     shown = [line for line in words if not line.startswith("spanprof whatif")]
     if changed:
         shown.append("spanprof whatif SEGMENT=COST .., %d times" % changed)
-    shown += ["spanprof-record --scale, in %s.scale.json" % view.name.removesuffix(".tasks")
+    shown += ["spanprof-record --scale, in " + scale_name(view.answers)
               for view in views if view.scale]
     return section("sources", "Where the numbers come from",
                    tag("p", "Every number is what one of these commands printed, or a sum, difference or quotient of "
                             "such numbers, or it stands in the head of the text or in the table of times; its tooltip "
-                            "says of which. What spanprof and spanprof_large answer is proved of the text that they "
-                            "read; this page, its pictures, the model and the recorder are plain programs."),
+                            "says of which. What spanprof and spanprof_large answer is %s; this page, its pictures, "
+                            "the model and the recorder are plain programs." %
+                       proved("proved of the text that they read")),
+                   left_out(views),
                    tag("ul", *[tag("li", tag("code", line)) for line in shown]))
+
+
+LEFT_OUT = "Of this long text the page leaves out the bars of single segments, the picture of dependences, " \
+    "the table of what other costs of each place would change, idle time by place, and predicted times. "
+
+
+def left_out(views):
+    """What a page on a long text has not."""
+    return tag("p", LEFT_OUT, tag("code", "spanprof-whatif"), " and ", tag("code", "spanprof-predict"),
+               " answer questions about it.") if any(view.is_long for view in views) else ""
 
 
 def timelines(views, first):
@@ -64,7 +78,7 @@ def parts(views, factors, trials, live=None, first=0, is_alone=True):
             ("program", "The whole program", whole_part(view) if is_alone else ""),
             ("compared", "Side by side", compare_part(views) if len(views) > 1 else ""),
             ("idle", "Idle time", idle_part(view, of)),
-            ("speed-up", "Speed-up", curve_part(views)), *timelines(views, first),
+            ("speedup", "Speedup", curve_part(views)), *timelines(views, first),
             ("path", "Critical path", path_part(view, of)), ("changes", "Changes", changes_part(view, of)),
             ("what-if", "What if", what_if_part(view, trials, factors, of, live, first)),
             ("tasks", "Tasks", tasks_part(view, of)),
@@ -122,8 +136,8 @@ def whole(title, made, found, live=None):
                      join([part for _, _, part in made], "\n"), found, live)
 
 
-def page(views, factors=(), wasm=None):
-    """The whole page as text. With the module `wasm` it answers what its boxes ask."""
-    trials, live = Trials(views[0]), Live(views[0], wasm) if wasm else None
+def page(views, factors=(), module=None):
+    """The whole page as text. With the module it answers what its boxes ask."""
+    trials, live = Trials(views[0]), Live(views[0], module) if module else None
     made = parts(views, list(factors), trials, live)
     return whole(" and ".join(view.name for view in views), made, data(views), live and live.data(trials))

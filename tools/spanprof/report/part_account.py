@@ -1,16 +1,16 @@
 """Where the time of the recorded run's threads went: one bar, and the idle time by place."""
-from spanprof.account_words import PROVED as PROVED_OF
+from spanprof.account_words import proved_sums
 from spanprof.report.figures import MEASURED, badge, percent
 from spanprof.report.markup import join, note, section, tag
 from spanprof.report.tables import bar, place_cell, table
 
 MOST_PLACES = 10
-NAMES = {"code": "in your code", "recorder": "in the recorder", "preempted": "off the processor in the midst of code",
-         "asleep": "asleep in code", "at locks": "waiting for locks", "delayed": "idle though code was ready",
-         "starved": "idle with nothing ready", "outside": "before the region's code and after it"}
-WITHOUT_A_RECORDER = "off the processor in the midst of code, or in the recorder"
-KINDS = (("delayed", "Idle though code was ready", "what was ready then"),
-         ("starved", "Idle with nothing ready", "what ran then, on the other threads"))
+NAMES = {"code": "in your code", "recorder": "in the recorder", "preempted": "preempted in code",
+         "asleep": "asleep in code", "at locks": "waiting for locks", "delayed": "scheduling delay",
+         "starved": "idle", "outside": "startup and shutdown"}
+WITHOUT_A_RECORDER = "preempted in code, or in the recorder"
+KINDS = (("delayed", "Scheduling delay", "what was ready then"),
+         ("starved", "Idle", "what ran then, on the other threads"))
 HOW = "At each moment the idle threads are shared evenly among the segments that were ready, or that ran; the shares " \
       "add up to the whole. A plain program lays them to places; "
 
@@ -71,4 +71,4 @@ def idle_part(view, of=""):
     tables = [by_place(view, *kind) for kind in KINDS] if view.account else []
     if not any(tables):
         return ""
-    return section("idle", "Idle time" + of, note(HOW, PROVED_OF, "."), *tables)
+    return section("idle", "Idle time" + of, note(HOW, proved_sums(), "."), *tables)

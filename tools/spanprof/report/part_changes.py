@@ -8,10 +8,12 @@ from spanprof.report.markup import details, join, note, section, tag
 from spanprof.report.part_predicted import short_words
 from spanprof.report.tables import table
 from spanprof.whatif.advice import in_words
+from spanprof.whatif.requests import Request
 from spanprof.whatif.tell import yours_to_know
 from spanprof.whatif.trials import LEAST_CHANGE
 
-NEARLY_NOTHING = "Changes that let the greedy run end as soon or later"
+MOST_LINES = 3
+NEARLY_NOTHING = "Changes that let the greedy schedule end as soon or later"
 
 
 def command(view, request, threads):
@@ -83,22 +85,32 @@ def silent(view):
 def notes(view):
     trials, costs = view.tried
     requests = [trial.request for trial in trials.made]
-    words = ["a creation is taken to cost %s: %s" % (view.units.words(costs.creating), costs.why),
+    words = ["a creation is assumed to cost %s: %s" % (view.units.words(costs.creating), costs.why),
              *yours_to_know(requests), *("left out: " + words for words in trials.left_out)]
     return tag("ul", *[tag("li", line) for line in words], class_="given note")
+
+
+def lines_to_ask(view):
+    """Of a text that is so long that there was no time: half the cost of the first places, each in a line that asks for
+    it."""
+    lines = [tag("pre", tag("code", command(view, Request("factor", place.name + "=0.5"), view.answers.threads),
+                            id="ask-%d" % i), tag("button", "copy", type="button", data_copy="ask-%d" % i))
+             for i, place in enumerate(view.places[:MOST_LINES])]
+    return [note("No single change is tried, for want of time. These lines ask what one brings; ",
+                 tag("code", "--places"), " lists what can be changed."), *lines]
 
 
 def changes_part(view, of=""):
     """`of` names the program where the page has two. Nothing where no change was tried."""
     if not view.tried or not view.tried.trials.made:
-        return ""
+        return section("changes", "Changes of the program" + of, *lines_to_ask(view)) if view.is_long else ""
     trials, threads = view.tried.trials, told_threads(view)
     gain = {id(trial): max((trials.share(trial, p) for p in threads), default=0) for trial in trials.made}
     brings = rows_table(view, lambda trial: gain[id(trial)] >= LEAST_CHANGE, threads)
     other = rows_table(view, lambda trial: gain[id(trial)] < LEAST_CHANGE, threads)
-    first = note("Each single change was tried at the places with the most: where the greedy run of the changed text "
-                 "ends, its span and its work ", badges(PROVED), ". The line below a change asks for it again; several "
-                 "options make several changes at once.")
-    none = "" if brings else note("No single change that was tried lets the greedy run end sooner.")
+    first = note("Each single change was tried at the places with the most: where the greedy schedule of the changed "
+                 "text ends, its span and its work ", badges(PROVED), ". The line below a change asks for it again; "
+                 "several options make several changes at once.")
+    none = "" if brings else note("No single change that was tried lets the greedy schedule end sooner.")
     return section("changes", "Changes of the program" + of, first, *silent(view), brings, none,
-                   details(NEARLY_NOTHING, other) if other else "", details("What was taken for granted", notes(view)))
+                   details(NEARLY_NOTHING, other) if other else "", details("What was assumed", notes(view)))

@@ -49,7 +49,7 @@ def recorded_lines(views):
 def greedy_lines(first, second):
     for threads in (2, 4, 8, 16, 32):
         if threads in first.curve and threads in second.curve:
-            name = tag("span", "greedy run on %d threads" % threads, class_="given")
+            name = tag("span", "greedy schedule on %d threads" % threads, class_="given")
             yield Line(name, first.curve[threads]["end"], second.curve[threads]["end"], "curve %d end" % threads,
                        PROVED, True)
 

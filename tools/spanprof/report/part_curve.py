@@ -1,4 +1,4 @@
-"""The speed-up on more and more threads, between `least` and `bound`, with the point that the run reached."""
+"""The speedup on more and more threads, between `least` and `bound`, with the point that the run reached."""
 from spanprof.claims import gain_may_be_less, gain_may_be_more, least_end, why_not_of_more_threads
 from spanprof.report.figures import MEASURED, PROVED, badges
 from spanprof.report.markup import details, join, note, section, tag
@@ -7,12 +7,12 @@ from spanprof.report.tables import table
 from spanprof.report.true_times import keys as true_keys, marks as true_marks, shown_points
 
 WIDTH, HEIGHT = 720, 380
-COLUMNS = (("end", "the greedy run ends at"), ("least", "no run before"), ("bound", "no greedy run after"))
+COLUMNS = (("end", "the greedy schedule ends at"), ("least", "no run before"), ("bound", "no greedy schedule after"))
 LEFT, RIGHT, TOP, BOTTOM = 60, 16, 16, 56
 
 
 class Axes:
-    """Threads from left to right, speed-ups from the bottom up."""
+    """Threads from left to right, speedups from the bottom up."""
 
     def __init__(self, most_threads, most_times):
         self.most_threads, self.most_times = most_threads, most_times
@@ -29,7 +29,7 @@ class Axes:
 
 
 def speed_ups(answers, column):
-    """Nothing where no greedy run was made."""
+    """Nothing where no greedy schedule was made."""
     return [(threads, answers.work / row[column] if row[column] else 1) for threads, row in answers.curve.items()
             if column in row]
 
@@ -118,7 +118,7 @@ def reached_mark(axes, view, colour):
 
 
 def most_shown(views):
-    """The greatest speed-up of the picture."""
+    """The greatest speedup of the picture."""
     bounds = [speed_up for view in views for _, speed_up in speed_ups(view.answers, "least")]
     true = [point.greatest for view in views for point in shown_points(view)]
     return max(bounds + true + [view.reached.speed_up for view in views if view.reached])
@@ -135,15 +135,15 @@ def picture(views):
         pieces.append(reached_mark(axes, view, "s%d" % number_of))
         pieces.append(true_marks(axes, view, "s%d" % number_of))
     return tag("svg", *pieces, viewBox="0 0 %d %d" % (WIDTH, HEIGHT), class_="chart", role="img",
-               aria_label="Speed-up on 1 to %d threads" % most_threads)
+               aria_label="Speedup on 1 to %d threads" % most_threads)
 
 
 def keys(view, colour, name):
     """What line, band and diamond of a program mean."""
-    greedy = tag("span", tag("i", class_="key line " + colour), name, "the greedy run")
+    greedy = tag("span", tag("i", class_="key line " + colour), name, "the greedy schedule")
     items = [greedy if speed_ups(view.answers, "end") else "",
              tag("span", tag("i", class_="key area " + colour), name,
-                 "from what every greedy run of the text reaches to what none passes")]
+                 "from what every greedy schedule of the text reaches to what none passes")]
     if lock_limit(view.answers):
         items.append(tag("span", tag("i", class_="key limit"), name, "work / time inside the most held lock"))
     if view.reached:
@@ -173,6 +173,7 @@ def cells(view, threads):
     columns = (("least", "down", show.times_at_most), ("end", None, show.times), ("bound", "up", show.times_at_least))
     for column, way, times in columns:
         if column not in answers.curve[threads]:
+            out += ["", ""] if speed_ups(answers, column) else []
             continue
         source, value = "curve %d %s" % (threads, column), answers.curve[threads][column]
         out += [show.time(value, source, PROVED, way), times(answers.work, value, "span work / " + source, PROVED)]
@@ -180,8 +181,8 @@ def cells(view, threads):
 
 
 def numbers(view):
-    greedy = ["the greedy run ends at", "times"] if speed_ups(view.answers, "end") else []
-    heads = ["threads", "no run ends before", "times", *greedy, "no greedy run ends after", "times"]
+    greedy = ["the greedy schedule ends at", "times"] if speed_ups(view.answers, "end") else []
+    heads = ["threads", "no run ends before", "times", *greedy, "no greedy schedule ends after", "times"]
     return table(heads, [cells(view, threads) for threads in shown_threads(view.answers)], numeric=range(7))
 
 
@@ -191,9 +192,9 @@ def limits(view):
     if why_not_of_more_threads(head):
         reasons.append("the text is of one run: " + why_not_of_more_threads(head))
     if gain_may_be_more(head):
-        reasons.append("by the remarks the program may gain more")
+        reasons.append("by the warnings the program may gain more")
     if gain_may_be_less(head):
-        reasons.append("by locks or remarks a run of the program may be below the band")
+        reasons.append("by locks or warnings a run of the program may be below the band")
     if not reasons:
         return ""
     words = "; ".join(reasons)
@@ -203,8 +204,8 @@ def limits(view):
 
 def curve_part(views):
     tables = [details("The numbers" + (" of " + view.name if len(views) > 1 else ""), numbers(view)) for view in views]
-    return section("speed-up", "Speed-up", tag("figure", picture(views), legend(views)),
-                   note("How many times as fast as its work in a row the text ends: the curve, and its bounds ",
+    return section("speedup", "Speedup", tag("figure", picture(views), legend(views)),
+                   note("The speedup of the text over serial code: the curve, and its bounds ",
                         badges(PROVED), ". A run of the text that leaves no thread idle while a segment is ready lies "
                         "in the band, whatever its order; tied tasks can force a thread to idle. The diamond is how "
                         "many threads were busy in this code on average ", badges(MEASURED), "."),

@@ -8,8 +8,8 @@ from spanprof.report.units import Units
 
 MOST_PLACES = 10
 LEAST = 0.001       # of the whole, from which on a place's loss is told
-HEADS = ("place", "beyond its code on one thread", "of the whole", "inflation", "held up, or the recorder's",
-         "idle beside it, ready", "idle while it ran")
+HEADS = ("place", "beyond its code on one thread", "of the whole", "inflation", "blocked, or the recorder's",
+         "delayed while it was ready", "idle while it ran")
 
 
 def figures_of(view):
@@ -82,7 +82,7 @@ def gap_part(view, name=""):
     """Below the curve with the measured points; `name` stands before it where the page has two programs."""
     gap, why = view.gap, why_no_gap(view.scale)
     if not gap:
-        return note("What the threads did in all is not told: ", tag("span", why, class_="given"), ".") if why else ""
+        return note("What the threads did in all is unknown: ", tag("span", why, class_="given"), ".") if why else ""
     show = figures_of(view)
     where = ["region at ", tag("span", gap.region, class_="place")] if gap.region else ["the whole program"]
     words = note("Threads times elapsed time of the recorded run, ", *where, ", is exactly this sum. As many times as "

@@ -4,7 +4,7 @@ from spanprof.report.graph import CREATES, DEPENDS, WAITS, critical_pairs, place
 from spanprof.report.graph_picture import Box, Joined, picture
 from spanprof.report.markup import join, note, section, tag
 from spanprof.report.part_tasks import not_made
-from spanprof.report.places import tasks
+from spanprof.report.places import Tasks
 from spanprof.report.tables import table
 from spanprof.report.units import grouped
 from spanprof.text import CALLED_FROM, is_share
@@ -57,8 +57,8 @@ def task_box(view, number, task, most):
 
 
 def by_task(view, edges, critical):
-    every = tasks(view.answers)
-    most = max(task.cost for task in every)
+    every = Tasks(view.answers)
+    most = max(every.cost)
     boxes = {number: task_box(view, number, task, most) for number, task in enumerate(every)}
     words = BY_TASK + (WAITS_LEFT_OUT if any(kind == WAITS for kind, _, _ in edges) else "")
     return picture(view.figures, boxes, between_tasks(edges, critical), labelled=False), words
@@ -117,12 +117,14 @@ def by_place(view, edges, critical):
 
 
 def graph_part(view, of=""):
-    """`of` names the program where the page has two."""
+    """`of` names the program where the page has two. Nothing of a long text."""
     answers = view.answers
+    if view.is_long:
+        return ""
     edges = task_edges(answers.code, answers.predecessors)
     critical = critical_pairs(answers.code, answers.path_segments)
     is_small = answers.tasks < MOST_TASKS and len(edges) <= MOST_EDGES
     drawing, words = (by_task if is_small else by_place)(view, edges, critical)
-    return section("graph", "What waits for what" + of.replace(" of ", " in "),
+    return section("graph", "Dependences" + of.replace(" of ", " in "),
                    note(words, not_made(view), " ", badges(view.shape_kind), ", critical path ", badges(PROVED)),
                    drawing)

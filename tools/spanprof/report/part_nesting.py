@@ -2,9 +2,9 @@
 from spanprof.head import counted
 from spanprof.report.figures import badges, percent
 from spanprof.report.markup import join, note, section, tag
-from spanprof.report.nesting import nesting
+from spanprof.report.nesting import creators, nesting
 from spanprof.report.part_tasks import not_made
-from spanprof.report.places import tasks
+from spanprof.report.places import Tasks
 from spanprof.text import is_share
 
 LEAST, LETTER = 0.2, 0.6    # per cent of the width: of a box, and of a letter in it
@@ -47,7 +47,7 @@ def flame(view, root, what, whole):
 def nesting_part(view, of=""):
     """`of` names the program where the page has two. Nothing where no task creates another."""
     answers = view.answers
-    root = nesting(answers.code, tasks(answers), view.task_place_of)
+    root = nesting(creators(answers.code), Tasks(answers), view.task_place_of)
     if not answers.work or not any(below.below for below in root.below.values()):
         return ""
     pieces = [tag("h3", "Work ", badges(view.cost_kind)), flame(view, root, "cost", answers.work),

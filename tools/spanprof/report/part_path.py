@@ -1,4 +1,6 @@
 """The critical path: by place in the source, and segment by segment."""
+from heapq import nlargest
+
 from spanprof.report.figures import PROVED, badges, percent
 from spanprof.report.markup import details, join, note, section, tag
 from spanprof.report.tables import bar, place_cell, table
@@ -39,12 +41,12 @@ def by_place(view):
 
 def stretches(path, rows):
     """The path in pieces: a costly segment alone, and what lies between two of these together."""
-    costly = sorted((s for s in path if rows[s].cost), key=lambda s: -rows[s].cost)[:MOST_STEPS]
-    alone, out = set(costly), []
+    costs = rows.cost
+    alone, out = set(nlargest(MOST_STEPS, (s for s in path if costs[s]), key=costs.__getitem__)), []
     for s in path:
-        if s in alone or rows[s].cost and (not out or out[-1][0] in alone):
+        if s in alone or costs[s] and (not out or out[-1][0] in alone):
             out.append([s])
-        elif rows[s].cost:
+        elif costs[s]:
             out[-1].append(s)
     return out
 
@@ -55,15 +57,15 @@ def piece_cells(view, piece):
     if len(piece) > 1:
         return [tag("span", "%d – %d" % (first, last), class_="given"), "",
                 tag("span", "%d cheaper segments" % len(piece), class_="given")]
-    place = view.answers.code[first].place()
-    numbers = [tag("span", number, class_="given") for number in (first, view.answers.rows[first].task)]
+    place = view.answers.code.place(first)
+    numbers = [tag("span", number, class_="given") for number in (first, view.answers.rows.task[first])]
     return [*numbers, place_cell(place, view.snippet(place)[-1:])]
 
 
 def step_row(view, piece):
     rows, show, first, last = view.answers.rows, view.figures, piece[0], piece[-1]
-    cost, end = sum(rows[s].cost for s in piece), rows[last].start + rows[last].cost
-    return [show.time(rows[first].start, "segment %d start" % first, PROVED),
+    cost, end = sum(rows.cost[s] for s in piece), rows.start[last] + rows.cost[last]
+    return [show.time(rows.start[first], "segment %d start" % first, PROVED),
             show.time(end, "path end %d" % last, PROVED),
             show.time(cost, "path cost %d %d" % (first, last), view.cost_kind), *piece_cells(view, piece)]
 
@@ -86,7 +88,7 @@ def first_words(view):
 def path_part(view, of=""):
     """`of` names the program where the page has two."""
     answers = view.answers
-    costly = sum(1 for s in answers.path_segments if answers.rows[s].cost)
+    costly = sum(1 for s in answers.path_segments if answers.rows.cost[s])
     return section("path", "Critical path" + of, first_words(view),
                    note("Costs ", badges(view.cost_kind), ", that this is a longest chain ", badges(PROVED), "."),
                    by_place(view),

@@ -1,6 +1,6 @@
 """How long the program would take: times by the model of the machine, beside what is proved of the burdened text."""
 from spanprof.head import Head
-from spanprof.predict.words import AT_LEAST, MODEL, burden_words, notes_on
+from spanprof.predict.words import MODEL, at_least, burden_words, notes_on
 from spanprof.report.figures import BURDENED, PREDICTED, Figures, badges
 from spanprof.report.markup import Markup, join, note, tag
 from spanprof.report.units import Units
@@ -19,7 +19,7 @@ def numbers(show, one, least, named):
 
 
 def time_words(show, one, least, named):
-    return Markup("%s predicted (%s to %s), %s " % numbers(show, one, least, named) + AT_LEAST)
+    return Markup("%s predicted (%s to %s), %s " % numbers(show, one, least, named) + at_least())
 
 
 def short_words(view, one, least, named):

@@ -74,12 +74,11 @@ def which(place, chapter):
 
 
 def name_cell(place, chapter):
-    """With the link to its part of the page, and why it was no faster."""
+    """With the link to its part of the page."""
     key = tag("i", class_="key square c%d" % colour_of(place.number))
     name = breakable(place_name(place.name))
     link = tag("a", name, href="#" + chapter.link) if chapter else name
-    lead = chapter.view.lead if chapter else None
-    words = [which(place, chapter), lead and "cause: " + lead.cause, place.is_inside and "inside other regions"]
+    words = [which(place, chapter), place.is_inside and "inside other regions"]
     return tag("span", key, tag("span", link, class_="place"),
                *[tag("span", line, class_="given below") for line in words if line], class_="where")
 

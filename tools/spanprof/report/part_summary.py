@@ -4,10 +4,10 @@ from spanprof.report.part_account import account_picture
 from spanprof.report.part_predicted import predicted_words
 from spanprof.report.summary_rest import division, kinds_explained, remarks
 from spanprof.report.summary_tiles import tiles
-from spanprof.report.summary_words import (covered, lead_words, lock_words, on_the_threads, recorded, what_pays,
-                                           which_binds)
+from spanprof.report.summary_words import (covered, diagnosis_words, lock_words, on_the_threads, recorded,
+                                           what_pays, which_binds)
 
-OF_THE_RUN = (recorded, covered, lead_words, account_picture, tiles, on_the_threads, lock_words, which_binds,
+OF_THE_RUN = (diagnosis_words, recorded, covered, account_picture, tiles, on_the_threads, lock_words, which_binds,
               predicted_words)
 AFTER = (remarks, division, kinds_explained)
 
@@ -15,5 +15,5 @@ AFTER = (remarks, division, kinds_explained)
 def summary_part(view, trials, of=""):
     """`of` names the program where the page has two."""
     return section("summary", "Summary" + of, *[piece(view) for piece in OF_THE_RUN],
-                   "" if view.lead else what_pays(view, trials),
+                   "" if view.diagnosis else what_pays(view, trials),
                    *[piece(view) for piece in AFTER])

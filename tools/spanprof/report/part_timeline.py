@@ -1,4 +1,4 @@
-"""The timelines: the run as it was, above the greedy run on the same threads. The page's script draws them."""
+"""The timelines: the run as it was, above the greedy schedule on the same threads. The page's script draws them."""
 from spanprof.report.figures import MEASURED, PROVED, RECORDED, badge, badges
 from spanprof.report.markup import details, join, note, section, tag
 from spanprof.report.view import COLOURS
@@ -9,7 +9,7 @@ KEYS = (("w s", "or + −: zoom"), ("a d", "or ← →: move"), ("0", "show all"
         ("Enter", "show a marked stretch alone"))
 HANDS = "Click or tap a segment to choose it: arrows come from those that it waited for (solid) and go to those that " \
     "waited for it (dashed). A drag moves, and Ctrl with the wheel or two fingers zoom. A drag with Shift marks a " \
-    "stretch: the line below tells of it. A search for words dims all places without them, and Enter goes to the " \
+    "stretch, which the line below describes. A search for words dims all places without them, and Enter goes to the " \
     "next one with them; a number is a segment's."
 
 
@@ -42,7 +42,7 @@ def until_the_end(view):
 def greedy_title(view):
     answers, show = view.answers, view.figures
     end = answers.curve[answers.threads]["end"]
-    return title("The greedy run", answers.threads,
+    return title("The greedy schedule", answers.threads,
                  show.time(end, "curve %d end" % answers.threads, PROVED),
                  show.share(answers.work, answers.threads * end, "span work / greedy time", PROVED), [PROVED])
 
@@ -58,12 +58,13 @@ def controls(has_search=True):
                tag("output", class_="keys"), class_="controls")
 
 
-def lane(title, program, run):
+def lane(title, program, run, has_segments=True):
     """One timeline; the script fills the drawing, and the line that tells of the stretch that is shown."""
+    more = ", comma and dot go from segment to segment" if has_segments else ""
     drawing = tag("div", class_="lanes", tabindex="0", role="application", data_program=program, data_run=run,
-                  aria_label="Timeline; arrow keys move, plus and minus zoom, comma and dot go from segment to segment")
-    return tag("figure", tag("figcaption", title), controls(), drawing, tag("p", class_="note stretch", role="status"),
-               class_="timeline")
+                  aria_label="Timeline; arrow keys move, plus and minus zoom" + more)
+    return tag("figure", tag("figcaption", title), controls(has_segments), drawing,
+               tag("p", class_="note stretch", role="status"), class_="timeline")
 
 
 def colour_legend(view, has_segments=True):
@@ -82,13 +83,35 @@ def colour_legend(view, has_segments=True):
 
 
 def lanes_of(view, program):
-    if not any(row.cost for row in view.answers.rows):
+    if not view.answers.work:
         return [note(tag("span", view.name, class_="given"), ": no segment takes time.")]
     greedy = lane(greedy_title(view), program, "greedy")
     if not view.run:
         return [greedy, colour_legend(view)]
     return [lane(recorded_title(view), program, "recorded"), until_the_end(view), colour_legend(view),
-            details("The greedy run of the text on as many threads", greedy, class_="greedy")]
+            details("The greedy schedule of the text on as many threads", greedy, class_="greedy")]
+
+
+IN_BINS = "Each bin of time is as high as the share of it that its thread was in code, and has the colour of the " \
+    "tasks that it was in most."
+
+
+def long_title(view, run):
+    if run == "recorded":
+        return join([tag("b", "The run as it was"), " ", badge(MEASURED)])
+    threads = tag("span", "%d threads" % view.answers.threads, class_="given")
+    return join([tag("b", "The greedy schedule"), ", ", threads, " ", badge(PROVED)])
+
+
+def long_part(view, program, name, title):
+    """Of a text with too many segments for a bar each; nothing where no run is known."""
+    lanes = [lane(long_title(view, run), program, run, has_segments=False) for run in view.levels]
+    if not lanes:
+        return ""
+    others = [details("The greedy schedule of the text on as many threads", made, class_="greedy")
+              for made in lanes[1:]]
+    return section(name, title, lanes[0], *others, colour_legend(view, has_segments=False), note(IN_BINS),
+                   tag("div", class_="tip", role="status", aria_live="polite"))
 
 
 TIMED = "Each bar stands where the recorder's clock saw it. A gap is a thread that waited, slept, or was in the " \
@@ -107,13 +130,15 @@ NOT_IN_THE_ORDER = " more than the costs in this order need: the runtime's own t
 def how_to_read(view):
     words = TIMED if view.run and view.run.is_timed else IN_ORDER
     if not view.run:
-        words = tag("span", view.without_run + " So there is only the greedy run to show.", class_="given")
+        words = tag("span", view.without_run + " So there is only the greedy schedule to show.", class_="given")
     keys = join([join([tag("kbd", key), " ", what]) for key, what in KEYS], ", ")
     return details("How to read it", note(words), note(HANDS), note("Keys, once a timeline has the focus: ", keys, "."))
 
 
 def timeline_part(view, program, name, title):
     """`program` is the number of the program on the page."""
+    if view.is_long:
+        return long_part(view, program, name, title)
     pieces = [*lanes_of(view, program), tag("div", class_="tip", role="status", aria_live="polite"),
               how_to_read(view), tag("noscript", note("The timelines are drawn by the page's script."))]
     return section(name, title, *pieces)

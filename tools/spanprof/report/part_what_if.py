@@ -8,12 +8,12 @@ from spanprof.report.what_if import FACTORS, all_at_once
 
 
 def is_on_threads(view):
-    """Whether the greedy run on the page's threads is told too."""
+    """Whether the greedy schedule on the page's threads is told too."""
     return view.answers.threads > 1 and speaks_of(view.answers.head, view.answers.threads)
 
 
 def end_cells(view, trials, place):
-    """Where the greedy run ends at half the costs."""
+    """Where the greedy schedule ends at half the costs."""
     threads, show, after = view.answers.threads, view.figures, trials.halved_end(place)
     before, source = view.answers.curve[threads]["end"], "whatif %d 0.5 end %d" % (place.number, threads)
     ended = "curve %d end" % threads
@@ -71,16 +71,19 @@ def lines_to_run(view, program):
 
 
 def what_if_part(view, trials, factors, of="", live=None, program=0):
-    """`of` names the program where the page has two; `program` is its number there. `live` is what answers at once."""
+    """`of` names the program where the page has two; `program` is its number there. `live` is what answers at once.
+    Nothing of a long text."""
+    if view.is_long:
+        return ""
     trials.ask_all(is_on_threads(view))
     with_cost = sum(place.cost > 0 for place in view.places)
-    end = tag("span", "%d threads: greedy run at half the cost" % view.answers.threads, class_="given")
+    end = tag("span", "%d threads: greedy schedule at half the cost" % view.answers.threads, class_="given")
     heads = ["all segments at a place", "of the span", *([end, "less"] if is_on_threads(view) else []),
              "span at half the cost", "less", "span at no cost", "less", "factor"]
     rows = [row(view, trials, place) for place in trials.places]
     more = tag("span", with_cost - len(rows), class_="given")
     return section("what-if", "What if" + of, note(
-        "The span of the text, and where its greedy run ends, if every segment at a place cost half as much, or "
+        "The span of the text, and where its greedy schedule ends, if every segment at a place cost half as much, or "
         "nothing: answers of ", tag("code", "spanprof whatif"), " and ", tag("code", "greedy"), " ", badges(PROVED),
         ". Odd costs are rounded to the nearest whole number, halves to even ones."),
         asked_for(view, factors), table(heads, rows, numeric=range(1, len(heads)), is_sortable=True),

@@ -4,9 +4,7 @@ import os
 from typing import Any, List, NamedTuple, Tuple
 
 from spanprof.regions import place_name, table_beside
-from spanprof.report import large_page, page
-from spanprof.report.large_answers import is_large
-from spanprof.report.large_view import LargeView
+from spanprof.report import page
 from spanprof.report.markup import breakable, join, tag, within
 from spanprof.report.part_program import program_part
 from spanprof.report.view import View
@@ -33,7 +31,7 @@ class Chapter(NamedTuple):
 def text_of(path, region):
     """Where the text of a region lies; None where somebody has taken it away."""
     stem = table_beside(path)[0][:-len(".regions")] + (".%d" % region.text if region.text > 1 else "")
-    return next(filter(os.path.exists, (stem + ".tasks", stem + ".large.tasks")), None)
+    return stem + ".tasks" if os.path.exists(stem + ".tasks") else None
 
 
 def texts(program, path):
@@ -46,10 +44,6 @@ def texts(program, path):
 def chapter(number, place, path, chosen, tell):
     prefix, source = ("region-%d-" % (number + 1), "region %d " % (number + 1)) if number else ("", "")
     title = place_name(place.name)
-    if is_large(path):
-        view = LargeView(path, chosen.threads, chosen.source, tell, source)
-        view.is_chapter = True
-        return Chapter(place.number, title, prefix, view, large_page.parts(view, number), large_page.data(view), None)
     view = View(path, None, chosen.threads, chosen.source, source, tell)
     view.is_chapter = True
     made = page.parts([view], (), Trials(view), first=number, is_alone=False)

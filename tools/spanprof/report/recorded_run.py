@@ -1,6 +1,6 @@
 """The run as it was: which thread ran what, and when.
 
-The recorder's table of times tells it by the clock. Without one, and where tasks are folded, the replay document tells
+The recorder's table of times tells it by the clock. Without one the replay document tells
 the order alone: then each segment is placed as early as its thread, in the recorded order, and what it waits for let it
 start.
 """
@@ -10,7 +10,6 @@ from dataclasses import dataclass
 from typing import List, Optional
 
 from spanprof import client
-from spanprof.claims import is_folded
 from spanprof.errors import Fault
 
 
@@ -68,14 +67,14 @@ def read_replay(path, answers):
 
 def place_in_time(log, rows, predecessors):
     """Starts and workers from the order of the log."""
-    starts, workers, free = [0] * len(rows), [None] * len(rows), {}
+    cost, starts, workers, free = rows.cost, [0] * len(rows), [None] * len(rows), {}
     for kind, worker, s in log:
         if kind != "start":
             continue
-        ready = max((starts[p] + rows[p].cost for p in predecessors[s]), default=0)
+        ready = max((starts[p] + cost[p] for p in predecessors[s]), default=0)
         starts[s], workers[s] = max(ready, free.get(worker, 0)), worker
-        free[worker] = starts[s] + rows[s].cost
-    ends = [start + row.cost if worker is not None else 0 for start, row, worker in zip(starts, rows, workers)]
+        free[worker] = starts[s] + cost[s]
+    ends = [start + one if worker is not None else 0 for start, one, worker in zip(starts, cost, workers)]
     return RecordedRun(starts, ends, workers)
 
 
@@ -96,11 +95,18 @@ def read_times(path, answers):
     return run
 
 
+def run_of_rows(account, unit):
+    """That of a timed document, whose rows spanprof_large has accepted."""
+    rows = account.rows
+    return RecordedRun([row.begin / unit for row in rows], [row.end / unit for row in rows],
+                       [row.thread for row in rows], True, unit, account.threads)
+
+
 def recorded_run(path, answers):
     """The run of a replay document, which spanprof has to accept; with its times where they stand beside it."""
     log = read_replay(path, answers)
     times = os.path.splitext(path)[0] + ".times"
-    is_timed = os.path.exists(times) and not is_folded(answers.head)
+    is_timed = os.path.exists(times)
     run = read_times(times, answers) if is_timed else place_in_time(log, answers.rows, answers.predecessors)
     run.threads = answers.head.threads or 1
     started = {s: worker for kind, worker, s in log if kind == "start"}

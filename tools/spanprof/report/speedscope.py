@@ -13,19 +13,17 @@ def frames_of(view):
 
 def stacks(view):
     """Of each segment the frames of its task's construct and of its own place."""
-    task_frame = {task: place.number for place in view.task_places for task in place.tasks}
-    first = len(view.task_places)
-    own_frame = {s: first + place.number for place in view.places for s in place.segments}
-    return [[task_frame[row.task], own_frame[s]] for s, row in enumerate(view.answers.rows)]
+    first, of_task = len(view.task_places), view.task_place_of
+    return [[of_task[task], first + place] for task, place in zip(view.answers.rows.task, view.place_of)]
 
 
 def profile(view, name, chosen):
     """`chosen` are segments in the order in which they are shown."""
-    rows, every = view.answers.rows, stacks(view)
-    costly = [s for s in chosen if rows[s].cost]
+    costs, every = view.answers.rows.cost, stacks(view)
+    costly = [s for s in chosen if costs[s]]
     return {"type": "sampled", "name": name, "unit": UNITS.get(view.answers.head.unit, "none"), "startValue": 0,
-            "endValue": sum(rows[s].cost for s in costly), "samples": [every[s] for s in costly],
-            "weights": [rows[s].cost for s in costly]}
+            "endValue": sum(costs[s] for s in costly), "samples": [every[s] for s in costly],
+            "weights": [costs[s] for s in costly]}
 
 
 def speedscope_text(view):

@@ -38,9 +38,9 @@ def place_json(place):
 
 def summary_json(view):
     answers, head = view.answers, view.answers.head
-    lead = view.lead and {"cause": view.lead.cause, "first change": view.lead.first, "then": view.lead.then}
     parallelism = answers.work / answers.span if answers.span else 1.0
-    return {"text": view.name, "recording": of_the_recording(view), "lead": lead,
+    return {"text": view.name, "recording": of_the_recording(view),
+            "diagnosis": view.diagnosis.json() if view.diagnosis else None,
             "account": account_json(view.account) if view.account else None, "scale": view.scale,
             "predicted": [time_json(*pair) for pair in view.predicted.found] or None,
             "work": number(answers.work, PROVED), "span": number(answers.span, PROVED, against_span(head)),

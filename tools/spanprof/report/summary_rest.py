@@ -1,6 +1,6 @@
 """The rest of the summary: remarks, how the program's time divides, and what the words beside the numbers mean."""
 from spanprof.head import COSTS
-from spanprof.report.figures import BURDENED, MEANINGS, MEASURED, PREDICTED, PROVED, RECORDED, badge
+from spanprof.report.figures import BURDENED, MEASURED, PREDICTED, PROVED, RECORDED, badge, meaning
 from spanprof.report.markup import join, note, tag
 
 NAMES = {"elapsed": "in this region"}   # where the head says it otherwise
@@ -15,7 +15,7 @@ def remarks(view, name="remarks"):
         items.append(tag("li", view.without_run))
     if not items:
         return ""
-    return tag("div", tag("h3", "What the recording remarks"), tag("ul", *items), class_="remarks given", id=name,
+    return tag("div", tag("h3", "Warnings of the recording"), tag("ul", *items), class_="remarks given", id=name,
                role="note")
 
 
@@ -51,7 +51,7 @@ def kinds_explained(view):
     """The legend of the words that stand beside the numbers."""
     kinds = dict.fromkeys([MEASURED] * bool(view.answers.head.elapsed) + [view.cost_kind, view.shape_kind] +
                           [RECORDED] * bool(view.run) + [PROVED] + [PREDICTED, BURDENED] * bool(view.predicted.found))
-    items = [piece for kind in kinds for piece in (tag("dt", badge(kind)), tag("dd", MEANINGS[kind]))]
-    return tag("div", tag("h3", "What the words beside the numbers mean"), tag("dl", *items, class_="kinds-explained"),
+    items = [piece for kind in kinds for piece in (tag("dt", badge(kind)), tag("dd", meaning(kind)))]
+    return tag("div", tag("h3", "What the words at the numbers mean"), tag("dl", *items, class_="kinds-explained"),
                note("A number's tooltip has it in full, and names the answer of spanprof or the line of the text's "
                     "head that it is, or those of which it is a sum, a difference or a quotient."))

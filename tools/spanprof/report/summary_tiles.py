@@ -1,6 +1,6 @@
 """The tiles of the summary: work, span, parallelism, tasks, what the threads can give, and how many were busy."""
 from spanprof.claims import (against_parallelism, against_span, gain_may_be_less, gain_may_be_more, least_end,
-                             lock_binds, pieces_in, speaks_of, tasks_made)
+                             lock_binds, speaks_of, tasks_made)
 from spanprof.report.figures import MEASURED, PROVED, badge
 from spanprof.report.markup import join, tag
 
@@ -12,10 +12,10 @@ def tile(label, figure, kinds, *below):
 
 
 def moved(view, *names):
-    """What the recording remarks on one of these numbers, such as `span too low`; it leads to the remarks."""
+    """Warnings of the recording on one of these numbers, such as `span too low`; it leads to the remarks."""
     own = dict.fromkeys(remark.effect for remark in view.answers.head.remarks
                         if any(getattr(remark, name) for name in names))
-    return tag("a", "remarked: ", "; ".join(own), href="#remarks", class_="moved") if own else ""
+    return tag("a", "warning: ", "; ".join(own), href="#remarks", class_="moved") if own else ""
 
 
 def spread(view, name):
@@ -38,7 +38,8 @@ def work_tile(view):
 
 def span_tile(view):
     answers, against = view.answers, against_span(view.answers.head)
-    words = "a longest chain of the text; " + against if against else "it ends no sooner on any number of threads"
+    words = "a longest chain of the text; " + against if against else \
+        "lower bound of the run time on any number of threads"
     return tile("Span", view.figures.time(answers.span, "span span", PROVED, None if against else "down"),
                 [view.cost_kind] if against else [view.cost_kind, PROVED], words, spread(view, "span"),
                 moved(view, "span"))
@@ -47,7 +48,7 @@ def span_tile(view):
 def parallelism_tile(view):
     answers, against = view.answers, against_parallelism(view.answers.head)
     words = "work / span of the text; " + against if against else \
-        "work / span; it gains no more on any number of threads"
+        "work / span, the greatest speedup on any number of threads"
     return tile("Parallelism", view.figures.times_at_most(answers.work, answers.span, "span work / span span", PROVED),
                 [] if against else [PROVED], words, moved(view, "work", "span"))
 
@@ -56,10 +57,10 @@ def tasks_tile(view):
     answers, show = view.answers, view.figures
     segments = show.number(answers.span_numbers["segments"], "span segments", view.shape_kind)
     of_head, whose = answers.head, "regions'" if answers.head.whole else "region's"
-    pieces = [", and ", show.number(pieces_in(of_head), "pieces", view.shape_kind), " pieces of " + of_head.pieces_of]
+    pieces = [", and ", show.number(of_head.pieces, "pieces", view.shape_kind), " pieces of " + of_head.pieces_of]
     parts = [", and ", show.number(answers.parts, "parts", view.shape_kind), " parts of the %s own code" % whose]
     return tile("Tasks", show.number(tasks_made(answers), "tasks - parts - pieces", view.shape_kind),
-                [view.shape_kind], join([segments, " segments", *pieces * bool(pieces_in(of_head)),
+                [view.shape_kind], join([segments, " segments", *pieces * bool(of_head.pieces),
                                          *parts * bool(answers.parts)]))
 
 
@@ -77,12 +78,11 @@ def threads_tile(view):
     is_bound = lock_binds(answers, threads) or gain_may_be_more(answers.head)
     at_least = show.times_at_least(answers.work, answers.curve[threads]["bound"],
                                    "span work / curve %d bound" % threads, PROVED)
-    lower = [] if gain_may_be_less(answers.head) else ["; ", at_least, " or more if no thread idles beside a ready "
-                                                                       "segment"]
-    return tile(tag("span", "%d threads: up to" % threads, class_="given"),
+    lower = [] if gain_may_be_less(answers.head) else ["; at least ", at_least, " for a greedy schedule"]
+    return tile(tag("span", "%d threads: speedup at most" % threads, class_="given"),
                 show.times_at_most(answers.work, least_end(answers, threads), "span work / " + least_source(view),
                                    PROVED), [] if is_bound else [PROVED],
-                join(["times as fast as its work in a row", *lower]))
+                join(["over serial code", *lower]))
 
 
 def busy_tile(view):
@@ -97,15 +97,15 @@ def busy_tile(view):
 
 
 def true_tile(view):
-    """The true speed-up, where it was measured with this recording."""
+    """The true speedup, where it was measured with this recording."""
     point, show = max(view.true_times, key=lambda one: one.threads, default=None), view.figures
     if not point or point.threads == 1:
         return ""
     named = "scale %d " % point.threads
     least, most = [show.number(value, named + name, MEASURED, 2)
-                   for value, name in ((point.least, "speed-up-from"), (point.greatest, "speed-up-to"))]
-    return tile(tag("span", "True speed-up, %d threads" % point.threads, class_="given"),
-                show.number(point.speed_up, named + "speed-up", MEASURED, 2), [MEASURED],
+                   for value, name in ((point.least, "speedup-from"), (point.greatest, "speedup-to"))]
+    return tile(tag("span", "True speedup, %d threads" % point.threads, class_="given"),
+                show.number(point.speed_up, named + "speedup", MEASURED, 2), [MEASURED],
                 join([least, " to ", most, ": the whole program, without the recorder"]))
 
 

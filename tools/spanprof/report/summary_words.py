@@ -2,7 +2,8 @@
 from spanprof.claims import (gain_may_be_less, gain_may_be_more, is_partial, lock_binds, share_covered, speaks_of,
                              why_not_of_more_threads)
 from spanprof.report.figures import MEASURED, PROVED, badge
-from spanprof.report.markup import join, tag
+from spanprof.report.markup import tag
+from spanprof.report.part_diagnosis import first_screen
 
 
 def recorded_words(view):
@@ -50,7 +51,7 @@ def on_the_threads(view):
                   show.time(row["bound"], named + "bound", PROVED, "up"), "; tied tasks can "
                   "force a thread to idle"]
     if gain_may_be_more(head):
-        return tag("p", *words, "; the program may end sooner (remarks).")
+        return tag("p", *words, "; the program may end sooner (warnings).")
     return tag("p", *words, " ", badge(PROVED), ".")
 
 
@@ -62,11 +63,11 @@ def lock_words(view):
         return ""
     held = ["The most held lock was held for ", show.time(inside, "head most held lock", MEASURED)]
     if gain_may_be_more(answers.head):
-        return tag("p", *held, " ", badge(MEASURED), "; another run may hold it for less, beside its work (remarks).",
+        return tag("p", *held, " ", badge(MEASURED), "; another run may hold it for less (warnings).",
                    class_="lock")
-    return tag("p", *held, ", by one thread at a time: no run of this code is more than ",
+    return tag("p", *held, ", by one thread at a time: the speedup is at most ",
                show.times_at_most(answers.work, inside, "span work / head most held lock", MEASURED),
-               " times as fast as its work in a row ", badge(MEASURED), ".", class_="lock")
+               " ", badge(MEASURED), ".", class_="lock")
 
 
 def which_binds(view):
@@ -87,18 +88,18 @@ def which_binds(view):
 
 
 def what_pays(view, trials):
-    """The place that pays most on the page's threads, by the greedy run of the text with its costs halved."""
+    """The place that pays most on the page's threads, by the greedy schedule of the text with its costs halved."""
     answers, show, threads = view.answers, view.figures, view.answers.threads
     if threads == 1 or not speaks_of(answers.head, threads) or lock_binds(answers, threads):
         return ""
-    best = trials.soonest
+    best = None if view.is_long else trials.soonest
     if not best:
         return ""
     before, after, span = answers.curve[threads]["end"], trials.halved_end(best), trials.halved(best)["span"]
     greedy, what_if = "whatif %d 0.5 end %d" % (best.number, threads), "whatif %d 0.5 span" % best.number
     ended = "curve %d end" % threads
     return tag("p", "Of the places below, half the cost of ", tag("span", best.name, class_="place"),
-               " pays most there: the greedy run of the text would end at ",
+               " pays most there: the greedy schedule of the text would end at ",
                show.time(after, greedy, PROVED), " in place of ",
                show.time(before, ended, PROVED), ", ",
                show.share(before - after, before, "%s - %s / %s" % (ended, greedy, ended), PROVED),
@@ -107,9 +108,6 @@ def what_pays(view, trials):
                badge(PROVED), ".")
 
 
-def lead_words(view):
-    """What to read first: the cause for which the run was no faster, and the change that comes first by it."""
-    if not view.lead:
-        return ""
-    return tag("div", tag("p", tag("b", "Cause: "), view.lead.cause, "."),
-               tag("p", tag("b", "First change: "), join(filter(None, view.lead[1:]), "; "), "."), class_="lead given")
+def diagnosis_words(view):
+    """What to read first."""
+    return first_screen(view.diagnosis) if view.diagnosis else ""

@@ -1,5 +1,5 @@
 """What the page's script draws: of each segment its numbers, of each run starts and threads."""
-from spanprof.report.view import COLOURS
+from spanprof.report.colours import BARS
 
 DIGITS = "0123456789abcdefghijklmnopqrstuvwxyz"
 
@@ -17,6 +17,11 @@ def base36(n):
     return digits
 
 
+def or_none(threads):
+    """Where a number below 0 is none."""
+    return [thread if thread >= 0 else None for thread in threads]
+
+
 def run_data(starts, threads, count):
     return {"starts": packed(starts), "lanes": packed(threads), "count": count}
 
@@ -31,8 +36,8 @@ def recorded_data(run):
 
 
 def runs_data(view):
-    starts, threads = zip(*view.answers.greedy)
-    runs = {"greedy": run_data(starts, threads, view.answers.threads)}
+    made = view.answers.greedy
+    runs = {"greedy": run_data(made.starts, or_none(made.threads), view.answers.threads)}
     return dict(runs, recorded=recorded_data(view.run)) if view.run else runs
 
 
@@ -42,13 +47,24 @@ def waits_data(predecessors):
             "steps": packed(s - p for s, before in enumerate(predecessors) for p in before)}
 
 
+def levels_data(view):
+    """The runs of a long text, in bins of time."""
+    scale = {"recorded": view.answers.head.nanoseconds or 1, "greedy": 1}
+    names = [place.name for place in view.task_places[:len(BARS) - 1]] + ["all others"]
+    return {"name": view.name, "unit": view.unit, "nanoseconds": view.units.nanoseconds, "names": names,
+            "levels": {run: found.data(scale[run]) for run, found in view.levels.items()}}
+
+
 def timeline_data(view):
+    return levels_data(view) if view.is_long else segments_data(view)
+
+
+def segments_data(view):
     """What the script needs: of each segment cost, task, place, slack; of each run starts and threads."""
     answers, rows = view.answers, view.answers.rows
     return {"name": view.name, "unit": view.unit, "nanoseconds": view.units.nanoseconds, "waits": waits_data(
                 answers.predecessors), "places": [place.name for place in view.places],
-            "cost": packed(row.cost for row in rows), "task": packed(row.task for row in rows),
-            "place": packed(view.place_of[s] for s in range(len(rows))),
-            "slack": packed(row.slack for row in rows), "critical": packed(answers.path_segments),
-            "taskPlace": packed(view.task_place_of[task] for task in range(answers.tasks + 1)), "colours": COLOURS,
+            "cost": packed(rows.cost), "task": packed(rows.task), "place": packed(view.place_of),
+            "slack": packed(rows.slack), "critical": packed(answers.path_segments),
+            "taskPlace": packed(view.task_place_of), "colours": len(BARS),
             "runs": runs_data(view)}

@@ -7,6 +7,7 @@ from dataclasses import dataclass
 from typing import Sequence
 
 from spanprof.report.graph import kind_of
+from spanprof.report.timeline_data import or_none
 
 FLOWS_OF_A_RUN = 10 ** 7    # numbers of flows are of one run each
 
@@ -30,9 +31,8 @@ def runs_of(view):
     if run:
         title = "the run as it was" if run.is_timed else "the recorded run, in the order of the replay"
         out.append(Run(1, title, run.starts, run.ends, run.workers, run.count))
-    starts, threads = zip(*answers.greedy)
-    ends = [start + row.cost for start, row in zip(starts, answers.rows)]
-    out.append(Run(2, "the greedy run", starts, ends, threads, answers.threads))
+    made = answers.greedy
+    out.append(Run(2, "the greedy schedule", made.starts, made.ends, or_none(made.threads), answers.threads))
     return out
 
 
@@ -48,7 +48,7 @@ def bars(view, run, scale):
     for s, row in enumerate(view.answers.rows):
         if run.shows(s):
             length = (run.ends[s] - run.starts[s]) * scale
-            yield {"name": code[s].place(), "cat": "critical" if row.critical else "other", "ph": "X",
+            yield {"name": code.place(s), "cat": "critical" if row.critical else "other", "ph": "X",
                    "ts": run.starts[s] * scale, "dur": length, "pid": run.process, "tid": run.threads[s],
                    "args": {"segment": s, "task": row.task, "cost": row.cost, "slack": row.slack,
                             "critical": row.critical}}

@@ -5,7 +5,7 @@ from spanprof.errors import Fault
 from spanprof.whatif.creating import Costs, costs_for
 from spanprof.whatif.survey import survey
 from spanprof.whatif.texts import Text, version_of
-from spanprof.whatif.trials import Trials, trials
+from spanprof.whatif.trials import Trials, has_time_for, trials
 
 MOST_PLACES = 10
 
@@ -16,7 +16,9 @@ class Tried(NamedTuple):
 
 
 def tried(answers, most=MOST_PLACES):
-    """Of changes of shape and of costs; None where the text cannot be read so."""
+    """Of changes of shape and of costs; None where the text cannot be read so, or there is no time for it."""
+    if not has_time_for(answers):
+        return None
     try:
         text = Text(answers.path, version_of(answers.path))
         seen = survey(text.statements())

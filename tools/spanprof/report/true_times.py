@@ -1,15 +1,17 @@
-"""The true speed-up of the program: its unrecorded runs on several numbers of threads, beside the text's curve."""
+"""The true speedup of the program: its unrecorded runs on several numbers of threads, beside the text's curve."""
 import json
 import os
 import re
 from dataclasses import dataclass
 from typing import List
 
+from spanprof.predict.scaled import ENDING, SCALE
+from spanprof.recording import folder_of
 from spanprof.report.markup import join, tag
 
-SAID = "true speed-up against one thread: median of measured, unrecorded runs of the whole program, least and greatest"
-SOURCES = ("threads", "speed-up", "speed-up-from", "speed-up-to")
-NAMES = ("threads", "speed-up", "speed-up from", "speed-up to")
+SAID = "true speedup against one thread: median of measured, unrecorded runs of the whole program, least and greatest"
+SOURCES = ("threads", "speedup", "speedup-from", "speedup-to")
+NAMES = ("threads", "speedup", "speedup from", "speedup to")
 
 
 @dataclass
@@ -27,13 +29,16 @@ def is_time(value):
 
 def is_of(answers, told):
     """Whether it was measured with this recording: another one has another date or work."""
-    return isinstance(told, dict) and told.get("text") == answers.name and told.get("work") == answers.work \
-        and told.get("date") == answers.head.date
+    if not isinstance(told, dict) or told.get("date") != answers.head.date:
+        return False
+    is_in_folder = bool(folder_of(answers.path))
+    return is_in_folder or (told.get("text") == answers.name and told.get("work") == answers.work)
 
 
 def scale_beside(answers):
     """What `spanprof-record --scale` wrote beside the text; None where the file is not of its recording."""
-    path = re.sub(r"\.tasks$", "", answers.path) + ".scale.json"
+    folder = folder_of(answers.path)
+    path = os.path.join(folder, SCALE) if folder else re.sub(r"\.tasks$", "", answers.path) + ENDING
     if not os.path.exists(path):
         return None
     try:
@@ -42,6 +47,12 @@ def scale_beside(answers):
     except (OSError, ValueError):
         return None
     return told if is_of(answers, told) else None
+
+
+def scale_name(answers):
+    """As people know that file."""
+    name = answers.name
+    return "%s/%s" % (name, SCALE) if folder_of(answers.path) else name.removesuffix(".tasks") + ENDING
 
 
 def number(value):

@@ -1,28 +1,32 @@
 """What one program brings to the page: its answers, its places, its recorded run, and the point that it reached."""
 import os
+from array import array
 from dataclasses import dataclass
 from functools import cached_property
 from typing import Optional
 
-from spanprof.account import account_beside, timed_beside
+from spanprof.account import account_beside, times_name
 from spanprof.answers import Answers
+from spanprof.diagnosis.tell import diagnosis_of
 from spanprof.errors import Fault
+from spanprof.recording import beside, folder_of, open_recording
 from spanprof.regions import place_name, program_of
+from spanprof.report.colours import BARS
 from spanprof.report.figures import DECLARED, MEASURED, RECORDED, Figures
 from spanprof.report.gap import gap_in
+from spanprof.report.level_runs import NoTimes, levels_in, levels_of_greedy
 from spanprof.report.markup import tag
 from spanprof.report.places import places, task_places
-from spanprof.report.predicted import Predicted, of_changes, predicted
-from spanprof.report.recorded_run import NoRun, RecordedRun, recorded_run
-from spanprof.report.source import Sources
-from spanprof.report.source_lines import stretches
+from spanprof.report.predicted import of_changes, predicted
+from spanprof.report.recorded_run import NoRun, RecordedRun, recorded_run, run_of_rows
 from spanprof.report.tried import tried
 from spanprof.report.true_times import points_in, scale_beside
 from spanprof.report.units import Units
+from spanprof.source import Sources
+from spanprof.source_lines import stretches
 from spanprof.text import BEGINNING
-from spanprof.whatif.lead import lead
 
-COLOURS = 10
+COLOURS = len(BARS)
 WHOLE_WITHOUT_RUN = "Of a whole program the recorder writes no run; the pages on its regions have theirs."
 
 
@@ -41,10 +45,25 @@ class Reached:
             "the order of the replay with the costs of the text"
 
 
-class Kinds:
-    """What the numbers of a text are, by its head."""
+class View:
+    """Of a long text the run is shown in bins of time, and what would need a row or a picture of each segment is left
+    out."""
     is_chapter = False      # of a page on the whole program, which tells how much of it the text is
-    predicted = Predicted([])
+
+    def __init__(self, path, replay=None, threads=None, source=None, prefix="", tell=None):
+        self.answers = Answers(path, threads, tell)
+        self.units = Units(self.answers.head)
+        self.figures = Figures(prefix, self.units)
+        here = [os.path.dirname(os.path.abspath(folder_of(path) or path)), os.getcwd()]
+        self.sources = Sources(source or here)
+        self.places = places(self.answers)
+        self.task_places = task_places(self.answers)
+        self.without_run = ""
+        self.run = None if self.is_long else self.read_run(replay)
+
+    @property
+    def is_long(self):
+        return self.answers.is_long
 
     @property
     def name(self):
@@ -80,7 +99,7 @@ class Kinds:
 
     @cached_property
     def true_times(self):
-        """The points of the true speed-up."""
+        """The points of the true speedup."""
         return points_in(self.scale)
 
     @cached_property
@@ -97,31 +116,41 @@ class Kinds:
             return Reached(self.run.count, self.run.end, work / self.run.end, False, "run end")
         return None
 
-
-class View(Kinds):
-    def __init__(self, path, replay=None, threads=None, source=None, prefix="", tell=None):
-        self.answers = Answers(path, threads, tell)
-        self.units = Units(self.answers.head)
-        self.figures = Figures(prefix, self.units)
-        here = [os.path.dirname(os.path.abspath(path)), os.getcwd()]
-        self.sources = Sources(source or here)
-        self.places = places(self.answers)
-        self.task_places = task_places(self.answers)
-        self.without_run = ""
-        self.run = self.read_run(replay)
-
     def read_run(self, replay) -> Optional[RecordedRun]:
-        beside = os.path.splitext(self.answers.path)[0] + ".replay"
-        path = replay or (beside if os.path.exists(beside) else None)
+        path = replay or beside(self.answers.path, ".replay")
         if not path:
-            self.without_run = WHOLE_WITHOUT_RUN if self.answers.head.whole else \
-                "There is no replay document beside %s." % self.answers.name
-            return None
+            return self.run_by_account()
         try:
             return recorded_run(path, self.answers)
         except NoRun as reason:
             if replay:
                 raise Fault(str(reason)) from reason
+            self.without_run = str(reason)
+            return None
+
+    def run_by_account(self):
+        """The run as the times of the segments tell it, where there is no replay document."""
+        if self.account and self.account.rows:
+            return run_of_rows(self.account, self.answers.head.nanoseconds)
+        self.without_run = WHOLE_WITHOUT_RUN if self.answers.head.whole else \
+            "There is no replay document next to %s." % self.answers.name
+        return None
+
+    @cached_property
+    def levels(self):
+        """Of a long text the timelines of its runs: the recorded one where the recorder's table of times lies beside
+        it."""
+        return dict(filter(lambda pair: pair[1], (("recorded", self.recorded_levels()),
+                                                  ("greedy", levels_of_greedy(self)))))
+
+    def recorded_levels(self):
+        times = open_recording(self.answers.path).times
+        if not times:
+            return None
+        self.answers.tell("reading " + os.path.basename(times))
+        try:
+            return levels_in(times, self)
+        except NoTimes as reason:
             self.without_run = str(reason)
             return None
 
@@ -145,18 +174,18 @@ class View(Kinds):
         return of_changes(self.answers, self.tried) if self.predicted.found and self.tried else {}
 
     @cached_property
-    def lead(self):
-        """None where the text tells no time."""
-        is_asked = self.tried and self.answers.threads == self.answers.head.threads
-        return lead(self.answers, self.account, self.tried.trials if is_asked else None)
+    def diagnosis(self):
+        """Of a recorded run on several threads; None where there is none, as of a text without times."""
+        return diagnosis_of(self.answers, self.sources.folders)
 
     @cached_property
     def account(self):
         """Of the recorded run; None without a timed document beside the text."""
         found, _ = account_beside(self.answers)
         if found:
-            name = os.path.basename(timed_beside(self.answers.path))
-            self.answers.asked += ["spanprof_large account%s < %s" % (words, name) for words in ("", " --rows")]
+            name = times_name(self.answers.path)
+            self.answers.asked += ["spanprof_large account%s < %s" % (words, name)
+                                   for words in ("", " --rows")[:1 if self.is_long else 2]]
         return found
 
     @cached_property
@@ -184,9 +213,15 @@ class View(Kinds):
     @cached_property
     def place_of(self):
         """Of each segment the number of its place."""
-        return {s: place.number for place in self.places for s in place.segments}
+        number, code = {place.name: place.number for place in self.places}, self.answers.code
+        of_kind = [number[name] for name in code.names]
+        return array("I", (of_kind[kind] for kind in code.of))
 
     @cached_property
     def task_place_of(self):
         """Of each task the number of the place that creates it."""
-        return {task: place.number for place in self.task_places for task in place.tasks}
+        out = array("I", [0]) * (self.answers.tasks + 1)
+        for place in self.task_places:
+            for task in place.tasks:
+                out[task] = place.number
+        return out

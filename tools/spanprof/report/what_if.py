@@ -8,8 +8,8 @@ MOST_PLACES = 30
 
 def changed(view, place, factor):
     """The costs that change: the nearest whole numbers, and of two that are as near the even one."""
-    rows = view.answers.rows
-    return {s: round(rows[s].cost * factor) for s in place.segments if rows[s].cost}
+    costs = view.answers.rows.cost
+    return {s: round(costs[s] * factor) for s in place.segments if costs[s]}
 
 
 class Trials:
@@ -36,7 +36,7 @@ class Trials:
         return self.at(place, FACTORS[0])
 
     def halved_end(self, place):
-        """Where the greedy run on the page's threads ends, where the place costs half as much."""
+        """Where the greedy schedule on the page's threads ends, where the place costs half as much."""
         if place.number not in self.ends:
             costs = changed(self.view, place, FACTORS[0])
             self.ends[place.number] = self.view.answers.greedy_end(costs, self.view.answers.threads)
@@ -49,7 +49,7 @@ class Trials:
 
     @property
     def soonest(self):
-        """The place whose halved costs let the greedy run end soonest; None where it would end no sooner."""
+        """The place whose halved costs let the greedy schedule end soonest; None where it would end no sooner."""
         answers = self.view.answers
         best = min(self.places, key=self.halved_end, default=None)
         return best if best and self.halved_end(best) < answers.curve[answers.threads]["end"] else None

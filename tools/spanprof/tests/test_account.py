@@ -3,11 +3,13 @@ import tempfile
 import unittest
 from unittest import mock
 
-from spanprof.account import Account, HeldUp, Row, account_beside, account_of, divide_busy, timed_beside
-from spanprof.account_program import HOW, NoAccount
+from spanprof.account import Account, HeldUp, Row, account_beside, account_of, divide_busy, times_name
+from spanprof.account_program import NoAccount
+from spanprof.client import HOW
 from spanprof.head import Lock
 from spanprof.record.tests.made_up import Answers, Head
-from spanprof.remarks import FOLDS, remark_of
+from spanprof.remarks import remark_of
+from spanprof.tests.columns import code_of
 
 SUMS = "threads 2\nelapsed 14\nbusy 11\ndelayed 7\nstarved 8\noutside 2\n"
 ROWS = "segment,thread,ready,begin,end\n0,0,0,0,5\n1,0,5,6,9\n2,0,5,9,11\n3,1,11,12,13\n"
@@ -20,7 +22,7 @@ def told(words, path):
 
 def answers(work=11, **of_head):
     made = Answers(work=work, head=Head(**dict(dict(threads=2, elapsed=14, unit="ns"), **of_head)))
-    made.code = made.code + made.code[:1]
+    made.code = code_of([*made.code, made.code[0]])
     return made
 
 
@@ -51,7 +53,7 @@ class Asked(unittest.TestCase):
 
     def test_times_of_another_text(self):
         made = answers()
-        made.code.pop()
+        made.code = code_of(list(made.code)[:-1])
         with self.assertRaisesRegex(NoAccount, "there are times of 4 segments, and not of 3"):
             self.account(made)
 
@@ -94,24 +96,25 @@ class Beside(unittest.TestCase):
         self.made = answers()
         self.made.path = os.path.join(kept.name, "mine.tasks")
 
-    def beside(self, program=("told",)):
-        with mock.patch("spanprof.account.ask", told), mock.patch("spanprof.account.spanprof_large", lambda: program):
+    def beside(self, has_program=True):
+        with mock.patch("spanprof.account.ask", told), \
+                mock.patch("spanprof.client.takes_any_size", lambda: has_program):
             found, why = account_beside(self.made)
         return found and found.busy, why
 
     def test_the_document_beside_the_text(self):
-        with open(timed_beside(self.made.path), "w", encoding="utf-8"):
-            pass
+        self.assertEqual(times_name(self.made.path), "")
+        for ending in (".tasks", ".timed"):
+            with open(self.made.path.removesuffix(".tasks") + ending, "w", encoding="utf-8"):
+                pass
         self.assertEqual(self.beside(), (11, ""))
+        self.assertEqual(times_name(self.made.path), "mine.timed")
 
     def test_why_there_is_none(self):
         self.assertEqual(self.beside(), (None, ""))
-        self.assertEqual(self.beside(program=()), (None, HOW))
+        self.assertEqual(self.beside(has_program=False), (None, HOW))
         self.made.head.remarks = [remark_of({"remark": "unfinished task", "times": 1, "work": "low", "span": "low"})]
         self.assertEqual(self.beside(), (None, "tasks did not run to their ends"))
-        for name in FOLDS:
-            self.made.head.remarks = [remark_of({"remark": name, "times": 3})]
-            self.assertEqual(self.beside()[1], "tasks are folded, and the times are not those of all of their code")
 
 
 if __name__ == "__main__":

@@ -3,7 +3,8 @@ import tempfile
 import unittest
 from unittest import mock
 
-from spanprof.account_program import HOW, NoAccount, ask, ask_of, in_words
+from spanprof.account_program import NoAccount, ask, ask_of, in_words
+from spanprof.client import HOW
 
 
 class Refused(unittest.TestCase):
@@ -15,7 +16,7 @@ class Refused(unittest.TestCase):
 
     def test_other_lines(self):
         self.assertEqual(in_words("error: line 7: BadForm"), "spanprof_large account: error: line 7: BadForm")
-        self.assertEqual(in_words(""), "spanprof_large account: it ended without a word")
+        self.assertEqual(in_words(""), "spanprof_large account: it ended without an answer")
 
 
 class Asked(unittest.TestCase):
@@ -37,7 +38,7 @@ class Asked(unittest.TestCase):
     def test_no_program(self):
         with self.assertRaisesRegex(NoAccount, "^spanprof_large: .*No such file"):
             self.asked("/none")
-        with mock.patch("spanprof.account_program.spanprof_large", lambda: []):
+        with mock.patch("spanprof.client.takes_any_size", lambda: False):
             with self.assertRaises(NoAccount) as caught:
                 ask_of([], "a document")
         self.assertEqual(str(caught.exception), HOW)

@@ -2,9 +2,11 @@ import json
 import unittest
 
 from spanprof.account import Account, HeldUp, Row
-from spanprof.account_words import PROVED, account_lines, as_json, lasting, lines_of
+from spanprof.account_words import account_lines, as_json, lasting, lines_of, proved_sums
+from spanprof.tests.proofs import with_a_proved_program
 
 MS = 10 ** 6
+setUpModule = with_a_proved_program
 
 
 def account(**told):
@@ -19,23 +21,23 @@ class Lines(unittest.TestCase):
     def test_four_lines(self):
         self.assertEqual(account_lines(account()), [
             "of 4 x 68.0 ms: 47.1 % in your code (measured)",
-            "41.2 % idle though code was ready: beside task at a.c:3 (75 %), task at a.c:5 (25 %) (measured)",
-            "8.8 % idle with nothing ready: there ran the beginning (100 %) (measured)",
-            "2.9 % before the region's code and after it (measured); " + PROVED])
+            "41.2 % scheduling delay; ready: task at a.c:3 (75 %), task at a.c:5 (25 %) (measured)",
+            "8.8 % idle; running: the beginning (100 %) (measured)",
+            "2.9 % startup and shutdown of the region (measured); " + proved_sums()])
 
     def test_code_that_was_held_up(self):
         found = account(held_up=HeldUp(13600000, 27200000, 1000), recorder=2720000)
         self.assertEqual(account_lines(found)[0],
-                         "of 4 x 68.0 ms: 31.1 % in your code, 1.0 % the recorder's; 15.0 % held up in it: 5.0 % off "
-                         "the processor, 10.0 % asleep (measured)")
+                         "of 4 x 68.0 ms: 31.1 % in your code, 1.0 % the recorder's; 15.0 % blocked in it: 5.0 % "
+                         "preempted, 10.0 % asleep (measured)")
 
-        self.assertIn("5.0 % off the processor or in the recorder, ", account_lines(account(
+        self.assertIn("5.0 % preempted or in the recorder, ", account_lines(account(
             held_up=HeldUp(13600000, 27200000, 1000), by_processor=True))[0])
 
     def test_places_of_next_to_nothing_are_left_out(self):
         found = account()
         found.idle = ({"task at a.c:3": 111 * MS, "task at a.c:5": MS // 2}, {})
-        self.assertIn("beside task at a.c:3 (100 %) (measured)", account_lines(found)[1])
+        self.assertIn("; ready: task at a.c:3 (100 %) (measured)", account_lines(found)[1])
 
     def test_one_of_several_runs(self):
         self.assertTrue(account_lines(account(of_runs=True))[0].startswith(
@@ -50,7 +52,8 @@ class Lines(unittest.TestCase):
         self.assertEqual(account_lines(empty)[0], "of 2 x 0 ns: 0.0 % in your code (measured)")
 
     def test_why_there_is_none(self):
-        self.assertEqual(lines_of(None, "tasks are folded"), ["not told: tasks are folded"])
+        why = "tasks did not run to their ends"
+        self.assertEqual(lines_of(None, why), ["unavailable: " + why])
         self.assertEqual(lines_of(None), [])
 
 

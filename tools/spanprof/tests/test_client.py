@@ -7,6 +7,7 @@ from unittest import mock
 
 from spanprof import client
 from spanprof.errors import Fault
+from spanprof.text_file import TextFile
 
 
 class Asking(unittest.TestCase):
@@ -30,7 +31,8 @@ class Asking(unittest.TestCase):
             with self.assertRaises(client.Refused) as ended:
                 client.ask(["span"], "work 1\n" * 100000)
         self.assertEqual(str(ended.exception),
-                         "spanprof span: error: input too long: standard input has at most 8,388,608 bytes")
+                         "spanprof span: error: input too long: spanprof takes at most 8,388,608 bytes, and "
+                         "spanprof_large, which is not found, any number")
         self.assertEqual(signal.getsignal(signal.SIGPIPE), before)
 
     def test_a_program_that_is_not_spanprof(self):
@@ -39,6 +41,38 @@ class Asking(unittest.TestCase):
                                 ("cat > /dev/null\n", ".*/answers does not answer as spanprof does")):
                 with self.answers(script), self.assertRaisesRegex(Fault, "^%s$" % why):
                     client.read(text.name)
+
+    def test_columns_of_a_table(self):
+        with self.answers("cat > /dev/null\nprintf 'segment,start,thread\\n0,5,1\\n1,7,\\n'\n"):
+            found = client.columns(["greedy"], "omptasks 1\n", ["thread", "start"])
+        self.assertEqual([list(column) for column in found], [[1, -1], [5, 7]])
+
+    def test_columns_that_are_not_there(self):
+        for script, why in (("echo a,b; echo 1,2", "spanprof slack: rows of another form"),
+                            ("echo start; echo 1,2", "spanprof slack: rows of another form"),
+                            ("echo 'error: line 1: BadWord'; exit 1", "spanprof slack: error: line 1: BadWord")):
+            with self.answers("cat > /dev/null\n%s\n" % script), self.assertRaisesRegex(Fault, "^%s$" % why):
+                client.columns(["slack"], "omptasks 1\n", ["start"])
+
+    def test_too_little_memory(self):
+        for script, is_of_memory in (("echo 'error: out of memory'; exit 3", True), ("kill -9 $$", True),
+                                     ("echo 'error: line 1: BadWord'; exit 1", False)):
+            with self.answers(script + "\n"), self.assertRaises(client.Refused) as ended:
+                client.ask(["slack"], "omptasks 1\n")
+            self.assertEqual(ended.exception.is_of_memory, is_of_memory)
+
+    def test_a_replay_document(self):
+        with tempfile.NamedTemporaryFile("w") as file:
+            file.write("omptasks 1 taskwait\n---\nstart 0 1\n")
+            file.flush()
+            document = TextFile(file.name, whole=True)
+            with self.answers("grep -q start && echo events 1\n"):
+                client.replayed(document)
+            refusing = self.answers("echo 'error: event 0: NotReady 0'; exit 1\n")
+            with refusing, self.assertRaises(client.Refused) as ended:
+                client.replayed(document)
+            self.assertTrue(ended.exception.brief().endswith("`start 0 1`: segment 0, which has to come first, has not "
+                                                             "finished"))
 
 
 if __name__ == "__main__":

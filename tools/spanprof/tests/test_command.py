@@ -27,7 +27,6 @@ class Ends(unittest.TestCase):
                          (1, "", "mine: standard output: No space left on device\n"))
         self.assertEqual(self.ended(side_effect=KeyboardInterrupt), (INTERRUPTED, "", ""))
 
-
     def test_the_status_of_another_command(self):
         with mock.patch("signal.signal"):
             self.assertEqual(answered(lambda words: end_with(Console("mine"), mock.Mock(side_effect=Fault("no room")),

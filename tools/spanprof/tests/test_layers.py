@@ -6,7 +6,8 @@ import unittest
 PACKAGE = os.path.dirname(os.path.dirname(os.path.abspath(__file__)))
 ENDS = {"command.py", "convert_command.py", "version.py", "run.py"}  # run.py ends as the recorded program did
 SHARED = ""     # the modules of the package itself
-LAYERS = (SHARED, "conformance", "path", "predict", "whatif", "report", "record")     # each may import those before it
+# Each may import those before it.
+LAYERS = (SHARED, "conformance", "predict", "whatif", "diagnosis", "report", "path", "record", "graph", "front")
 
 
 def modules():

@@ -63,8 +63,9 @@ class Heads(unittest.TestCase):
         self.assertEqual((head.region, head.number, head.elapsed, head.nanoseconds), ("sort.c:48", "2 of 5", 900, 250))
         self.assertEqual(head.division, {"outside regions": 20, "in other regions": 30, "in parts without tasks": 4,
                                          "in tasks": 3000})
-        self.assertEqual(said(TEXT), ["remark: dependence on all memory, left out, 12 times at sort.c:40: span too low",
-                                      "lock critical at sort.c:9: 32 times, 77 x 250 ns inside, 5 x 250 ns waiting"])
+        self.assertEqual(said(TEXT), [
+            "warning: dependence on all memory, left out, 12 times at sort.c:40: span too low",
+            "lock critical at sort.c:9: 32 times, 77 x 250 ns inside, 5 x 250 ns waiting"])
 
     def test_what_it_says_of_the_program(self):
         head = read_head(OF_THE_PROGRAM)
@@ -170,16 +171,21 @@ class Segments(unittest.TestCase):
 
 
 class Finding(unittest.TestCase):
+    def program(self, on_the_path=(), **variables):
+        """With these variables, and these programs on the PATH, or at these places."""
+        with mock.patch.dict(os.environ, {"SPANPROF": "", "SPANPROF_LARGE": "", **variables}), \
+                mock.patch("shutil.which", side_effect=lambda name: "/bin/" + name if name in on_the_path else None), \
+                mock.patch("os.access", side_effect=lambda path, _: path in on_the_path):
+            return client.program(), client.takes_any_size()
+
     def test_the_order(self):
-        with mock.patch.dict(os.environ, {"SPANPROF": "rt run --"}):
-            self.assertEqual(client.spanprof(), ["rt", "run", "--"])
-        with mock.patch.dict(os.environ, {"SPANPROF": ""}), mock.patch("shutil.which", return_value="/bin/spanprof"):
-            self.assertEqual(client.spanprof(), ["/bin/spanprof"])
-        with mock.patch.dict(os.environ, {"SPANPROF": ""}), mock.patch("shutil.which", return_value=None), \
-                mock.patch("os.access", side_effect=lambda path, _: path in there) as access:
-            for there, found in ((client.PLACES, 0), (client.PLACES[1:], 1), ((), 0)):
-                self.assertEqual(client.spanprof(), [client.PLACES[found]])
-            self.assertTrue(access.called)
+        both, here = ("spanprof", "spanprof_large"), client.PLACES["spanprof_large"][1]
+        self.assertEqual(self.program(both, SPANPROF="small", SPANPROF_LARGE="rt run --"), (["rt", "run", "--"], True))
+        self.assertEqual(self.program(both, SPANPROF="small"), (["small"], False))
+        self.assertEqual(self.program(both), (["/bin/spanprof_large"], True))
+        self.assertEqual(self.program(("spanprof", here)), ([here], True))
+        self.assertEqual(self.program(("spanprof",)), (["/bin/spanprof"], False))
+        self.assertEqual(self.program(), ([], False))
 
     def test_no_program_is_told_without_a_traceback(self):
         with mock.patch.dict(os.environ, {"SPANPROF": "/no/such/program"}):

@@ -1,10 +1,9 @@
 """Tests of refusal.py, with a stand-in for spanprof that refuses one token."""
-import tempfile
 import unittest
 from unittest import mock
 
 from spanprof import refusal
-from spanprof.refusal import AT_LINE, explained, in_file, meant, of_byte, open_brace, picture, tokens
+from spanprof.refusal import AT_LINE, explained, meant, of_byte, open_brace, picture, tokens
 
 TEXT = "omptasks 1\nwork 5  # tasks here\ntask { tasks { } work 3\n}\n"
 
@@ -29,7 +28,7 @@ def told(answer, wrong=None, words=("span",), text=TEXT):
 class OfALine(unittest.TestCase):
     def test_the_first_wrong_token_and_the_word_meant(self):
         self.assertEqual(told("error: line 3: BadWord", "tasks").split("\n"), [
-            "mine.tasks:3: BadWord: `tasks` cannot stand here; did you mean `task`?",
+            "mine.tasks:3:8: BadWord: `tasks` cannot stand here; did you mean `task`?",
             "    3 | task { tasks { } work 3",
             "      |        ^~~~~"])
 
@@ -45,7 +44,7 @@ class OfALine(unittest.TestCase):
 
     def test_every_kind_of_a_line_has_words(self):
         for kind in ("TooLong", "BadByte", "TooDeep", "TooManyTasks", "WorkTooLarge", "TooManyTurns", "Unopened"):
-            self.assertRegex(told("error: line 3: " + kind, "}"), "^mine.tasks:3: %s: .{10}" % kind)
+            self.assertRegex(told("error: line 3: " + kind, "}"), "^mine.tasks:3(:[0-9]+)?: %s: .{10}" % kind)
 
     def test_an_empty_text(self):
         for text in ("", "# nothing\n"):
@@ -71,7 +70,8 @@ class NumbersAndBytes(unittest.TestCase):
                                    ("task depend(in: a[i+7000000])", "7000000", "an index is from -1,000,000 to"),
                                    ("work 5ms", "5ms", "`5ms` is no number, and no word begins with a digit"),
                                    ("  7000000", "7000000", "a cost is a whole number up to 1,000,000,000,000, an")):
-            self.assertIn("mine.tasks:2: BadNumber: " + words, self.of("BadNumber", line, wrong))
+            place = "mine.tasks:2:%d: BadNumber: " % (line.index(wrong) + 1)
+            self.assertIn(place + words, self.of("BadNumber", line, wrong))
 
     def test_which_bytes_begin_no_word(self):
         for line, wrong, words in (("work -5", "-", "without a sign or a point"),
@@ -115,28 +115,11 @@ class OfMore(unittest.TestCase):
         self.assertEqual(told("error: Broken 1 3"), "")
 
 
-class OfAFile(unittest.TestCase):
-    def setUp(self):
-        self.file = tempfile.NamedTemporaryFile("w", suffix=".tasks")
-        self.addCleanup(self.file.close)
-        self.file.write(TEXT)
-        self.file.flush()
-
-    def told(self, answer, wrong=None):
-        ask = refusing(wrong, answer.rpartition(" ")[2])
-        return in_file(self.file.name, answer, lambda text: ask((), text), {"TooDeep": "deep"}).split("\n")
-
-    def test_its_token_and_other_limits(self):
-        self.assertEqual(self.told("error: line 3: BadWord", "tasks"), [
-            self.file.name + ":3: BadWord: `tasks` cannot stand here; did you mean `task`?",
-            "    3 | task { tasks { } work 3", "      |        ^~~~~"])
-        self.assertEqual(self.told("error: line 3: TooDeep", "task")[0], self.file.name + ":3: TooDeep: deep")
-        self.assertEqual(self.told("error: out of memory"), [""])
-
-    def test_a_large_one_is_not_read_whole(self):
+class OfALargeText(unittest.TestCase):
+    def test_its_token_is_not_looked_for(self):
         with mock.patch.object(refusal, "MOST_ASKED", 10):
-            self.assertEqual(self.told("error: line 3: BadWord", "tasks"), [
-                self.file.name + ":3: BadWord: this cannot stand here", "    3 | task { tasks { } work 3", "      | ^"])
+            self.assertEqual(told("error: line 3: BadWord", "tasks").split("\n"), [
+                "mine.tasks:3: BadWord: this cannot stand here", "    3 | task { tasks { } work 3", "      | ^"])
 
 
 class Parts(unittest.TestCase):

@@ -4,7 +4,7 @@ import tempfile
 import unittest
 
 from spanprof.errors import Fault
-from spanprof.regions import Place, Region, program_of, read_regions, table_beside, told_first, whole_beside
+from spanprof.regions import Place, Region, program_of, read_regions, table_beside
 
 TABLE = """\
 number,text,begin_ns,end_ns,threads,tasks,loops,code_ns,inside,place
@@ -43,7 +43,6 @@ class Tables(unittest.TestCase):
     def test_the_median_stands_for_a_place(self):
         steps, loop, _ = read_regions(self.kept()).places
         self.assertEqual((steps.shown.number, steps.median, loop.shown), (1, 200, None))
-        self.assertEqual(told_first(read_regions(self.kept())), 1)
 
     def test_the_nearest_to_the_median_that_has_a_text(self):
         regions = [Region(i + 1, text, 0, 1, 1, 1, 0, code, 0, "a.c:1") for i, (text, code) in
@@ -59,19 +58,18 @@ class Tables(unittest.TestCase):
     def test_where_it_lies(self):
         path = self.kept()
         self.assertEqual(table_beside(path.replace(".regions", ".tasks")), (path, 1))
-        self.assertEqual(table_beside(path.replace(".regions", ".3.large.tasks")), (path, 3))
+        self.assertEqual(table_beside(path.replace(".regions", ".3.tasks")), (path, 3))
         self.assertIsNone(table_beside(os.path.join(self.folder, "other.tasks")))
         self.assertIsNone(table_beside(path))
         self.assertIsNone(program_of(os.path.join(self.folder, "other.tasks")))
         own = self.kept("mine.4711.regions")
         self.assertEqual(table_beside(own.replace(".regions", ".tasks")), (own, 1))
 
-    def test_where_the_whole_program_lies(self):
-        text = self.kept().replace(".regions", ".2.tasks")
-        self.assertIsNone(whole_beside(text))
-        self.assertIsNone(whole_beside(""))
-        whole = self.kept("mine.whole.tasks")
-        self.assertEqual(whole_beside(text), whole)
+    def test_how_many_threads_were_asked_for(self):
+        self.assertEqual(read_regions(self.kept()).regions[0].asked, 0)
+        words = "".join(line.replace(line, ",".join((*line.split(",")[:5], asked, *line.split(",")[5:])))
+                        for line, asked in zip(TABLE.splitlines(True), ["asked"] + ["8"] * 9))
+        self.assertEqual(read_regions(self.kept(words=words)).regions[0].asked, 8)
 
     def test_what_is_no_table(self):
         for words in ("", TABLE.replace("place\n", "where\n"), TABLE.replace("4,3,600", "4,x,600"),

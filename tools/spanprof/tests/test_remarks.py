@@ -4,9 +4,9 @@ import os
 import re
 import unittest
 
-from spanprof.claims import is_folded, moved
+from spanprof.claims import moved
 from spanprof.head import Head
-from spanprof.remarks import FOLDS, UNFINISHED, WORDS, in_json, in_words, read_remark, remark_of
+from spanprof.remarks import UNFINISHED, WORDS, in_json, in_words, read_remark, remark_of
 
 RECORDER = os.path.join(os.path.dirname(os.path.abspath(__file__)), "../../openmp_recorder/remarks.cpp")
 
@@ -16,22 +16,21 @@ class Remarks(unittest.TestCase):
         with open(RECORDER, encoding="utf-8") as file:
             names = re.findall(r'\{Remark::\w+, "([^"]+)"', file.read())
         self.assertEqual(sorted(names), sorted(WORDS))
-        self.assertLessEqual(set(FOLDS + UNFINISHED), set(names))
+        self.assertLessEqual(set(UNFINISHED), set(names))
 
     def test_what_is_seen_where_and_what_it_moves(self):
         for told, words in (
                 ({"remark": "detach", "times": 1, "at": "a.c:3", "span": "low"},
                  "detach, written as complete where the code ends, 1 time at a.c:3: span too low"),
                 ({"remark": "mutexinoutset", "times": 2, "first": "a.c:3", "span": "low"},
-                 "mutexinoutset, 2 times, first at a.c:3: span too low, and too high in the text .inout.tasks"),
+                 "mutexinoutset, 2 times, first at a.c:3: span too low, and too high in the text .inout.tasks of "
+                 "spanprof-convert --region"),
                 ({"remark": "region in a task", "times": 2, "work": "low", "span": "high"},
                  "parallel region inside a task, whose time counts there, 2 times: work too low, span too high"),
                 ({"remark": "records full", "work": "low", "span": "low"},
                  "the records were full inside the region: work and span too low"),
                 ({"remark": "rounded up", "work": "high", "span": "either"},
                  "rounding to whole units, more than a fiftieth of the work: work too high, span too low or too high"),
-                ({"remark": "folded exactly", "times": 1},
-                 "exact fold, 1 time: work and span are the whole's, other numbers the fold's"),
                 ({"remark": "of a later version"}, "of a later version")):
             self.assertEqual(remark_of(told), words)
 
@@ -45,16 +44,12 @@ class Remarks(unittest.TestCase):
             head = Head(remarks=[read_remark(one) for one in told])
             return moved(head, "work"), moved(head, "span")
         self.assertEqual(ways(), (set(), set()))
-        self.assertEqual(ways('{"remark": "detach", "span": "low"}', '{"remark": "folded", "span": "high"}'),
+        self.assertEqual(ways('{"remark": "detach", "span": "low"}', '{"remark": "region in a task", "span": "high"}'),
                          (set(), {"low", "high"}))
         self.assertEqual(ways('{"remark": "rounded up", "work": "high", "span": "either"}'),
                          ({"high"}, {"low", "high"}))
         for plain in ("in words", "{in words", '{"a": 1}', '{"remark": "detach", "span": "loww"}'):
             self.assertEqual(ways(plain), ({"low", "high"}, {"low", "high"}), plain)
-
-    def test_what_is_folded(self):
-        for name in WORDS:
-            self.assertEqual(is_folded(Head(remarks=[remark_of({"remark": name})])), name in FOLDS)
 
     def test_the_lines_of_a_head(self):
         head = "# elapsed: 3\n# remark: %s\n# remark: plain\nomptasks 1\n" % json.dumps({"remark": "target"})

@@ -54,7 +54,7 @@ class Reading(unittest.TestCase):
     def test_whose_a_task_is(self):
         for comment in ("", "a.c:5", "the loop at a.c:5", "a sectional view", "turns of the loopback at b.c:3"):
             self.assertTrue(is_programs(comment), comment)
-        for comment in ("turns of the loop", "turns of the loop, 3 tasks folded exactly", "a section at a.c:9",
+        for comment in ("turns of the loop", "a section at a.c:9",
                         "one of the region's threads"):
             self.assertFalse(is_programs(comment), comment)
 

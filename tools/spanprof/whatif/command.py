@@ -3,29 +3,28 @@ import argparse
 import os
 import tempfile
 
-from spanprof.account import account_beside
-from spanprof.account_words import as_json as as_json_of
-from spanprof.answers import Answers
-from spanprof.cause import cause
+from spanprof import client
 from spanprof.command import Console, check_files, count, end_with
 from spanprof.errors import Fault
 from spanprof.predict.predictions import changed_told
+from spanprof.recording import text_of
 from spanprof.text import statements, text_lines
+from spanprof.text_file import TextFile
 from spanprof.version import Version
 from spanprof.whatif import advice
 from spanprof.whatif.creating import costs_for
 from spanprof.whatif.listing import listing
-from spanprof.whatif.numbers import LIMITS, measure
+from spanprof.whatif.numbers import numbers_of
 from spanprof.whatif.requests import Request, applied, changes
 from spanprof.whatif.survey import survey
 from spanprof.whatif.tell import as_json, lines, notes
 from spanprof.whatif.texts import Text, version_of, write
 from spanprof.whatif.trials import trials
 
-DESCRIPTION = """Changes a program text as one might change the program, and tells work, span, and least, end and bound
-on some threads of the text and of the changed text. The changes are made in the order of the words."""
+DESCRIPTION = """Changes a program text as one might change the program, and prints work, span, and least, end and
+bound on some threads, of the text and of the changed text. Changes are made in the order of the arguments."""
 AFTER = """A place is named as in reports, whole or by a part that no other has; --places lists them. Exit status 1: a
-file, a place or a program is missing, or a text is refused; 2: wrong words."""
+file, a place or a program is missing, or a text is refused; 2: wrong arguments."""
 OPTIONS = (("factor", "PLACE=F", "the code at PLACE costs F times as much"),
            ("drop-wait", "PLACE", "the taskwait there is left out, or the waits of the taskgroup"),
            ("drop-depend", "PLACE", "the tasks there have no depend items"),
@@ -42,16 +41,16 @@ def request(option):
 
 
 def parse(words):
-    parser = argparse.ArgumentParser(prog="spanprof-whatif", usage="%(prog)s [options] MINE.tasks",
+    parser = argparse.ArgumentParser(prog="spanprof-whatif", usage="%(prog)s [options] MINE.spanprof",
                                      description=DESCRIPTION, epilog=AFTER, allow_abbrev=False)
     add = parser.add_argument
-    add("text", metavar="MINE.tasks", help="the text")
+    add("text", metavar="MINE.spanprof", help="the recording, or a program text, MINE.tasks")
     for option, metavar, words_of_help in OPTIONS:
         add("--" + option, dest="requests", action="append", type=request(option), metavar=metavar, default=[],
             help=words_of_help)
     add("--threads", type=count(1, 1024), metavar="P", help="without it as many as were recorded")
     add("--creating", type=count(0, 10 ** 12), metavar="COST",
-        help="what the creation of a task costs; without it as the text tells it")
+        help="what the creation of a task costs; without it as in the text")
     add("--least", type=count(0, 10 ** 12), metavar="COST",
         help="code that costs less is neither split nor made a task; without it where a part would cost less than its "
         "creation")
@@ -89,7 +88,7 @@ def compare(chosen, text, before, path):
     idle = [one for one in made if not one.count]
     if idle:
         raise Fault("nothing is changed by it: %s" % idle[0].words())
-    after = measure(path, threads)
+    after = numbers_of(TextFile(path), threads)
     told = list(notes(chosen.requests, made, costs, text.head, threads))
     times, predicted = changed_told(chosen.text, lambda before: changed(before, asked()), threads[0]) \
         if text.head.is_measured else ([], None)
@@ -100,32 +99,27 @@ def compare(chosen, text, before, path):
 def advise(chosen, text, threads):
     if text.version == 2:
         raise Fault("--advise takes a text of version 1")
-    try:
-        answers = Answers(chosen.text)
-    except Fault as refused:
-        more = "; --advise compares greedy runs, which only spanprof tells" if LIMITS.search(str(refused)) else ""
-        raise Fault("%s%s" % (refused, more)) from refused
     seen = survey(text.statements())
-    account, _ = account_beside(answers)
-    found = cause(answers, account)
     tried = trials(text, seen, costs_for(text.head, seen, chosen.creating, chosen.least), threads)
     if chosen.json:
-        print(advice.as_json(tried, found, text.head, as_json_of(account) if account else None))
+        print(advice.as_json(tried))
     else:
-        print("\n".join(advice.lines(tried, found, text.head)))
+        print("\n".join(advice.lines(tried, text.head)))
 
 
 def answer(chosen):
+    chosen.text = text_of(chosen.text)
     check_files(chosen.text, chosen.output)
+    client.measured(chosen.text)
     text = Text(chosen.text, version_of(chosen.text))
     threads = [min(chosen.threads or text.head.threads or 4, 1024)]
     if chosen.advise:
         advise(chosen, text, threads[0])
-    before = measure(chosen.text, threads) if chosen.places or chosen.requests else None
     if chosen.places:
         print("\n".join(listing(survey(text.statements()))))
     if chosen.requests:
         with tempfile.TemporaryDirectory(prefix="spanprof-whatif-") as folder:
+            before = numbers_of(TextFile(chosen.text), threads)
             compare(chosen, text, before, chosen.output or os.path.join(folder, "changed.tasks"))
 
 

@@ -4,6 +4,7 @@ from difflib import get_close_matches
 from typing import NamedTuple
 
 from spanprof.errors import Fault
+from spanprof.whatif.access import Defer, InForInout
 from spanprof.whatif.changes import DropDepend, DropName, DropWait, Factor
 from spanprof.whatif.join import Join
 from spanprof.whatif.shapes import Cutoff, Grain, OwnTask, Split
@@ -73,6 +74,10 @@ def change(request, seen, costs):
         return DropDepend(find(place, +seen.dependent, "task with depend items"))
     if option == "drop-name":
         return DropName(find(place, seen.items, "depend item"))
+    if option == "in-for-inout":
+        return InForInout(find(place, seen.items, "depend item"))
+    if option == "defer":
+        return Defer(find(place, +seen.undeferred, "undeferred task"))
     if option == "split":
         parts = whole(number, 2, MOST_TOGETHER)
         return Split(find(place, seen.costs, "piece of code"), parts, costs.creating, costs.for_parts(parts))

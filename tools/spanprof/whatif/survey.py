@@ -2,6 +2,7 @@
 
 Tasks that the program does not make, and the groups of its loops, are none that one can change.
 """
+import time
 from collections import Counter
 from dataclasses import dataclass, field
 
@@ -18,8 +19,10 @@ class Survey:
     ordered: Counter = field(default_factory=Counter)       # of these, those of tasks that depend items order too
     dependent: Counter = field(default_factory=Counter)     # tasks with depend items, by place
     items: Counter = field(default_factory=Counter)         # depend items, by their name
+    undeferred: Counter = field(default_factory=Counter)    # undeferred tasks, by place
     depth: int = 0
     between: Counter = field(default_factory=Counter)       # costs of code between two creations of one task
+    seconds: float = 0      # that it took; a change takes no less
 
     def creating(self):
         """The least cost that a quarter of the code between two creations does not exceed; None without any."""
@@ -60,6 +63,7 @@ class Surveyor:
         out = self.out
         out.tasks[one.name] += 1
         out.dependent[one.name] += bool(one.items)
+        out.undeferred[one.name] += one.is_undeferred
         for _, name in one.items:
             out.items[name] += 1
         self.has_items[-1] |= bool(one.items)
@@ -88,7 +92,10 @@ class Surveyor:
 
 
 def survey(stream):
-    surveyor = Surveyor()
+    surveyor, begun = Surveyor(), time.monotonic()
+    does = {"work": surveyor.work, "task": surveyor.task, "taskwait": surveyor.taskwait,
+            "taskgroup": surveyor.taskgroup, "end": surveyor.end}
     for one in stream:
-        getattr(surveyor, one.kind)(one)
+        does[one.kind](one)
+    surveyor.out.seconds = time.monotonic() - begun
     return surveyor.out

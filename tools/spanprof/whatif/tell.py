@@ -2,11 +2,12 @@
 import json
 
 from spanprof.claims import speaks_of, why_not_of_more_threads
+from spanprof.proof import proved
 
 RIGHT = (("drop-wait drop-depend drop-name",
-          "whether the program stays right without it is yours to know: no text tells what its tasks read and write"),
+          "whether the program stays right without it is for you to judge: no text says what its tasks read and write"),
          ("split grain task",
-          "whether that code can be divided, or run beside what follows it, is yours to know: no text tells it"))
+          "whether that code can be divided, or run in parallel to what follows it, is for you to judge"))
 HEADS = "%-22s %18s %18s %9s"
 
 
@@ -31,12 +32,10 @@ def pairs(before, after):
                 yield "%d threads, %s" % (p, name), *numbers
 
 
-def proved(before, after):
-    if before.by == after.by == "spanprof":
-        return "proved of the text, and of the changed text: spanprof has read both"
-    words = "proved of the text, and of the changed text: spanprof_large has read one beyond the limits of spanprof"
+def proof_words(before, after):
+    words = proved("proved of the text, and of the changed text: spanprof has read both")
     has_ends = all(row.end is not None for numbers in (before, after) for row in numbers.on.values())
-    return words if has_ends else words + "; there was too little memory for a greedy run"
+    return words if has_ends else words + "; there was too little memory for a greedy schedule"
 
 
 def on_more_threads(head, threads):
@@ -53,9 +52,9 @@ def notes(requests, made, costs, head, threads):
     """What stands above the numbers."""
     yield from ("changed: " + one.words() for one in made)
     if any(hasattr(one, "creating") for one in made):
-        yield "a creation is taken to cost %s: %s" % (grouped(costs.creating), costs.why)
+        yield "a creation is assumed to cost %s: %s" % (grouped(costs.creating), costs.why)
     yield from yours_to_know(requests)
-    yield from ("remark: " + remark for remark in head.remarks)
+    yield from ("warning: " + remark for remark in head.remarks)
     yield from on_more_threads(head, threads)
 
 
@@ -68,7 +67,7 @@ def lines(before, after, unit=""):
     yield (HEADS % (in_unit(unit), "text", "changed text", "")).rstrip()
     for name, was, now in pairs(before, after):
         yield (HEADS % (name, grouped(was), grouped(now), change(was, now))).rstrip()
-    yield proved(before, after)
+    yield proof_words(before, after)
 
 
 def numbers_json(numbers):
@@ -79,5 +78,5 @@ def numbers_json(numbers):
 def as_json(told, before, after, predicted=None):
     """Without a model of the machine no time is predicted."""
     out = {"notes": list(told), "text": numbers_json(before), "changed text": numbers_json(after),
-           "proved": proved(before, after)}
+           "proved": proof_words(before, after)}
     return json.dumps({**out, "predicted": predicted} if predicted else out, indent=2)

@@ -1,15 +1,14 @@
 """The text in a file, read as often as it is needed, and the changed one."""
 import os
-from itertools import islice
 
 from spanprof import client
 from spanprof.command import naming
 from spanprof.head import head_text, read_head
 from spanprof.remarks import in_json
-from spanprof.text import has_loops, statements, text_lines
+from spanprof.text import statements, text_lines
+from spanprof.text_file import TextFile
 
 ENCODING = {"encoding": "utf-8", "errors": "replace", "newline": "\n"}
-LINES_OF_A_HEAD = 1000
 OF_THE_RUN = ("covers", "not covered", "elapsed", "outside regions", "in other regions", "in parts without tasks",
               "in tasks", "clocks differ", "preempted", "runs", "work of the runs", "span of the runs")
 
@@ -21,20 +20,17 @@ class Text:
         self.path, self.version = path, version
         self.head_text = head_text(path)
         self.head = read_head(self.head_text)
-        self.canonical = client.ask(["show"], client.read(path)) if version == 2 else None
+        self.canonical = client.ask(["show"], TextFile(path)) if version == 2 else None
 
     def statements(self):
         if self.canonical is not None:
             yield from statements(self.canonical.splitlines(True))
             return
-        with open(self.path, **ENCODING) as lines:
-            yield from statements(lines)
+        yield from statements(TextFile(self.path).lines())
 
 
 def version_of(path):
-    """By the header, which is looked for among the first lines."""
-    with open(path, **ENCODING) as lines:
-        return 2 if has_loops("".join(islice(lines, LINES_OF_A_HEAD))) else 1
+    return 2 if TextFile(path).has_loops() else 1
 
 
 def changed_head(text, made):

@@ -12,7 +12,7 @@ class Words(unittest.TestCase):
         self.assertEqual(words_of(page), "the text. a<b x_y")
 
     def test_what_is_missing_and_what_is_wrong(self):
-        faults = list(faults_of("callers.whole", "<p>It ends the region's own code.</p>"))
+        faults = list(faults_of("callers", "<p>It ends the region's own code.</p>"))
         self.assertIn("has: It ends the region's own code.", faults)
         self.assertTrue(any(fault.startswith("lacks: ") and "as one text" in fault for fault in faults))
 

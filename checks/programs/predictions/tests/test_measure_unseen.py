@@ -35,12 +35,12 @@ class Turns(InAFolder):
 
 class Steps(InAFolder):
     def test_texts_of_new_recordings(self):
-        for name in ("a.4.1.log", "a.4.2.log"):
+        for name in ("a.4.1.spanprof", "a.4.2.spanprof"):
             (self.folder / name).mkdir()
         (self.folder / "a.4.1.tasks").write_text("")
         with mock.patch.object(measure_unseen, "convert") as convert:
             texts(self.folder)
-        self.assertEqual([call.args[0].name for call in convert.call_args_list], ["a.4.2.log"])
+        self.assertEqual([call.args[0].name for call in convert.call_args_list], ["a.4.2"])
 
     def test_words(self):
         calls = []

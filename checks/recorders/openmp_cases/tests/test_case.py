@@ -1,7 +1,7 @@
 import unittest
 
-from case import (Left, count_tasks, first_faults, is_counted, is_of_gcc, last_faults, needed_version, numbers_of_head,
-                  second_setting, unfolded_span, wants)
+from case import (Left, count_tasks, first_faults, is_counted, is_of_gcc, is_preloaded, last_faults, needed_version,
+                  numbers_of_head, wants)
 
 SOURCE = """\
 // A program.
@@ -40,6 +40,10 @@ class Wanted(unittest.TestCase):
         self.assertFalse(is_counted(self.wanted))
         self.assertTrue(is_counted(wants("// clock: counted\n")))
 
+    def test_what_is_loaded_first(self):
+        self.assertFalse(is_preloaded(self.wanted))
+        self.assertTrue(is_preloaded(wants("// preload: recorder\n")))
+
     def test_the_version(self):
         self.assertEqual(needed_version(wants("// needs: LLVM 16\n")), 16)
         self.assertEqual(needed_version(self.wanted), 0)
@@ -57,12 +61,6 @@ class Wanted(unittest.TestCase):
         self.assertEqual(self.faults(numbers={}), ["there is no work"])
         self.assertEqual(self.faults(refused=["out.replay: NotReady"]), ["out.replay: NotReady"])
 
-    def test_the_second_run(self):
-        self.assertEqual(second_setting("A=5", ""), ("A", "5"))
-        self.assertEqual(second_setting("advised SPANPROF_FOLD_CHUNK", "or record with --fold chunk=12 (3 tasks)"),
-                         ("SPANPROF_FOLD_CHUNK", "12"))
-        self.assertIsNone(second_setting("advised SPANPROF_FOLD_CHUNK", "nothing"))
-
     def test_parts_are_no_tasks(self):
         self.assertEqual(count_tasks("task {  # one of the region's threads\n  task if(0) {\n  }\n}\ntaskwait\n"), 1)
 
@@ -73,11 +71,6 @@ class Wanted(unittest.TestCase):
         self.assertEqual(numbers_of_head(text), {"covers": 93, "most held lock": 64, "affected": 424,
                                                  "off the processor": 384})
         self.assertEqual(numbers_of_head("omptasks 1\n"), {})
-
-    def test_the_span_without_folds(self):
-        text = "# in tasks: 9\n# span without folds: 7\nomptasks 1\n"
-        self.assertEqual(unfolded_span(text), {"span without folds": 7})
-        self.assertEqual(unfolded_span("omptasks 1\n"), {})
 
 
 if __name__ == "__main__":

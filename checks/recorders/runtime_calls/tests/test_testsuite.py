@@ -17,6 +17,14 @@ class Testsuite(unittest.TestCase):
         self.assertTrue(testsuite.is_run("int main() {}"))
         self.assertFalse(testsuite.is_run("/* { dg-do compile } */"))
 
+    def test_programs_of_fortran(self):
+        with tempfile.TemporaryDirectory() as folder:
+            os.makedirs(os.path.join(folder, "libgomp.fortran", "examples"))
+            with open(os.path.join(folder, "libgomp.fortran", "examples", "a.f90"), "w", encoding="utf-8") as file:
+                file.write("! { dg-do run }\n!$OMP TASK\n")
+            found = testsuite.programs(folder)
+        self.assertEqual([(it.name, it.language) for it in found], [("fortran:examples:a.f90", "fortran")])
+
     def test_programs_with_tasks(self):
         with tempfile.TemporaryDirectory() as folder:
             os.mkdir(os.path.join(folder, "libgomp.c"))
@@ -24,7 +32,7 @@ class Testsuite(unittest.TestCase):
                 with open(os.path.join(folder, "libgomp.c", name), "w", encoding="utf-8") as file:
                     file.write(HEAD + "#pragma omp %s\n" % pragma)
             found = testsuite.programs(folder)
-        self.assertEqual([(it.name, it.is_cpp) for it in found], [("c:a.c", False), ("c:c.C", True)])
+        self.assertEqual([(it.name, it.language) for it in found], [("c:a.c", "c"), ("c:c.C", "c++")])
 
 
 if __name__ == "__main__":

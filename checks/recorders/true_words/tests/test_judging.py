@@ -1,22 +1,22 @@
 import unittest
 
-from judging import doubts_of, faults, of_the_order, refuted
-from sentences import blocks, is_of_whole, read
+from judging import doubts_of, faults, refuted
+from sentences import blocks, read
 from truth import SHAPES
 
 BY_NAME = {shape.name: shape for shape in SHAPES}
 GOOD = """\
 shapes.tasks, region at shapes.c:45, 4 threads, costs in us of processor time
 covers        99.8 % of the program's thread-time in code; not covered: 140 outside regions (measured)
-tasks         16, in 34 segments (recorded); its run was legal (proved of the recorded text and events)
-runs          1: another run has other costs; --runs 9 tells how far they spread
+tasks         16, in 34 segments (recorded)
+runs          1; --runs 9 measures the variation
 work          80,090 us: code on 4 threads, added up (measured)
-span          5,030 us: it ends no sooner on any number of threads (proved of the recorded text)
-parallelism   15.93: work / span; it gains no more on any number of threads (proved of the recorded text)
+span          5,030 us: lower bound of the run time on any number of threads (proved of the recorded text)
+parallelism   15.93: work / span, the greatest speedup on any number of threads (proved of the recorded text)
 elapsed       20,900 us on 4 threads: 3.83 of them busy in this code on average (measured)
-threads       2: up to 2.00, 4: up to 4.00, 8: up to 8.00, 16: up to 15.93 times as fast as its work in a row (proved of the recorded text)
-              2: 1.88, 4: 3.37, 8: 5.55, 16: 8.25 and more as long as no thread idles beside a ready segment, which tied tasks can force (proved of the recorded text)
-remarks       none
+threads       speedup at most 2: 2.00, 4: 4.00, 8: 8.00, 16: 15.93 (proved of the recorded text)
+              speedup at least 2: 1.88, 4: 3.37, 8: 5.55, 16: 8.25 for a greedy schedule; tied tasks can do worse (proved of the recorded text)
+warnings      none
 """
 OLD_LOOP = """\
 shapes.tasks, region at shapes.c:66, 2 threads, costs in us of processor time
@@ -26,18 +26,15 @@ span          34,010 us: no run ends sooner (proved, of measured costs)
 parallelism   1.95: work / span; no number of threads gives more (proved)
 elapsed       34,500 us on 2 threads: it was 1.91 times as fast as one (measured)
 threads       2: 1.48 to 1.95, 4: 1.67 to 1.95, 8: 1.80 to 1.95, 16: 1.87 to 1.95 times as fast as one (proved)
-remarks       none
+warnings      none
 """
-
-
-PART = GOOD.replace("c:45,", "c:45, only 40.1 % of the program's thread-time,").replace("99.8", "40.1")
 WHOLE = """\
-shapes.whole.tasks, the whole program, 4 threads, costs in us of processor time
+shapes.spanprof, the whole program, 4 threads, costs in us of processor time
 covers        99.9 % of the program's thread-time in code; not covered: 3 us of the program (measured)
 work          205 ms: code on 4 threads, added up (measured)
-span          130 ms: it ends no sooner on any number of threads (proved of the recorded text)
-parallelism   1.58: work / span; it gains no more on any number of threads (proved of the recorded text)
-remarks       none
+span          130 ms: lower bound of the run time on any number of threads (proved of the recorded text)
+parallelism   1.58: work / span, the greatest speedup on any number of threads (proved of the recorded text)
+warnings      none
 """
 
 
@@ -47,8 +44,8 @@ def judged(text, shape, threads=4):
 
 class Doubts(unittest.TestCase):
     def test_what_a_remark_moves(self):
-        remark = "off the processor in the midst of code, where the wall clock goes on, 9 times at shapes.c:45: "
-        told = [doubts_of(read(GOOD.replace("remarks       none", "remarks       " + words).splitlines()))
+        remark = "preempted in code, which counts as wall time, 9 times at shapes.c:45: "
+        told = [doubts_of(read(GOOD.replace("warnings      none", "warnings      " + words).splitlines()))
                 for words in ("none", remark + "work and span too high", "a lock, 4 times: span too low")]
         self.assertEqual(told, ["", "work and span", "span"])
 
@@ -66,19 +63,19 @@ class Readings(unittest.TestCase):
         self.assertEqual((summary.gain_on_any, summary.at_most[16], summary.at_least[4]), (1.95, 1.95, 1.67))
 
     def test_what_is_not_claimed(self):
-        text = GOOD.replace("it ends no sooner on any number of threads (proved of the recorded text)",
-                            "a longest chain of the recorded text; it is of one thread, and says nothing of more")
+        text = GOOD.replace("lower bound of the run time on any number of threads (proved of the recorded text)",
+                            "a longest chain of the recorded text; it was recorded on one thread")
         self.assertIsNone(read(text.splitlines()).end_on_any)
 
     def test_what_the_line_itself_takes_back(self):
-        text = GOOD.replace("row (proved of the recorded text)",
-                            "row (of the recorded text; the program's may be more (remarks))")
+        text = GOOD.replace("16: 15.93 (proved of the recorded text)",
+                            "16: 15.93 (of the recorded text; the program's may be more (warnings))")
         self.assertEqual(read(text.splitlines()).at_most, {})
 
     def test_a_remark_and_a_lock(self):
-        text = GOOD.replace("remarks       none", "remarks       clocks: work too high\n"
+        text = GOOD.replace("warnings      none", "warnings      clocks: work too high\n"
                                                   "              folded: span too low")
-        text += "locks         24,000 us inside the most held one: no run of it is more than 1.34 times as fast\n"
+        text += "locks         24,000 us inside the most held one: speedup at most 1.34 (measured)\n"
         summary = read(text.splitlines())
         self.assertEqual((summary.is_work_doubted, summary.is_span_doubted, summary.lock_gain), (True, True, 1.34))
 
@@ -113,7 +110,7 @@ class Judgements(unittest.TestCase):
         self.assertEqual(judged(named, "serial"), [])
 
     def test_nothing_claimed(self):
-        text = GOOD.replace("it gains no more on any number of threads", "of the text")
+        text = GOOD.replace("the greatest speedup on any number of threads", "of the text")
         self.assertEqual(judged(text, "independent"), ["nothing is claimed of any number of threads"])
         self.assertNotIn("nothing is claimed of any number of threads", judged(text, "steps"))
 
@@ -125,19 +122,10 @@ class Wholes(unittest.TestCase):
     def told(self, text):
         return blocks(("a line of the program\n" + text).splitlines())
 
-    def test_each_summary_by_itself(self):
-        found = self.told(WHOLE + PART)
-        self.assertEqual([is_of_whole(lines) for lines in found], [True, False])
-        self.assertEqual(["%.3f" % read(lines).share for lines in found], ["0.999", "0.401"])
-        self.assertEqual(list(of_the_order(found)), [])
-        self.assertEqual(list(of_the_order(self.told(GOOD))), [])
-
-    def test_what_is_missing(self):
-        self.assertEqual(list(of_the_order(self.told(PART))),
-                         ["nothing is told of the whole program, of which the region's text has 0.401"])
-        self.assertEqual(list(of_the_order(self.told(PART + WHOLE))),
-                         ["there are one of a region and one of the program"])
-        self.assertEqual(list(of_the_order([])), ["there are no summaries"])
+    def test_without_what_stands_before(self):
+        found = self.told(WHOLE)
+        self.assertEqual(["%.3f" % read(lines).share for lines in found], ["0.999"])
+        self.assertEqual(self.told("shapes: nothing\n"), [])
 
     def test_against_the_program(self):
         whole = BY_NAME["serial"].whole(5)

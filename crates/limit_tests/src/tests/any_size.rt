@@ -57,6 +57,25 @@ fn many_tasks(rt: HostRuntime) -> Result<(), Fail> {
     assert_ends(&rt, &[], text.as_bytes(), (Status::Refused, fault))
 }
 
+/// A segment with many predecessors, in a row of its own.
+#[test]
+fn graph(rt: HostRuntime) -> Result<(), Fail> {
+    let alloc = rt.alloc();
+    let mut input = String::from_str(alloc, "omptasks 1\n")?;
+    let mut rows = String::from_str(alloc, "segment,task,cost,predecessors\n0,0,0,\n")?;
+    let mut last = String::from_str(alloc, "")?;
+    for task in 1..3_000u32 {
+        input.push_str("task { work 2 }\n")?;
+        let (child, next, before) = (2 * task - 1, 2 * task, 2 * task - 2);
+        rows.push_str(&format!(in alloc; "{child},{task},2,{before}\n{next},0,0,{before}\n")?)?;
+        last.push_str(&format!(in alloc; "{child} ")?)?;
+    }
+    input.push_str("taskwait\n")?;
+    rows.push_str(&format!(in alloc; "5999,0,0,{last}5998\n")?)?;
+    let wanted = (Status::Done, rows.as_bytes());
+    assert_ends(&rt, &["graph"], input.as_bytes(), wanted)
+}
+
 /// Tasks in one another, behind a line that comes in several pieces.
 #[test]
 fn deep_tasks(rt: HostRuntime) -> Result<(), Fail> {
@@ -323,8 +342,8 @@ const THREAD_COUNT: (Status, &str) = (Status::Refused, "error: ThreadCount\n");
 const WORDS: &[(&[&str], (Status, &str))] = &[
     (&["shows"], WRONG_WORDS),
     (&["show", "1"], WRONG_WORDS),
-    (&["help"], WRONG_WORDS),
-    (&["--help"], WRONG_WORDS),
+    (&["help", "1"], WRONG_WORDS),
+    (&["--help", "slack"], WRONG_WORDS),
     (&["--upto=3", "slack"], WRONG_WORDS),
     (&["slack", "--upto=3"], WRONG_WORDS),
     (&["greedy"], WRONG_WORDS),

@@ -67,8 +67,10 @@ pub(super) enum AnySize {
     Greedy,
     Curve,
     WhatIf,
+    Graph,
     Listed,
     Replay,
+    Version,
 }
 
 fn on_worked(words: &'static [&'static str], text: &'static str) -> Example {
@@ -128,6 +130,14 @@ fn large_example_of(asked: AnySize) -> Example {
         AnySize::Greedy => on_worked(&["spanprof_large", "greedy", "--threads", "2"], GREEDY_RUN),
         AnySize::Curve => on_worked(&["spanprof_large", "curve", "--upto", "2"], CURVE),
         AnySize::WhatIf => on_worked(&["spanprof_large", "whatif", "2=4", "1=5"], CHANGED),
+        AnySize::Graph => on_worked(
+            &["spanprof_large", "graph"],
+            "segment,task,cost,predecessors\n0,0,5,\n1,1,3,0\n2,0,2,0\n3,0,1,1 2\n",
+        ),
+        AnySize::Version => on_worked(
+            &["spanprof_large", "--version"],
+            "spanprof_large 0.1.0 (logic dac8208d650f15bf)\n",
+        ),
         AnySize::Listed => Example {
             words: &["spanprof_large", "whatif", "--listed"],
             input: LISTED,

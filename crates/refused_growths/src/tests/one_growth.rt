@@ -218,6 +218,16 @@ fn command_large_whatif(rt: HostRuntime) -> Result<(), Fail> {
 }
 
 #[test]
+fn command_large_graph(rt: HostRuntime) -> Result<(), Fail> {
+    make_once(&rt, Calls::Of(Command::AnySize(AnySize::Graph)))
+}
+
+#[test]
+fn command_large_version(rt: HostRuntime) -> Result<(), Fail> {
+    make_once(&rt, Calls::Of(Command::AnySize(AnySize::Version)))
+}
+
+#[test]
 fn command_large_listed(rt: HostRuntime) -> Result<(), Fail> {
     make_once(&rt, Calls::Of(Command::AnySize(AnySize::Listed)))
 }

@@ -1,7 +1,8 @@
 """Cases of a campaign, their conditions, and their running side by side."""
 import unittest
 
-from spanprof.conformance.campaign import cases_of, directed_cases, random_cases, run_cases, spread
+from spanprof.conformance.campaign import (cases_of, directed_cases, random_cases, run_cases, self_checking_cases,
+                                           spread, telling_first)
 from spanprof.conformance.cases import Plan
 from spanprof.conformance.program import C_KINDS
 from spanprof.conformance.tests.helpers import PLAN, StubBench, body_of, case_of
@@ -46,6 +47,15 @@ class Conditions(unittest.TestCase):
 
 
 class Running(unittest.TestCase):
+    def test_nothing_is_begun_after_the_time(self):
+        bench = StubBench()
+        self.assertEqual(run_cases(bench, [case_of("a"), case_of("b")], PLAN, 1, seconds=-1).runs, 0)
+        self.assertEqual(bench.tried, [])
+
+    def test_what_tells_most_comes_first_where_time_is_short(self):
+        cases = [case_of("m", variant="mixed"), case_of("t"), *self_checking_cases("in_final")]
+        self.assertEqual([case.variant for case in telling_first(cases)], ["self-checking", "tied", "mixed"])
+
     def test_all_cases_are_counted(self):
         cases = [case_of(name) for name in "abc"]
         results = run_cases(StubBench(), cases, PLAN, 2)

@@ -15,7 +15,7 @@ def ended(fault):
     options = types.SimpleNamespace(call=mock.Mock(side_effect=fault))
     with mock.patch.object(command, "parse", return_value=options), contextlib.redirect_stderr(told), \
             mock.patch.object(command, "leave") as left:
-        return command.main(), told.getvalue(), left.called
+        return command.main([]), told.getvalue(), left.called
 
 
 class Ends(unittest.TestCase):

@@ -5,6 +5,7 @@ import unittest
 
 from spanprof.conformance.built import Built
 from spanprof.conformance.mutant_campaigns import Campaign, Campaigns, Caught, cases_of_campaign, in_order
+from spanprof.conformance.self_checking import is_self_checking
 from spanprof.conformance.tests.helpers import PLAN, StubBench, failure_of
 
 LOST = Built("lost", "loses a task", "once", "yes", pathlib.Path("lost.so"))
@@ -92,8 +93,12 @@ class WhatWasSeen(unittest.TestCase):
 class Order(unittest.TestCase):
     def test_programs_of_the_rule_come_first(self):
         cases = cases_of_campaign(options(directed=True, match="*wait*", programs=0), {"in", "out"}, 0)
-        names = [case.name for case in in_order(cases, "taskwait depend")]
+        ordered = in_order(cases, "taskwait depend")
+        alone = [case for case in ordered if is_self_checking(case)]
+        names = [case.name for case in ordered[len(alone):]]
         first = [name for name in names if name.startswith("taskwait_depend")]
+        self.assertEqual(ordered[:len(alone)], alone)
+        self.assertEqual(alone[0].name, "taskwait_depend")
         self.assertEqual(names[:len(first)], first)
         self.assertEqual(len(first), 2)
 

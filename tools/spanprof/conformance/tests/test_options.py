@@ -54,7 +54,7 @@ class Options(unittest.TestCase):
     def test_what_is_refused_before_hours_of_runs(self):
         for words, why in (("--hours -1", "-1 is no number of hours"), ("--hours nan", "nan is no number of hours"),
                            ("--report /none/x.md", "there is no folder /none"),
-                           ("--match none", "no directed program's name fits none")):
+                           ("--match none", "no directed or self-checking program's name fits none")):
             said = self.refused("run --cc gcc " + words)
             self.assertIn(why, said)
             self.assertEqual(said.splitlines()[0], "usage: spanprof-conformance run [options] --cc CC")

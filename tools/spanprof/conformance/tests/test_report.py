@@ -26,8 +26,8 @@ class Tables(unittest.TestCase):
 
     def test_summary(self):
         lines = tables.summary(results_of(LARGE, SMALL, failing=("small",)), ["all"])
-        self.assertEqual(lines[2:], ["| all | 2 | 2 | 8 | 80 | 1 | 0 | 0 | 0 | 0 | 0 | 0 | 0 | 0 | 0 | 0 | 0 |",
-                                     "| all | 4 | 2 | 8 | 80 | 1 | 0 | 0 | 0 | 0 | 0 | 0 | 0 | 0 | 0 | 0 | 0 |"])
+        self.assertEqual(lines[2:], ["| all | 2 | 2 | 8 | 80 | 1 | 0 | 0 | 0 | 0 | 0 | 0 | 0 | 0 | 0 | 0 | 0 | 0 |",
+                                     "| all | 4 | 2 | 8 | 80 | 1 | 0 | 0 | 0 | 0 | 0 | 0 | 0 | 0 | 0 | 0 | 0 | 0 |"])
 
     def test_coverage_has_a_row_for_each_way_to_wait(self):
         lines = tables.coverage(results_of(LARGE), {"in", "out"})

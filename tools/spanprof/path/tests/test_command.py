@@ -1,19 +1,19 @@
 """Unit tests, which need no compiler, runtime, browser or spanprof; in tools/:
 python3 -m unittest discover -s spanprof/path/tests -t ."""
-import contextlib
-import io
 import os
 import unittest
-from unittest import mock
 
 from spanprof.path import command
 from spanprof.tests.in_folder import InFolder, answered
+from spanprof.tests.proofs import with_a_proved_program
+
+setUpModule = with_a_proved_program
 
 TEXT = "# remark: untied, 1 time: span too low\nomptasks 1\nwork 2\ntask { # a.c:3\nwork 5\n}\nwork 1\n"
 LARGE = """\
 #!/bin/sh
 case $1,$(cat) in
-    ,*"work 1") printf 'tasks 1\\nsegments 3\\nwork 8\\nspan %d\\n' ;;
+    span,*"work 1") printf 'tasks 1\\nsegments 3\\nwork 8\\nspan %d\\n' ;;
     slack,*) printf 'segment,task,cost,start,slack,chain\\n0,0,2,0,0,1\\n1,1,5,2,0,1\\n2,0,1,2,4,0\\n' ;;
     *) echo "error: line 1: BadHeader"; exit 1 ;;
 esac
@@ -33,7 +33,7 @@ class Commands(InFolder):
 
     def test_a_table(self):
         self.assertEqual(self.told(), (0, """\
-remark: untied, 1 time: span too low
+warning: untied, 1 time: span too low
 work 8, span 7, parallelism 1.1, 2 of 3 segments on a critical path
 proved of this text: its work, span and this critical path (spanprof_large slack); of the sums by place nothing
  of span  of work  segments  place
@@ -59,24 +59,17 @@ span,work,segments,place
         self.write("mine.tasks", "tasks")
         status, printed, said = self.told()
         self.assertEqual((status, printed), (1, ""))
-        self.assertRegex(said, "(?s)^spanprof-path: .*mine.tasks:1: BadHeader: .*\n    1 | tasks\n"
+        self.assertRegex(said, "(?s)^spanprof-path: .*mine.tasks:1:1: BadHeader: .*\n    1 | tasks\n"
                                ".*: line 1: BadHeader\n$")
 
     def test_no_memory_for_the_rows(self):
         full = LARGE.replace("slack,*)", "slack,*) echo 'error: out of memory'; exit 3 ;;\nnever)")
         status, printed, said = self.told(large=full)
         self.assertEqual((status, printed), (1, ""))
-        self.assertRegex(said, "^spanprof-path: spanprof_large slack: out of memory; it keeps the table and .*\n$")
+        self.assertRegex(said, "^spanprof-path: spanprof slack: error: out of memory: more memory helps, .*\n$")
 
     def test_sums_that_differ(self):
         self.assertEqual(self.told(span=6), (1, "", "spanprof-path: the places' span is 7, and the text's 6\n"))
-
-    def test_no_spanprof_large(self):
-        told = io.StringIO()
-        with mock.patch("spanprof.path.command.spanprof_large", return_value=[]), contextlib.redirect_stderr(told), \
-                self.assertRaises(SystemExit):
-            command.main([self.text])
-        self.assertIn("spanprof_large, which measures it, is not found", told.getvalue())
 
 
 if __name__ == "__main__":

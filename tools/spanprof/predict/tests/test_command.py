@@ -13,6 +13,9 @@ from spanprof.predict.machine import Machine, Measured, write_machine
 from spanprof.predict.recorded import outside_of, recorded
 from spanprof.predict.scaled import Chosen
 from spanprof.remarks import in_words
+from spanprof.tests.proofs import with_a_proved_program
+
+setUpModule = with_a_proved_program
 
 HEAD = '# recorded: {"program": "a", "threads": %d, "clock": "wall", "unit": "us"}\n' \
     '# region: {"at": "a.c:9", "number": 1, "of": 1}\n'
@@ -50,7 +53,6 @@ class Recordings(InAFolder):
     def test_what_tells_no_time(self):
         for text, why in (("omptasks 1 task { }\n", "it is no recording"),
                           (TEXT.replace("omptasks 1", "omptasks 2") % 2, "it is no recording"),
-                          ('# remark: {"remark": "folded", "times": 2}\n' + TEXT % 2, "tasks are folded"),
                           ('# divided: {"what": "loops", "times": 1}\n' + TEXT % 2, "divided among")):
             with self.assertRaisesRegex(Fault, "a.tasks: no time is predicted: .*%s" % why):
                 recorded(self.write("a.tasks", text))
@@ -125,7 +127,7 @@ class Command(InAFolder):
         first, *_, note, last = self.answer(self.write("a.scale.json", json.dumps(told))).splitlines()
         self.assertIn("a.tasks, region at a.c:9, recorded on 2 threads", first)
         self.assertEqual(note, "1 of 1 recordings on 2 threads took 50 % longer than the unrecorded runs, or more: the "
-                               "times may be told too long")
+                               "predicted times may be too long")
         self.assertIn("not proved", last)
         for wrong, why in (("{", "is no file of spanprof-record --scale"), ("{}", "names no recording that is there"),
                            ('{"threads": 3}', "names no recording"), ("[]", "names no recording")):
@@ -158,7 +160,7 @@ class Command(InAFolder):
             lines, told = predictions.told_of(Chosen([path]))
             self.assertEqual((len(lines), len(told["predicted"])), (4, 2))
             lines, told = predictions.told_of(Chosen([self.write("b.tasks", TEXT % 1)]))
-            self.assertRegex(lines[0], "^not told: b.tasks is of one thread")
+            self.assertRegex(lines[0], "^unavailable: b.tasks is of one thread")
             self.assertIn("b.tasks", told["none"])
         with mock.patch.dict(os.environ, SPANPROF_MACHINE=self.machine + ".none"):
             self.assertEqual((predictions.told_of(Chosen([path])), predictions.changed_told(path, str, 2)),

@@ -35,8 +35,8 @@ class Recordings(unittest.TestCase):
     def test_where_all_are_slow(self):
         slow = self.write("a.tasks", 115)
         self.assertEqual(chosen({1: [slow]}, {1: [100000]}), Chosen([slow], [
-            "1 of 1 recordings on 1 thread took 30 % longer than the unrecorded runs, or more: the times may be told "
-            "too long"]))
+            "1 of 1 recordings on 1 thread took 30 % longer than the unrecorded runs, or more: the predicted times "
+            "may be too long"]))
         self.assertEqual(chosen({1: [slow]}, {}), Chosen([slow]))
 
     def test_of_a_file(self):

@@ -1,6 +1,9 @@
 """What the tests make up in place of programs, compilers and answers."""
 from dataclasses import dataclass, field
 
+from spanprof.tests.columns import code_of, rows_of
+from spanprof.text import Segment
+
 LDD_GCC = """\
 \tlinux-vdso.so.1 (0x00007ff521519000)
 \tlibgomp.so.1 => /lib/x86_64-linux-gnu/libgomp.so.1 (0x00007ff5214b8000)
@@ -25,21 +28,6 @@ Symbol table '.dynsym' contains 6 entries:
      7: 0000000000001190    95 FUNC    GLOBAL DEFAULT   14 main
     11: 00000000000011f0    12 FUNC    GLOBAL DEFAULT   14 GOMP_parallel@@GOMP_4.0
 """
-
-
-@dataclass
-class Segment:
-    name: str
-    task: int = 0
-
-    def place(self):
-        return self.name
-
-
-@dataclass
-class Row:
-    cost: int
-    critical: bool
 
 
 @dataclass
@@ -89,6 +77,6 @@ class Answers:
     def __post_init__(self):
         self.path = self.name
         self.span_numbers = {"segments": 3, "work": self.work, "span": self.span}
-        self.code = [Segment("the beginning"), Segment("task at sort.c:9"), Segment("after a taskwait")]
-        self.rows = [Row(20, True), Row(30, False), Row(50, True)]
+        self.code = code_of([Segment(0, "", "", ""), Segment(1, "sort.c:9", "", ""), Segment(0, "", "taskwait", "")])
+        self.rows, self.path_segments, self.is_long = rows_of((20, 30, 50), (0, 2)), [0, 2], False
         self.curve = {p: {"least": max(70, -(-100 // p)), "bound": (100 + (p - 1) * 70) // p} for p in (2, 4, 8, 16)}

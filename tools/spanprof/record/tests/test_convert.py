@@ -1,87 +1,111 @@
-import contextlib
-import io
+"""What spanprof-convert makes of a recording."""
+import json
 import os
-import tempfile
 import unittest
 from unittest import mock
 
-from spanprof.record import convert, convert_command
+from spanprof.record import convert_command
+from spanprof.tests.in_folder import InFolder, answered
+from spanprof.tests.recordings import TEXT, recording, write
+
+MADE = """\
+#!/bin/sh
+echo "$SPANPROF_WHOLE $SPANPROF_UNIT $SPANPROF_REGION" > $2.asked
+[ "$SPANPROF_REGION" = none ] && exit 0
+printf '%s' > $2.tasks
+echo times > $2.timed
+echo times > $2.times
+echo "{\\"told\\": \\"text\\", \\"file\\": \\"$2.tasks\\", \\"tasks\\": 3, \\"segments\\": 5, \\"work\\": 9, \\"unit\\": \\"us\\"}"
+"""
 
 
-class Logs(unittest.TestCase):
+class Converts(InFolder):
     def setUp(self):
-        kept = tempfile.TemporaryDirectory()
-        self.addCleanup(kept.cleanup)
-        self.folder, self.out = kept.name, os.path.join(kept.name, "mine")
+        super().setUp()
+        self.converter = self.program("convert", MADE % TEXT.replace("\n", "\\n"))
+        self.recording = recording(self.folder)
 
-    def converter(self, words, status=0):
-        path = os.path.join(self.folder, "convert")
-        with open(path, "w", encoding="utf-8") as file:
-            file.write("#!/bin/sh\necho \"{\\\"told\\\": \\\"$1 ${2-} ${LD_PRELOAD-none}\\\"}\"\n%s\nexit %d\n"
-                       % (words, status))
-        os.chmod(path, 0o755)
-        return path
-
-    def test_those_of_a_name(self):
-        for name in ("mine.log", "mine.rank2.log", "mine.77.log", "mine.77-2.log", "mine.rank2.78.log", "mine.x.log",
-                     "mine.tasks", "other.log"):
-            os.mkdir(os.path.join(self.folder, name))
-        self.assertEqual([os.path.basename(path) for path in convert.logs(self.out)],
-                         ["mine.log", "mine.77-2.log", "mine.77.log", "mine.rank2.log", "mine.rank2.78.log"])
-
-    def test_what_the_converter_tells(self):
-        variables = {"LD_PRELOAD": "/x.so"}
-        self.assertEqual(convert.convert(self.converter(""), "a.log", variables), [{"told": "a.log  none"}])
-        self.assertEqual(convert.convert(self.converter(""), "a.log", variables, "b"), [{"told": "a.log b none"}])
-
-    def test_a_converter_that_fails(self):
-        told = convert.convert(self.converter("", 3), "a.log", {})
-        self.assertEqual(told[-1], {"told": "fault", "log": "a.log", "what": "its converter ended with status 3"})
-
-    def test_no_log(self):
-        self.assertFalse(convert.convert_all("/none", self.out, {}).loaded)
+    def convert(self, *words, converter=None):
+        with mock.patch.object(convert_command, "converter", return_value=converter or self.converter), \
+                mock.patch("signal.signal"):
+            return answered(convert_command.main, list(words))
 
     def refused(self, *words):
-        told = io.StringIO()
-        with contextlib.redirect_stderr(told), self.assertRaises(SystemExit) as ended, mock.patch("signal.signal"):
-            convert_command.main(list(words))
-        self.assertEqual(ended.exception.code, 125)
-        return told.getvalue().splitlines()[-1]
+        status, _, errors = self.convert(*words)
+        self.assertEqual(status, 125)
+        return errors.splitlines()[-1]
 
-    def test_what_is_no_log(self):
-        wanted = "; a log is the folder NAME.log that spanprof-record leaves"
-        path = os.path.join(self.folder, "mine.tasks")
-        with open(path, "w", encoding="utf-8") as file:
-            file.write("# a comment\n\nomptasks 1\nwork 1\n")
-        self.assertEqual(self.refused(path), "spanprof-convert: %s: a text already, and no log: spanprof-report makes "
-                         "its page, spanprof-whatif changes it" % path)
-        with open(path, "wb") as file:
-            file.write(b"\xff\0")
-        for log, what in ((path, path + ": no folder"), ("none.log", "none.log: no such folder"),
-                          ("", "'': no such folder"), (self.folder, self.folder + ": a folder without a log in it")):
-            self.assertEqual(self.refused(log), "spanprof-convert: " + what + wanted)
+    def names(self):
+        return sorted(os.listdir(self.folder))
 
-    def test_words_that_exclude_each_other(self):
-        self.assertIn("--out takes one log", self.refused("--out", "x", "a.log", "b.log"))
-        self.assertIn("--out x/: the first name of files, and no folder", self.refused("--out", "x/", "a.log"))
-        self.assertIn("--online writes no text, which --whole is for", self.refused("--online", "--whole", "a.log"))
+    def meta(self, name="mine"):
+        with open(os.path.join(self.folder, name + ".spanprof", "recording.json"), encoding="utf-8") as file:
+            return json.load(file)
 
-    def test_a_text_that_cannot_be_written(self):
-        log = os.path.join(self.folder, "mine.log")
-        os.mkdir(log)
-        open(os.path.join(log, "head"), "w", encoding="utf-8").close()
-        self.assertIn("there is no folder /none", self.refused("--out", "/none/x", log))
-        told = [{"told": "unwritten", "file": "x.tasks"}]
-        with mock.patch.object(convert_command, "converter", return_value="/converter"), \
-                mock.patch.object(convert_command, "convert", return_value=told):
-            self.assertEqual(self.refused(log), "spanprof-convert: x.tasks cannot be written")
+    def test_the_text_anew(self):
+        os.remove(os.path.join(self.recording, "times"))
+        write(os.path.join(self.recording, "recording.json"), '{"schema": 1, "arguments": ["./mine"], "unit": "us"}')
+        status, _, errors = self.convert(self.recording)
+        self.assertEqual((status, self.meta()["arguments"]), (0, ["./mine"]))
+        self.assertIn("mine.spanprof/program.tasks: 3 tasks, 5 segments", errors)
+        self.assertEqual(sorted(self.meta()["files"]), ["log/head", "program.tasks", "times"])
 
-    def test_what_is_asked_for(self):
-        chosen = convert_command.parser().parse_args(["--fold", "depth=3", "--unit", "us", "--regions", "2", "a.log"])
-        self.assertEqual(convert_command.variables({"A": "b"}, chosen),
-                         {"A": "b", "SPANPROF_UNIT": "us", "SPANPROF_REGIONS": "2", "SPANPROF_FOLD_DEPTH": "3"})
-        whole = convert_command.parser().parse_args(["--whole", "a.log"])
-        self.assertEqual(convert_command.variables({}, whole), {"SPANPROF_WHOLE": "1"})
+    def test_another_recording(self):
+        self.convert("--out", os.path.join(self.folder, "b"), self.recording)
+        self.assertTrue(os.path.islink(os.path.join(self.folder, "b.spanprof", "log")))
+        self.assertIn("program.tasks", self.meta("b")["files"])
+        self.assertIn("b.spanprof is there already; --out names another",
+                      self.refused("--out", os.path.join(self.folder, "b"), self.recording))
+
+    def test_a_log_alone(self):
+        write(os.path.join(self.folder, "old.log", "head"), "")
+        self.assertEqual(self.convert(os.path.join(self.folder, "old.log") + os.sep)[0], 0)
+        self.assertIn("program.tasks", self.meta("old")["files"])
+
+    def test_a_region(self):
+        out = os.path.join(self.folder, "b")
+        _, _, errors = self.convert("--region", "mine.c:9", "--out", out, self.recording)
+        self.assertEqual(errors, "".join("spanprof-convert: written: %s.%s\n" % (out, end)
+                                         for end in ("tasks", "timed")))
+        self.assertEqual([name for name in self.names() if name.startswith("b.")], ["b.tasks", "b.timed"])
+        self.convert("--region", "mine.c:9", self.recording)
+        self.assertIn("mine.region.tasks", self.names())
+        self.assertIn("there is no region with tasks at none; those are at mine.c:9",
+                      self.refused("--region", "none", self.recording))
+
+    def test_printed(self):
+        self.assertEqual(self.convert("--text", self.recording)[:2], (0, TEXT))
+        before = self.names()
+        self.assertEqual(self.convert("--text", "--region", "mine.c:9", self.recording)[:2], (0, TEXT))
+        self.assertEqual(self.names(), before)
+
+    def test_one_that_fails(self):
+        before = self.names(), sorted(os.listdir(self.recording))
+        failing = self.program("failing", "#!/bin/sh\necho half > $2.tasks\nkill -9 $$\n")
+        for words in ((), ("--region", "mine.c:9")):
+            status, _, errors = self.convert(*words, self.recording, converter=failing)
+            self.assertEqual(status, 125)
+            self.assertIn("log cannot be converted: its converter died: it was killed", errors)
+        os.remove(failing)
+        self.assertEqual((self.names(), sorted(os.listdir(self.recording))), before)
+
+    def test_what_is_no_recording(self):
+        wanted = "; a recording is the folder NAME.spanprof that spanprof-record leaves"
+        text = self.write("a.tasks", "# a comment\n\nomptasks 1\nwork 1\n")
+        self.assertEqual(self.refused(text), "spanprof-convert: %s: a text already, and no recording: spanprof-report "
+                         "makes its page, spanprof-whatif changes it" % text)
+        self.write("a.tasks", "x")
+        for path, what in ((text, text + ": no folder"), ("none.spanprof", "none.spanprof: no such folder"),
+                           ("", "'': no such folder"), (self.folder, self.folder + ": a folder without a log in it")):
+            self.assertEqual(self.refused(path), "spanprof-convert: " + what + wanted)
+
+    def test_arguments_that_exclude_each_other(self):
+        self.assertIn("--out x/: the name of a recording, and no folder", self.refused("--out", "x/", self.recording))
+        self.assertIn("--online writes no text, which --region is for",
+                      self.refused("--online", "--region", "a.c:1", self.recording))
+
+    def test_a_folder_that_is_not_there(self):
+        self.assertIn("there is no folder /none", self.refused("--out", "/none/x", self.recording))
 
 
 if __name__ == "__main__":

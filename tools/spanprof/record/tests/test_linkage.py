@@ -4,8 +4,8 @@ import unittest
 from unittest import mock
 
 from spanprof.errors import Fault
-from spanprof.record.linkage import GCC, LLVM, Linkage, is_static, linkage, shared_runtimes, symbols
-from spanprof.record.runtime import by_version, to_preload, what_it_lacks
+from spanprof.record.linkage import GCC, LLVM, Linkage, is_checked, is_static, linkage, shared_runtimes, symbols
+from spanprof.record.runtime import Chosen, by_version, choose, what_it_lacks
 from spanprof.record.tests.made_up import LDD_GCC, LDD_LLVM, LDD_MISSING, LDD_PLAIN, LDD_STATIC, SYMBOLS
 
 
@@ -46,6 +46,7 @@ class Programs(unittest.TestCase):
         found = self.linkage_of(b"\x7fELF", {"ldd": LDD_GCC, "readelf": SYMBOLS.replace("GOMP_parallel", "mine")})
         self.assertEqual((list(found.libraries), found.inside), ([GCC], set()))
         self.assertEqual(found.called, {"GOMP_taskwait", "GOMP_scope_start"})
+        self.assertFalse(found.loads)
 
     def test_a_runtime_inside(self):
         self.assertEqual(self.linkage_of(b"\x7fELF", {"ldd": LDD_PLAIN, "readelf": SYMBOLS}).inside, {GCC})
@@ -55,33 +56,49 @@ class Programs(unittest.TestCase):
             linkage("/no/such/program")
 
 
-class Preloading(unittest.TestCase):
-    def preloaded(self, linked):
+class Choosing(unittest.TestCase):
+    def chosen(self, linked, wanted=None):
         with mock.patch("spanprof.record.runtime.llvm_runtime", return_value="/llvm/libomp.so.5"):
-            return to_preload("mine", linked)
+            return choose("mine", linked, wanted)
 
-    def test_gcc_runs_on_llvm(self):
-        self.assertEqual(self.preloaded(Linkage(libraries={GCC: "/lib/libgomp.so.1"})), "/llvm/libomp.so.5")
+    def test_gcc_runs_on_its_own(self):
+        gcc = Linkage(libraries={GCC: "/lib/libgomp.so.1"})
+        self.assertEqual(self.chosen(gcc), Chosen(in_front=True))
+        self.assertEqual(self.chosen(gcc, "gnu"), Chosen(in_front=True))
+        self.assertEqual(self.chosen(gcc, "llvm"), Chosen("/llvm/libomp.so.5"))
 
     def test_a_runtime_that_the_loader_does_not_find(self):
-        self.assertEqual(self.preloaded(Linkage(libraries={LLVM: ""})), "/llvm/libomp.so.5")
+        self.assertEqual(self.chosen(Linkage(libraries={LLVM: ""})), Chosen("/llvm/libomp.so.5"))
 
-    def test_llvm_stays_and_scripts_stay(self):
-        self.assertEqual(self.preloaded(Linkage(libraries={LLVM: "/llvm-14/libomp.so.5"})), "")
-        self.assertEqual(self.preloaded(Linkage(inside={LLVM})), "")
-        self.assertEqual(self.preloaded(Linkage(is_script=True)), "")
+    def test_llvm_stays(self):
+        self.assertEqual(self.chosen(Linkage(libraries={LLVM: "/llvm-14/libomp.so.5"})), Chosen(in_front=True))
+        self.assertEqual(self.chosen(Linkage(inside={LLVM})), Chosen(in_front=True))
+
+    def test_a_sanitizer_has_to_be_loaded_first(self):
+        linked = Linkage(libraries={LLVM: "/llvm-14/libomp.so.5"}, is_checked=True)
+        self.assertEqual(self.chosen(linked), Chosen())
+        self.assertTrue(is_checked("\tlibasan.so.8 => /lib/x86_64-linux-gnu/libasan.so.8 (0x1)"))
+        self.assertFalse(is_checked("\tlibomp.so.5 => /lib/libomp.so.5 (0x1)"))
+
+    def test_what_loads_a_runtime_later(self):
+        self.assertEqual(self.chosen(Linkage(is_script=True)), Chosen(in_front=True))
+        self.assertEqual(self.chosen(Linkage(loads=True)), Chosen(in_front=True))
 
     def test_what_cannot_be_recorded(self):
         for linked, words in ((Linkage(), "no OpenMP in it"), (Linkage(is_static=True, inside={GCC}), "statically"),
                               (Linkage(inside={GCC}), "has gcc's runtime .* inside")):
             with self.assertRaisesRegex(Fault, words):
-                self.preloaded(linked)
+                self.chosen(linked)
 
     def test_a_runtime_that_is_asked_for(self):
-        self.assertEqual(to_preload("mine", Linkage(), "/proc/self/exe"), "/proc/self/exe")
+        self.assertEqual(choose("mine", Linkage(), "/proc/self/exe"), Chosen("/proc/self/exe"))
         for path, why in (("/no/such/library", "no such file"), (__file__, "no shared library")):
             with self.assertRaisesRegex(Fault, "^--runtime %s: %s$" % (path, why)):
-                to_preload("mine", Linkage(), path)
+                choose("mine", Linkage(), path)
+
+    def test_another_one_of_gcc(self):
+        with mock.patch("spanprof.record.runtime.check_library"):
+            self.assertEqual(choose("mine", Linkage(), "/gcc-14/libgomp.so.1"), Chosen("/gcc-14/libgomp.so.1", True))
 
     def test_the_newest_version_comes_first(self):
         paths = ["/usr/local/lib/libomp.so"] + ["/usr/lib/llvm-%d/lib/libomp.so.5" % n for n in (9, 19, 16)]

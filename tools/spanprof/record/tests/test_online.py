@@ -4,7 +4,7 @@ import os
 import tempfile
 import unittest
 
-from spanprof.record.online import bound, least, online_files, online_summary, thread_lines
+from spanprof.record.online import bound, least, online_summary, thread_lines
 
 TOLD = {"clock": "wall", "ended": True, "threads": 4, "tasks": 1200, "regions": 3, "elapsed": 900, "work": 1000,
         "span": 300, "places": [{"place": "a.c:3", "function": "sort", "tasks": 1200, "work": 800, "span": 200},
@@ -29,14 +29,13 @@ class Summary(unittest.TestCase):
             "span          300 ns: a longest way through what was measured (measured)",
             "parallelism   3.34: work / span (measured)",
             "elapsed       900 ns (measured)",
-            "threads       2: 2.00, 4: 3.34, 8: 3.34, 16: 3.34 times as fast as its work in a row at most "
-            "(of the measured sums)",
-            "              2: 1.53, 4: 2.10, 8: 2.58, 16: 2.91 and more as long as no thread idles beside code that "
-            "could run (of the measured sums)",
+            "threads       speedup at most 2: 2.00, 4: 3.34, 8: 3.34, 16: 3.34 (of the measured sums)",
+            "              speedup at least 2: 1.53, 4: 2.10, 8: 2.58, 16: 2.91 for a greedy schedule (of the measured "
+            "sums)",
             "span by place 66.7 % of the span, 80.0 % of the work, 1,200 tasks: a.c:3 in sort (measured)",
             "              33.3 % of the span, 20.0 % of the work, 0 tasks: serial code (measured)",
             "regions       a.c:9: 3 times, work 800 ns, span 200 ns (measured)",
-            "remarks       measured while the program ran, and no text is kept",
+            "warnings      measured while the program ran, and no text is kept",
             "              one, 2 times, first at a.c:3: span too low",
             "              two"])
 
@@ -52,21 +51,12 @@ class Summary(unittest.TestCase):
             self.assertFalse([line for line in online_summary(file.name) if line.startswith("regions")])
 
     def test_one_thread_says_nothing_of_more(self):
-        self.assertEqual(thread_lines(dict(TOLD, threads=1)), ["it is of one thread, and says nothing of more"])
+        self.assertEqual(thread_lines(dict(TOLD, threads=1)),
+                         ["it was recorded on one thread, and says nothing about more"])
 
     def test_bounds(self):
         self.assertEqual([least(TOLD, p) for p in (1, 3, 4)], [1000, 334, 300])
         self.assertEqual([bound(TOLD, p) for p in (1, 3, 4)], [1000, 533, 475])
-
-
-class Files(unittest.TestCase):
-    def test_of_ranks_and_children(self):
-        with tempfile.TemporaryDirectory() as folder:
-            names = ["a.online.json", "a.rank1.online.json", "a.77.online.json", "ab.online.json", "a.scale.json"]
-            for name in names:
-                open(os.path.join(folder, name), "w").close()
-            found = [os.path.basename(path) for path in online_files(os.path.join(folder, "a"))]
-        self.assertEqual(found, ["a.online.json", "a.77.online.json", "a.rank1.online.json"])
 
 
 if __name__ == "__main__":

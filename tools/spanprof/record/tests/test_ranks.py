@@ -1,11 +1,8 @@
-import os
-import tempfile
 import unittest
 from unittest import mock
 
 from spanprof.errors import Fault
 from spanprof.record import ranks
-from spanprof.record.files import Recording
 from spanprof.record.linkage import LLVM, Linkage
 from spanprof.record.target import launched
 
@@ -20,20 +17,14 @@ class Ranks(unittest.TestCase):
 
     def test_names(self):
         self.assertEqual([ranks.of_rank("/tmp/m", rank) for rank in (None, 7)], ["/tmp/m", "/tmp/m.rank7"])
-        self.assertTrue(ranks.are_ranks([Recording("/tmp/m.tasks"), Recording("/tmp/m.rank0.2.tasks")]))
-        self.assertFalse(ranks.are_ranks([Recording("/tmp/m.rank0.d/m.tasks")]))
+        self.assertEqual([ranks.is_child("/tmp/m%s.spanprof" % end) for end in ("", ".rank0", ".child2",
+                                                                                ".rank0.child1", ".child")],
+                         [False, False, True, True, False])
 
     def test_launchers(self):
         for name in ("mpirun", "/usr/bin/mpirun.openmpi", "mpiexec.hydra", "srun"):
             self.assertTrue(ranks.is_launcher(name))
         self.assertFalse(ranks.is_launcher("./mpirunner"))
-
-    def test_what_the_ranks_of_a_run_wrote(self):
-        with tempfile.TemporaryDirectory() as folder:
-            out = os.path.join(folder, "m")
-            for end in (".rank10.tasks", ".rank2.2.tasks", ".rank2.large.tasks", ".tasks", ".rankx.tasks"):
-                open(out + end, "w", encoding="utf-8").close()
-            self.assertEqual(ranks.names_of_ranks(out), [out + ".rank2", out + ".rank10"])
 
 
 class Launched(unittest.TestCase):

@@ -1,6 +1,4 @@
 import argparse
-import contextlib
-import io
 import os
 import signal
 import sys
@@ -10,12 +8,12 @@ from unittest import mock
 
 from spanprof.errors import NO_PROGRAM, NOT_EXECUTABLE, Fault
 from spanprof.record.options import parse
-from spanprof.record.run import PassedOn, end_as, environment, run, signal_name, without_recorder
+from spanprof.record.run import PassedOn, end_as, environment, run, signal_name, watched, without_recorder
 from spanprof.record.target import find
 
 
 def options(**given):
-    known = dict(unit=None, clock=None, threads=None, fold=(), whole=False, online=False, call_paths=False)
+    known = dict(unit=None, clock=None, threads=None, online=False, call_paths=False)
     return argparse.Namespace(**dict(known, **given))
 
 
@@ -25,19 +23,10 @@ class Environment(unittest.TestCase):
         self.assertEqual(new, {"OMP_NUM_THREADS": "3", "SPANPROF_UNIT": "ms", "OMP_TOOL": "enabled",
                                "OMP_TOOL_LIBRARIES": "/r.so", "SPANPROF_OUT": "/out", "SPANPROF_QUIET": "1"})
 
-    def test_the_whole_program_alone_or_not_at_all(self):
-        self.assertTrue(parse(["--no-whole", "--", "./mine"]).no_whole)
-        with self.assertRaises(SystemExit), contextlib.redirect_stderr(io.StringIO()) as told:
-            parse(["--whole", "--no-whole", "--", "./mine"])
-        self.assertIn("--whole and --no-whole exclude each other", told.getvalue())
-
     def test_what_is_asked_for(self):
-        asked = options(unit="us", clock="cpu", threads=8, fold=[("depth", 2), ("chunk", 5)])
-        new = environment({}, asked, "/r.so", "", "o")
-        self.assertEqual([new[name] for name in ("SPANPROF_UNIT", "SPANPROF_CLOCK", "OMP_NUM_THREADS",
-                                                 "SPANPROF_FOLD_DEPTH", "SPANPROF_FOLD_CHUNK")],
-                         ["us", "cpu", "8", "2", "5"])
-        self.assertEqual(environment({}, options(whole=True), "/r.so", "", "o")["SPANPROF_WHOLE"], "1")
+        new = environment({}, options(unit="us", clock="cpu", threads=8), "/r.so", "", "o")
+        self.assertEqual([new[name] for name in ("SPANPROF_UNIT", "SPANPROF_CLOCK", "OMP_NUM_THREADS")],
+                         ["us", "cpu", "8"])
         self.assertEqual(environment({}, options(call_paths=True), "/r.so", "", "o")["SPANPROF_CALL_PATHS"], "1")
 
     def test_other_tools_and_libraries_come_after(self):
@@ -61,6 +50,13 @@ class Ends(unittest.TestCase):
     def test_the_status_of_the_program(self):
         self.assertEqual(self.python("raise SystemExit(3)"), 3)
         self.assertEqual(self.python("import os; os.abort()"), -signal.SIGABRT)
+
+    def test_what_the_system_counted(self):
+        code = "import time; time.sleep(0.05)\nfor _ in range(20000): pass"
+        ended = watched(sys.executable, [sys.executable, "-c", code], dict(os.environ))
+        self.assertGreater(ended.elapsed, 50000000)
+        self.assertGreater(ended.usage.ru_utime + ended.usage.ru_stime, 0)
+        self.assertGreater(ended.usage.ru_minflt, 100)
 
     def test_a_file_that_is_no_program(self):
         with tempfile.NamedTemporaryFile(suffix=".txt") as file:
@@ -95,20 +91,25 @@ class Ends(unittest.TestCase):
 
 class Signals(unittest.TestCase):
     def test_a_signal_goes_to_the_program(self):
-        program = mock.Mock()
         before = signal.getsignal(signal.SIGTERM)
-        with PassedOn() as passed_on:
-            passed_on.to(program)
-            os.kill(os.getpid(), signal.SIGTERM)
-        program.send_signal.assert_called_once_with(signal.SIGTERM)
+        with mock.patch("os.kill") as kill, PassedOn() as passed_on:
+            passed_on.to(7)
+            signal.raise_signal(signal.SIGTERM)
+        kill.assert_called_once_with(7, signal.SIGTERM)
         self.assertEqual(signal.getsignal(signal.SIGTERM), before)
 
     def test_one_that_comes_before_the_program_does(self):
-        program = mock.Mock()
-        with PassedOn() as passed_on:
-            os.kill(os.getpid(), signal.SIGTERM)
-            passed_on.to(program)
-        program.send_signal.assert_called_once_with(signal.SIGTERM)
+        with mock.patch("os.kill") as kill, PassedOn() as passed_on:
+            signal.raise_signal(signal.SIGTERM)
+            passed_on.to(7)
+        kill.assert_called_once_with(7, signal.SIGTERM)
+
+    def test_one_that_comes_after_the_program_ended(self):
+        with mock.patch("os.kill") as kill, PassedOn() as passed_on:
+            passed_on.to(7)
+            passed_on.to(None)
+            signal.raise_signal(signal.SIGTERM)
+        kill.assert_not_called()
 
     def test_one_that_is_ignored_stays_ignored(self):
         before = signal.signal(signal.SIGHUP, signal.SIG_IGN)
@@ -149,14 +150,8 @@ class Words(unittest.TestCase):
         self.assertEqual(parse(["--open", "--", "./mine"]).html, "mine.html")
         self.assertEqual(parse(["--open", "--html", "p.html", "--", "./mine"]).html, "p.html")
 
-    def test_folds(self):
-        chosen = parse(["--fold", "exact", "--fold", "depth=3", "--", "x"])
-        self.assertEqual(chosen.fold, [("exact", 1), ("depth", 3)])
-        new = environment({}, chosen, "/r.so", "", "o")
-        self.assertEqual((new["SPANPROF_FOLD_EXACT"], new["SPANPROF_FOLD_DEPTH"]), ("1", "3"))
-
     def test_wrong_words(self):
-        wrong = ("--unit s", "--unit 0", "--threads 0", "--runs -1", "--fold depth", "--fold exact=2",
+        wrong = ("--unit s", "--unit 0", "--threads 0", "--runs -1", "--fold exact", "--whole",
                  "--clock sun", "--out a/", "--thre 2")
         for words in [[], ["--"]] + [options.split() + ["--", "x"] for options in wrong]:
             with mock.patch("sys.stderr"), self.assertRaises(SystemExit) as end:

@@ -11,11 +11,12 @@ from unittest import mock
 from spanprof.account import Account, HeldUp, Row
 from spanprof.record import command, scale
 from spanprof.record.options import parse
+from spanprof.record.run import Ended
 from spanprof.record.scale_gap import NoGap, gap_of
 from spanprof.record.scale_places import Place, by_place, place_lines
 from spanprof.record.scale_words import gap_lines, scale_json, table_lines
+from spanprof.record.session import Recorded
 from spanprof.record.tests.made_up import Head as MadeUp
-from spanprof.record.told import Told
 
 
 class Head(MadeUp):
@@ -54,7 +55,7 @@ class Options(unittest.TestCase):
         for wrong in ("", "1,", "1,x", "0,1", "1,1025", "1 2"):
             self.assertIn("%s is no list of numbers of threads, such as 1,2,4" % wrong, self.refused("--scale", wrong))
         for wrong in ("2,4", "1", "1,1"):
-            self.assertIn("%s has to have 1, against which a speed-up is told" % wrong, self.refused("--scale", wrong))
+            self.assertIn("%s has to have 1, the base of the speedup" % wrong, self.refused("--scale", wrong))
         self.assertIn("without --threads", self.refused("--scale", "1,2", "--threads", "2"))
 
 
@@ -81,59 +82,69 @@ class Unrecorded(unittest.TestCase):
             self.assertEqual(failed.exception.status, status)
 
     def test_the_clock(self):
-        with mock.patch("spanprof.record.scale.run", return_value=7), \
-                mock.patch("time.perf_counter_ns", side_effect=[100, 350]):
+        with mock.patch("spanprof.record.scale.watched", return_value=Ended(7, 250, None, None)):
             made = argparse.Namespace(path="./mine", options=argparse.Namespace(command=["./mine"]))
             self.assertEqual(scale.timed_run(made, {}), (250, 7))
 
 
-class Recorded(unittest.TestCase):
+class RecordedRuns(unittest.TestCase):
     """Sessions whose runs are made up: each ends with the next status, and writes nothing."""
 
     def setUp(self):
         kept = tempfile.TemporaryDirectory()
         self.addCleanup(kept.cleanup)
-        self.out = os.path.join(kept.name, "mine")
+        self.folder = kept.name
 
     def record(self, *statuses, runs=1):
         left, told, threads = iter(statuses), io.StringIO(), []
         options = argparse.Namespace(scale=[1, 2, 4], runs=runs, threads=None)
-        made = mock.Mock(out=self.out, preload="/lib/libomp.so.5", options=options)
+        work = argparse.Namespace(scale=os.path.join(self.folder, "scale"))
+        made = mock.Mock(work=work, preload="/lib/libomp.so.5", options=options)
 
-        def run(*_, may_be_whole=True):
+        def run(*_):
             threads.append(options.threads)
-            return next(left), Told(True, [])
-        made.run.side_effect = run
-        made.record_once.side_effect = lambda: (run()[0], [], Told(True, []))
+            return argparse.Namespace(status=next(left))
+
+        def once(finish):
+            status, folder = run().status, os.path.join(self.folder, "mine.spanprof")
+            os.mkdir(folder)
+            if not status:
+                finish(folder)
+            return Recorded(status, [folder])
+        made.run.side_effect, made.record_once.side_effect = run, once
         with mock.patch("spanprof.record.scale.unrecorded", return_value={1: [9], 2: [5], 4: [3]}), \
                 contextlib.redirect_stderr(told):
-            return scale.record_scale(made), told.getvalue(), threads
+            return *scale.record_scale(made), told.getvalue(), threads
 
     def test_each_number_once(self):
-        (status, found, _, scaled), told, threads = self.record(0, 0, 0)
-        self.assertEqual((status, found, told, threads), (0, [], "", [1, 2, 4]))
+        recorded, scaled, told, threads = self.record(0, 0, 0)
+        self.assertEqual((recorded.status, told, threads), (0, "", [1, 2, 4]))
         self.assertEqual((scaled.speed_up(4), scaled.regions, scaled.library), (3, {}, "libomp.so.5"))
+        self.assertEqual(sorted(os.listdir(recorded.found[0])), ["scale", "scale.json"])
 
     def test_in_turns(self):
-        (status, *_), told, threads = self.record(*[0] * 6, runs=2)
-        self.assertEqual((status, told, threads), (0, "", [1, 2, 4] * 2))
-        self.assertEqual([os.path.basename(scale.name_of("mine.scale", 4, turn)) for turn in (1, 2)],
+        recorded, _, told, threads = self.record(*[0] * 6, runs=2)
+        self.assertEqual((recorded.status, told, threads), (0, "", [1, 2, 4] * 2))
+        self.assertEqual([os.path.basename(scale.name_of("scale", 4, turn)) for turn in (1, 2)],
                          ["threads4", "threads4-2"])
 
     def test_a_run_that_fails(self):
         for statuses, on in (((0, 3), 2), ((0, 0, 3), 4)):
-            (status, _, _, scaled), told, _ = self.record(*statuses)
-            self.assertEqual((status, scaled), (3, None))
-            self.assertEqual(told, "spanprof-record: recorded run 1 of 1 on %d threads ended with status 3: "
-                                   "no speed-up is told\n" % on)
+            with self.subTest(on=on), tempfile.TemporaryDirectory() as self.folder:
+                recorded, scaled, told, _ = self.record(*statuses)
+                self.assertEqual((recorded.status, scaled), (3, None))
+                self.assertEqual(told, "spanprof-record: recorded run 1 of 1 on %d threads ended with status 3: "
+                                       "no speedup\n" % on)
 
-    def test_texts_of_before_go(self):
-        folder = scale.make_folder(self.out)
-        for name in ("threads8.tasks", "threads8-2.tasks", "threads8.2.timed", "mine.c"):
-            with open(os.path.join(folder, name), "w", encoding="utf-8"):
-                pass
-        scale.make_folder(self.out)
-        self.assertEqual(os.listdir(folder), ["mine.c"])
+    def test_what_is_kept_of_a_run(self):
+        def write(_, out):
+            for ending in (".tasks", ".2.tasks", ".timed", ".replay", ".2.times", ".regions"):
+                with open(out + ending, "w", encoding="utf-8"):
+                    pass
+        made = mock.Mock()
+        made.write_regions.side_effect = write
+        scale.write_regions(made, "a.spanprof", os.path.join(self.folder, "threads4"))
+        self.assertEqual(sorted(os.listdir(self.folder)), ["threads4.2.tasks", "threads4.tasks", "threads4.timed"])
 
 
 class Regions(unittest.TestCase):
@@ -176,12 +187,12 @@ class Gaps(unittest.TestCase):
         self.assertEqual(self.why_not(regions={4: four}),
                          "the recording on 1 thread has no such region within the limits of spanprof")
         self.assertEqual(self.why_not(regions={1: region(1, why="spanprof_large is not found"), 4: four}),
-                         "the recording on 1 thread has no account: spanprof_large is not found")
+                         "the recording on 1 thread has no time breakdown: spanprof_large is not found")
         whole = region(1, work=5)
         whole.head.whole = "2 regions"
         self.assertTrue(self.why_not(regions={1: whole, 4: four}).endswith("are not timed one by one"))
         self.assertIn("ran on 4 threads, and not on 1 thread:", self.why_not(regions={1: four, 4: four}))
-        self.assertEqual(gap_lines(made_up(regions={})), ["not told: the recording on 4 threads has no such region "
+        self.assertEqual(gap_lines(made_up(regions={})), ["unavailable: the recording on 4 threads has no such region "
                                                           "within the limits of spanprof"])
 
     def test_what_it_does_not_tell(self):
@@ -191,7 +202,7 @@ class Gaps(unittest.TestCase):
         self.assertEqual(gap_of(found).remarks, [
             "the code differs: 7 tasks are recorded on one thread, and 9 on 4; that is among inflation",
             "code without times, which is idle here: up to 0 ns on one thread, 3 ns on 4",
-            "beside this region the recorded program took 25.0 us on 4 threads, which is no part of the sum"])
+            "outside of this region the recorded program took 25.0 us on 4 threads, which is no part of the sum"])
 
 
 class Places(unittest.TestCase):
@@ -212,19 +223,19 @@ class Places(unittest.TestCase):
 
     def test_lines(self):
         self.assertEqual(place_lines(self.made_up()), [
-            "25.0 % lost at b: -1.2 % inflation, 1.2 % held up or the recorder's, 12.5 % idle beside it, "
+            "25.0 % lost at b: -1.2 % inflation, 1.2 % blocked or the recorder's, 12.5 % delayed while it was ready, "
             "12.5 % idle while it ran (measured)",
-            "12.5 % lost at a: 2.5 % inflation, 3.8 % held up or the recorder's, 6.2 % idle while it ran (measured)"])
+            "12.5 % lost at a: 2.5 % inflation, 3.8 % blocked or the recorder's, 6.2 % idle while it ran (measured)"])
 
 
 class Words(unittest.TestCase):
     def test_the_table(self):
         self.assertEqual(table_lines(made_up()), [
-            "threads  median   least  greatest  speed-up  region, recorded",
-            "      1  120 ns  118 ns    130 ns      1.00           40.0 us",
-            "      4   50 ns   40 ns     60 ns      2.40           40.0 us",
+            "threads  median   least  greatest  speedup  region, recorded",
+            "      1  120 ns  118 ns    130 ns     1.00           40.0 us",
+            "      4   50 ns   40 ns     60 ns     2.40           40.0 us",
             "3 unrecorded runs on each number, in turns: elapsed time of the whole program (measured)",
-            "speed-up: the median time on one thread over that on so many, the true one (measured)"])
+            "speedup: the median time on one thread over that on so many, the true one (measured)"])
 
     def test_what_else_is_said(self):
         found = made_up(processors=2, library="libomp.so.5", runs=1)
@@ -240,7 +251,7 @@ class Words(unittest.TestCase):
     def test_the_gap(self):
         told = gap_lines(made_up())
         self.assertEqual(told[0], "4 x 50 ns of the recorded run, region at sort.c:48, are the sum of (measured)")
-        self.assertEqual(told[4], " 9.0 %   18 ns  held up: in code, off the processor, asleep or waiting for locks")
+        self.assertEqual(told[4], " 9.0 %   18 ns  held up: in code, preempted, asleep or waiting for locks")
 
     def test_the_gap_of_a_whole_program(self):
         found = made_up()
@@ -250,43 +261,36 @@ class Words(unittest.TestCase):
     def test_the_processors_clock(self):
         found = made_up()
         found.regions[4].account.by_processor = True
-        self.assertIn("off the processor or in the recorder", gap_lines(found)[4])
+        self.assertIn("preempted or in the recorder", gap_lines(found)[4])
 
     def test_json(self):
         told = json.loads(json.dumps(scale_json(made_up())))
         self.assertEqual((told["text"], told["work"], told["gap"]["parts"]["inflation"]), ("mine.tasks", 100, 20))
         four = told["threads"][1]
-        self.assertEqual((four["median"], four["speed-up"], four["speed-up from"], four["speed-up to"]),
+        self.assertEqual((four["median"], four["speedup"], four["speedup from"], four["speedup to"]),
                          (50, 2.4, 2, 3))
         self.assertEqual([row["recordings"] for row in told["threads"]], [[], []])
-        found = made_up(texts={1: ["/tmp/mine.scale/threads1.tasks"],
-                               4: ["/tmp/mine.tasks", "/tmp/mine.scale/threads4.tasks"]})
-        found.regions[4].path = "/tmp/mine.tasks"
+        found = made_up(texts={1: ["/tmp/m.spanprof/scale/threads1.tasks"],
+                               4: ["/tmp/m.spanprof/scale/threads4.tasks"]})
+        found.regions[4].path = "/tmp/m.spanprof/scale/threads4.tasks"
         self.assertEqual([row["recordings"] for row in scale_json(found)["threads"]],
-                         [["mine.scale/threads1.tasks"], ["mine.tasks", "mine.scale/threads4.tasks"]])
+                         [["scale/threads1.tasks"], ["scale/threads4.tasks"]])
         without = scale_json(made_up(regions={}))
         self.assertEqual((without["text"], "gap" in without), (None, False))
         self.assertIn("no such region", without["no gap"])
 
 
 class Command(unittest.TestCase):
-    def test_beside_the_text(self):
-        found, made = made_up(), mock.Mock(out="/tmp/mine")
-        found.regions[4].name = "mine.2.tasks"
-        self.assertEqual(command.scale_file(made, found), "/tmp/mine.2.scale.json")
-
     def test_nothing_is_recorded(self):
-        """The times are told all the same, beside the files and where JSON is asked for."""
+        """The times are told all the same, and where JSON is asked for."""
         with tempfile.TemporaryDirectory() as folder:
-            made = mock.Mock(out=os.path.join(folder, "mine"), options=argparse.Namespace(
-                json=os.path.join(folder, "told.json")))
+            path = os.path.join(folder, "told.json")
+            made = mock.Mock(options=argparse.Namespace(json=path))
             with contextlib.redirect_stderr(io.StringIO()) as told:
-                command.report_all(made, [], None, made_up(regions={}))
+                command.report_all(made, Recorded(0), made_up(regions={}))
             self.assertTrue(told.getvalue().startswith("true times    threads  median"))
-            for name, inside in (("mine.scale.json", None), ("told.json", "scale")):
-                with open(os.path.join(folder, name), encoding="utf-8") as file:
-                    read = json.load(file)
-                self.assertEqual((read[inside] if inside else read)["runs"], 3)
+            with open(path, encoding="utf-8") as file:
+                self.assertEqual(json.load(file)["scale"]["runs"], 3)
 
 
 if __name__ == "__main__":

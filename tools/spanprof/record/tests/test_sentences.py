@@ -3,7 +3,6 @@ import itertools
 import unittest
 
 from spanprof.claims import is_divided
-from spanprof.record.large import LargeAnswers, large_summary
 from spanprof.record.summary import summary
 from spanprof.head import Lock
 from spanprof.record.tests.made_up import Answers, Head
@@ -30,8 +29,7 @@ def heads():
 
 
 def summaries(head):
-    yield summary(Answers(head=head), "its run was legal (proved of the recorded text and events)")
-    yield large_summary(LargeAnswers("sort.large.tasks", head, tasks=9, segments=20, work=100, span=70))
+    yield summary(Answers(head=head))
 
 
 def line_of(lines, name):

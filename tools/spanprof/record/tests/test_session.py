@@ -2,28 +2,40 @@ import argparse
 import contextlib
 import io
 import os
-import tempfile
+import resource
 import unittest
 from unittest import mock
 
 from spanprof.errors import Fault
 from spanprof.record import command, session
-from spanprof.record.files import Recording
+from spanprof.record.runs import record_often
+from spanprof.record.run import Ended
+from spanprof.record.runtime import Chosen
+from spanprof.record.session import Recorded
 from spanprof.record.told import Told
+from spanprof.recording import Recording, open_recording
+from spanprof.tests.in_folder import InFolder
+from spanprof.tests.recordings import TEXT, write
+
+USED = resource.struct_rusage((1.5, 0.25, 0, 0, 0, 0, 410, 3, 0, 0, 0, 0, 0, 0, 12, 7))
 
 
 class Reasons(unittest.TestCase):
-    def why(self, status=0, loaded=True, things=(), is_script=False):
-        return session.why_nothing(status, Told(loaded, list(things)), "/tmp/mine", is_script)
+    def why(self, status=0, loaded=True, things=()):
+        return session.why_nothing(status, Told(loaded, list(things)), "/tmp/mine")
 
     def test_each(self):
         nothing = {"told": "no tasks", "inside": False}
         self.assertEqual(self.why(status=-11, things=[nothing]),
                          "the program ended by SIGSEGV; no parallel region with tasks")
         self.assertEqual(self.why(things=[nothing]), "no parallel region with tasks")
-        self.assertIn("did not load the recorder", self.why(loaded=False))
-        self.assertIn("--runtime FILE", self.why(loaded=False, is_script=True))
+        self.assertIn("no OpenMP runtime loaded the recorder", self.why(loaded=False))
         self.assertIn("says nothing", self.why())
+
+    def test_the_recorder_comes_before_the_runtime(self):
+        self.assertEqual(session.loaded_first(Chosen("/libgomp.so", True), "/r.so"), "/r.so:/libgomp.so")
+        self.assertEqual(session.loaded_first(Chosen("/llvm.so"), "/r.so"), "/llvm.so")
+        self.assertEqual(session.loaded_first(Chosen(), "/r.so"), "")
 
     def test_what_llvm_lacks_is_noted(self):
         with mock.patch("spanprof.record.session.what_it_lacks", return_value=["GOMP_scope_start"]):
@@ -39,87 +51,108 @@ class Reasons(unittest.TestCase):
             self.assertIn("GOMP_target_ext", session.notes_on("/llvm.so", {"GOMP_target_ext"}, True)[0])
 
 
-class Runs(unittest.TestCase):
-    """Sessions whose program is made up: each of its runs ends with the next status, and writes a text at 0."""
+class Runs(InFolder):
+    """Sessions whose program is made up: each of its runs ends with the next status, and leaves a log at 0, of which
+    the converter makes a text."""
 
-    def setUp(self):
-        self.kept = tempfile.TemporaryDirectory()
-        self.out = os.path.join(self.kept.name, "mine")
-
-    def tearDown(self):
-        self.kept.cleanup()
-
-    def session(self, runs, statuses):
+    def session(self, statuses, runs=1, times=(30, 10, 20)):
         made = session.Session.__new__(session.Session)
-        made.options, made.out = argparse.Namespace(runs=runs, no_whole=True), self.out
-        made.notes, made.is_script = [], False
-        made.rank = None
-        left, self.parts = iter(statuses), []
+        made.options = argparse.Namespace(runs=runs, online=False, force=False, json=None, full=False, command=["./m"])
+        made.out, made.notes, made.rank = os.path.join(self.folder, "mine"), [], None
+        made.converter = "/convert"
+        left, times = iter(statuses), iter(times)
 
-        def run(out, others=None):
+        def run(out):
             status = next(left)
-            self.parts.append((others or {}).get("SPANPROF_PARTS"))
             if status == 0:
-                with open(out + ".tasks", "w", encoding="utf-8") as file:
-                    file.write("omptasks 1\n")
-            return status, Told(True, [{"told": "no tasks", "inside": False}])
-
-        made.run = run
+                write(os.path.join(out + ".spanprof", "log", "head"), "")
+            return Ended(status, next(times), USED, None)
+        made.run, made.variables = run, lambda out: {"OMP_NUM_THREADS": "3"}
         return made
 
-    def record(self, *words):
+    def convert(self, program, log, folder, variables):
+        write(os.path.join(folder, "program.tasks"), TEXT)
+        return [{"told": "text", "file": os.path.join(folder, "program.tasks")}]
+
+    def record(self, made, convert=None):
         told = io.StringIO()
-        with contextlib.redirect_stderr(told):
-            answer = self.session(*words).record()
-        return answer, told.getvalue()
+        with contextlib.redirect_stderr(told), made.begun(), \
+                mock.patch("spanprof.record.session.convert_into", side_effect=convert or self.convert), \
+                mock.patch("spanprof.record.runs.work_and_span", side_effect=[(9, 4), (7, 5), (8, 3)]):
+            recorded = record_often(made) if made.options.runs > 1 else made.record_once()
+        return recorded, told.getvalue()
+
+    def names(self):
+        return sorted(os.listdir(self.folder))
 
     def test_once(self):
-        (status, found, _), told = self.record(1, [0])
-        self.assertEqual((status, [one.text for one in found], told), (0, [self.out + ".tasks"], ""))
+        recorded, told = self.record(self.session([0]))
+        folder = os.path.join(self.folder, "mine.spanprof")
+        self.assertEqual((recorded.status, recorded.found, told), (0, [folder], ""))
+        self.assertEqual(recorded.said.things[0]["file"], os.path.join(folder, "program.tasks"))
+        meta = open_recording(folder).meta
+        self.assertEqual((meta["unit"], meta["threads"], meta["elapsed_ns"]), ("us", {"asked": 3}, 30))
+        self.assertEqual((meta["usage"]["major_faults"], self.names()), (3, ["mine.spanprof"]))
 
-    def test_one_beyond_the_limits(self):
-        with open(self.out + ".large.tasks", "w", encoding="utf-8") as file:
-            file.write("omptasks 1\n")
-        (status, found, _), told = self.record(1, [4])
-        self.assertEqual((status, [one.is_large for one in found], told), (4, [True], ""))
+    def test_a_name_that_is_taken(self):
+        self.record(self.session([0]))
+        recorded, told = self.record(self.session([0]))
+        self.assertEqual([os.path.basename(one) for one in recorded.found], ["mine-2.spanprof"])
+        self.assertIn("mine.spanprof is there already: this recording is mine-2.spanprof (--force replaces", told)
 
     def test_nothing(self):
-        (status, found, _), told = self.record(1, [4])
-        self.assertEqual((status, found), (4, []))
-        self.assertEqual(told, "spanprof-record: nothing is recorded: no parallel region with tasks; "
-                         "without --no-whole loops and serial code are recorded\n")
+        recorded, told = self.record(self.session([4]))
+        self.assertEqual((recorded.status, recorded.found, self.names()), (4, [], []))
+        self.assertIn("nothing is recorded: no OpenMP runtime loaded the recorder", told)
 
-    def test_often(self):
-        def combine(out, names):
-            self.assertEqual(len(names), 3)
-            return ["the runs have no median"]
-        with mock.patch("spanprof.record.session.combine_all", side_effect=combine):
-            made = self.session(3, [0, 0, 0])
-            self.assertEqual(made.record()[0], 0)
-        self.assertEqual(made.notes, ["the runs have no median"])
-        self.assertEqual(self.parts, ["all-or-none", "none", "none"])
+    def test_a_converter_that_dies(self):
+        """The log stays, and no tool reads a text."""
+        fault = {"told": "fault", "log": "", "what": "its converter died: signal 6"}
+        recorded, told = self.record(self.session([0]), lambda *_: [fault])
+        self.assertEqual((recorded.found, self.names()), ([], ["mine.spanprof"]))
+        self.assertIn("the run is recorded, and its text is not made: ", told)
+        self.assertIn("mine.spanprof has the log alone; spanprof-convert", told)
+        with self.assertRaisesRegex(Fault, "not complete"):
+            open_recording(os.path.join(self.folder, "mine.spanprof"))
+
+    def test_the_run_with_the_median_time_is_kept(self):
+        recorded, told = self.record(self.session([0, 0, 0], 3))
+        self.assertEqual((recorded.status, len(recorded.found), told), (0, 1, ""))
+        meta = open_recording(recorded.found[0]).meta
+        self.assertEqual(meta["runs"], [{"elapsed_ns": 30, "work_ns": 9000, "span_ns": 4000},
+                                        {"elapsed_ns": 10, "work_ns": 7000, "span_ns": 5000},
+                                        {"elapsed_ns": 20, "work_ns": 8000, "span_ns": 3000}])
+        self.assertEqual(self.names(), ["mine.spanprof"])
 
     def test_a_run_that_fails_is_the_last(self):
-        (status, found, _), told = self.record(3, [0, 7])
-        self.assertEqual((status, found), (7, []))
+        recorded, told = self.record(self.session([0, 7], 3))
+        self.assertEqual((recorded.status, recorded.found, self.names()), (7, [], []))
         self.assertIn("run 2 of 3 is the last", told)
 
 
 class Statuses(unittest.TestCase):
-    def status(self, recorded, reported=None):
+    def status(self, recorded, reported=None, change=0.0, **options):
         with mock.patch("spanprof.record.command.Session") as made, contextlib.redirect_stderr(io.StringIO()), \
                 mock.patch("spanprof.record.command.report", side_effect=reported):
-            made.return_value.record.side_effect = [recorded]
-            return command.record_and_report(argparse.Namespace(scale=None, online=False))
+            made.return_value.begun.side_effect = contextlib.nullcontext
+            made.return_value.options.scale, made.return_value.options.runs = None, 1
+            made.return_value.record_once.side_effect = [recorded]
+            made.return_value.comparison = mock.Mock(is_other=True, change=change)
+            return command.record_and_report(argparse.Namespace(**dict(dict(online=False, fail_above=None), **options)))
+
+    def test_slower_than_an_earlier_recording(self):
+        self.assertEqual(self.status(Recorded(0, ["a"]), change=0.07, fail_above=5), 3)
+        self.assertEqual(self.status(Recorded(0, ["a"]), change=0.04, fail_above=5), 0)
+        self.assertEqual(self.status(Recorded(7, ["a"]), change=0.07, fail_above=5), 7)
 
     def test_the_program_decides(self):
-        self.assertEqual(self.status((0, ["a"], None)), 0)
-        self.assertEqual(self.status((3, ["a"], None), Fault("spanprof span: out of memory")), 3)
-        self.assertEqual(self.status((-6, [], None)), -6)
+        self.assertEqual(self.status(Recorded(0, ["a"])), 0)
+        self.assertEqual(self.status(Recorded(3, ["a"]), Fault("spanprof span: out of memory")), 3)
+        self.assertEqual(self.status(Recorded(-6)), -6)
 
     def test_what_goes_wrong_here(self):
-        self.assertEqual(self.status((0, [], None)), 125)
-        self.assertEqual(self.status((0, ["a"], None), Fault("spanprof span: out of memory")), 125)
+        self.assertEqual(self.status(Recorded(0)), 125)
+        self.assertEqual(self.status(Recorded(0, ["a"]), Fault("spanprof span: out of memory")), 125)
         self.assertEqual(self.status(Fault("no such program", 127)), 127)
         self.assertEqual(self.status(KeyboardInterrupt), -2)
 
@@ -127,12 +160,12 @@ class Statuses(unittest.TestCase):
 class Pages(unittest.TestCase):
     def page(self, **options):
         chosen = argparse.Namespace(**dict(dict(html="p.html", open=False), **options))
-        command.try_page(chosen, Recording("mine.tasks", "mine.replay"))
+        command.try_page(chosen, Recording("mine.spanprof/program.tasks", folder="mine.spanprof"))
 
     def test_the_words_of_the_reporter(self):
         with mock.patch("subprocess.run", return_value=mock.Mock(returncode=0)) as run:
             self.page()
-        self.assertEqual(run.call_args.args[0][2:], ["mine.tasks", "-o", "p.html"])
+        self.assertEqual(run.call_args.args[0][2:], ["mine.spanprof", "-o", "p.html"])
 
     def test_the_browser(self):
         done = mock.Mock(returncode=0)

@@ -1,41 +1,36 @@
-import tempfile
 import unittest
-from unittest import mock
 
-from spanprof import client
-from spanprof.errors import Fault
 from spanprof.head import Lock
-from spanprof.record.files import Recording
 from spanprof.record.summary import other_region, summary
 from spanprof.record.tests.made_up import Answers, Head
-from spanprof.record.verdict import verdict
 from spanprof.remarks import remark_of
 from spanprof.report.figures import rounded_down, rounded_up
-from spanprof.whatif.lead import Lead
+from spanprof.tests.proofs import with_a_proved_program
 
-LEGAL = "its run was legal (proved of the recorded text and events)"
+setUpModule = with_a_proved_program
+
 EXPECTED = """\
 sort.tasks, region at sort.c:48, 4 threads, costs in us of wall time
 covers        97.0 % of the program's thread-time in code (measured)
-tasks         1, in 3 segments (recorded); its run was legal (proved of the recorded text and events)
-runs          1: another run has other costs; --runs 9 tells how far they spread
+tasks         1, in 3 segments (recorded)
+runs          1; --runs 9 measures the variation
 work          100 us: code on 4 threads, added up (measured)
-span          70 us: it ends no sooner on any number of threads (proved of the recorded text)
-parallelism   1.43: work / span; it gains no more on any number of threads (proved of the recorded text)
+span          70 us: lower bound of the run time on any number of threads (proved of the recorded text)
+parallelism   1.43: work / span, the greatest speedup on any number of threads (proved of the recorded text)
 elapsed       40 us on 4 threads: 2.50 of them busy in this code on average (measured)
-threads       2: up to 1.43, 4: up to 1.43, 8: up to 1.43, 16: up to 1.43 times as fast as its work in a row (proved of the recorded text)
-              2: 1.17, 4: 1.29, 8: 1.36, 16: 1.40 and more as long as no thread idles beside a ready segment, which tied tasks can force (proved of the recorded text)
+threads       speedup at most 2: 1.43, 4: 1.43, 8: 1.43, 16: 1.43 (proved of the recorded text)
+              speedup at least 2: 1.17, 4: 1.29, 8: 1.36, 16: 1.40 for a greedy schedule; tied tasks can do worse (proved of the recorded text)
 span by place 71.4 % of the span, 50.0 % of the work: after a taskwait (measured)
               28.6 % of the span, 20.0 % of the work: the beginning (measured)
-remarks       none"""
-NOT_OF_ONE = "a longest chain of the recorded text; it is of one thread, and says nothing of more"
-DIVIDED = "on another number of threads its code is divided otherwise"
+warnings      none"""
+NOT_OF_ONE = "a longest chain of the recorded text; it was recorded on one thread, and says nothing about more"
+DIVIDED = "on another number of threads its code is divided differently"
 
 
 def lines_of(**told):
     """The summary's lines by their names, where the head tells what is given here."""
     out, name = {}, ""
-    for line in summary(Answers(head=Head(**told)), LEGAL):
+    for line in summary(Answers(head=Head(**told))):
         name = line[:13].strip() or name
         out.setdefault(name, []).append(line[14:])
     return out
@@ -43,7 +38,7 @@ def lines_of(**told):
 
 class Lines(unittest.TestCase):
     def test_a_recording(self):
-        self.assertEqual("\n".join(summary(Answers(), LEGAL)), EXPECTED)
+        self.assertEqual("\n".join(summary(Answers())), EXPECTED)
 
     def test_the_whole_program(self):
         heading, *_ = summary(Answers(head=Head(region="", whole="2 regions")))
@@ -53,24 +48,22 @@ class Lines(unittest.TestCase):
         lines = lines_of(functions={"sort.c:9": "in merge, inlined into sort at sort.c:30"})["span by place"]
         self.assertNotIn("in merge", "".join(lines))
         answers = Answers(head=Head(functions={"sort.c:9": "in merge"}))
-        answers.rows[1].critical = True
+        answers.path_segments = [0, 1, 2]
         self.assertIn("task at sort.c:9 in merge (measured)", "".join(summary(answers)))
 
     def test_remarks_locks_and_news(self):
-        folded = remark_of({"remark": "folded", "span": "high"})
-        head = Head(remarks=[folded], locks=[Lock("critical at a.c:3", 2, 5, 0, "us")], elapsed=None)
+        turns = remark_of({"remark": "turns together", "span": "high"})
+        head = Head(remarks=[turns], locks=[Lock("critical at a.c:3", 2, 5, 0, "us")], elapsed=None)
         lines = summary(Answers(head=head), news=["mine.2 is not written"])
-        self.assertEqual(lines[-3:], ["remarks       folded task: span too high, which is an upper bound",
+        self.assertEqual(lines[-3:], ["warnings      chunk with more iterations than pieces: span too high",
                                       "              lock critical at a.c:3: 2 times, 5 us inside, 0 us waiting",
                                       "              mine.2 is not written"])
-        self.assertIn("elapsed       not told", lines)
+        self.assertIn("elapsed       unknown", lines)
 
     def test_pieces_of_loops_are_no_tasks_of_the_program(self):
         head = Head(region="", whole="1 region, 2 loops in 80 pieces", pieces=80)
         self.assertIn("tasks         8, and 80 pieces of loops, and 8 parts of the regions' own code, in 3 segments "
                       "(recorded)", summary(Answers(tasks=96, parts=8, head=head)))
-        head.remarks = [remark_of({"remark": "folded", "span": "high"})]
-        self.assertIn("tasks         96, in 3 segments (recorded)", summary(Answers(tasks=96, head=head)))
 
     def test_parts_are_no_tasks_of_the_program(self):
         answers = Answers(tasks=179, parts=149)
@@ -79,31 +72,23 @@ class Lines(unittest.TestCase):
 
     def test_a_text_without_costs(self):
         answers = Answers(work=0, span=0)
-        for row in answers.rows:
-            row.cost = 0
+        answers.rows.cost = [0, 0, 0]
         answers.curve = {p: {"least": 0, "bound": 0} for p in (2, 4, 8, 16)}
         self.assertIn("parallelism   1.00", "\n".join(summary(answers)))
 
     def test_a_unit_that_is_a_number(self):
         self.assertEqual(lines_of(unit="250 ns")["work"], ["100 x 250 ns: code on 4 threads, added up (measured)"])
 
-    def test_the_lead_stands_below_the_first_line(self):
-        lines = summary(Answers(), lead=Lead("too few tasks", "without the wait"))
-        after = summary(Answers(), lead=Lead("the machine", "none", "after that"))
-        self.assertEqual(after[2:4], ["first change  none", "              after that"])
-        self.assertEqual(lines[1:4], ["cause         too few tasks", "first change  without the wait",
-                                      "covers        97.0 % of the program's thread-time in code (measured)"])
-
     def test_an_account(self):
         lines = summary(Answers(), account=["of 4 x 40 us: 62.5 % in code (measured)", "10.0 % idle"])
-        at = lines.index("account       of 4 x 40 us: 62.5 % in code (measured)")
+        at = lines.index("breakdown     of 4 x 40 us: 62.5 % in code (measured)")
         self.assertEqual(lines[at + 1], "              10.0 % idle")
         self.assertTrue(lines[at - 1].startswith("elapsed"))
 
     def test_other_regions(self):
         other = "sort.tasks, region at sort.c:48: work 100 us, span 70 us"
         self.assertEqual(other_region(Answers()), other)
-        self.assertEqual(summary(Answers(), others=[other])[-1], "other regions " + other)
+        self.assertEqual(summary(Answers(), others=[other])[-1], "other ranks   " + other)
 
     def test_no_bound_is_told_better_than_it_is(self):
         self.assertEqual((rounded_down(1999, 1000), rounded_up(1999, 1000)), ("1.99", "2.00"))
@@ -120,14 +105,14 @@ class WhatTheTextIsNot(unittest.TestCase):
         lines = lines_of(threads=1)
         self.assertEqual(lines["work"], ["100 us: code on one thread (measured)"])
         self.assertEqual(lines["span"], ["70 us: " + NOT_OF_ONE])
-        self.assertEqual(lines["threads"], ["it is of one thread, and says nothing of more"])
+        self.assertEqual(lines["threads"], ["it was recorded on one thread, and says nothing about more"])
         self.assertNotIn("proved", lines["parallelism"][0])
 
     def test_divided_code(self):
         lines = lines_of(divided=["loops, 120 times at spmd.c:6"])
         self.assertEqual(lines["span"], ["70 us: a longest chain of the recorded text; " + DIVIDED])
         self.assertEqual(lines["parallelism"], ["1.43: work / span of the recorded text; " + DIVIDED])
-        self.assertTrue(lines["threads"][0].startswith("4: up to 1.43 times as fast"))
+        self.assertTrue(lines["threads"][0].startswith("speedup at most 4: 1.43 "))
         self.assertEqual(lines["threads"][2], DIVIDED)
 
     def test_the_code_of_threads_beside_each_other(self):
@@ -154,12 +139,12 @@ class WhatTheTextIsNot(unittest.TestCase):
 
     def test_nothing_told_of_what_is_covered(self):
         self.assertEqual(lines_of(covered=None, thread_time=None)["covers"],
-                         ["not told how much of the program's thread-time"])
+                         ["unknown share of the program's thread-time"])
 
     def test_remarks(self):
-        too_high = lines_of(remarks=[remark_of({"remark": "folded", "span": "high"})])
+        too_high = lines_of(remarks=[remark_of({"remark": "turns together", "span": "high"})])
         self.assertEqual(too_high["span"][0], "70 us: a longest chain of the recorded text; the program's may be less "
-                                              "(remarks)")
+                                              "(warnings)")
         self.assertNotIn("proved", too_high["parallelism"][0] + too_high["threads"][0])
         self.assertEqual(len(too_high["threads"]), 2)
         too_low = lines_of(remarks=[remark_of({"remark": "mutexinoutset", "span": "low"})])
@@ -171,57 +156,37 @@ class WhatTheTextIsNot(unittest.TestCase):
     def test_both_clocks(self):
         told = {"affected": 72, "work": 101, "by": 3000, "times": 9}
         self.assertEqual(lines_of(clocks_differ=told)["both clocks"], [
-            "in 71.2 % of the work they differ by more than a twentieth, together by 3.00 ms (measured)"])
+            "they differ by more than 5 % in 71.2 % of the work, by 3.00 ms in all (measured)"])
         self.assertNotIn("both clocks", lines_of())
 
     def test_locks(self):
         lines = lines_of(locks=[Lock("critical at a.c:3", 2, 80, 0)], most_held=80)
-        self.assertEqual(lines["locks"], ["80 us inside the most held one: no run of this code is more than 1.25 times "
-                                          "as fast as its work in a row (measured)"])
+        self.assertEqual(lines["locks"], ["80 us inside the most held one: speedup at most 1.25 (measured)"])
         self.assertEqual(len(lines["threads"]), 1)
-        self.assertTrue(lines["threads"][0].startswith("2: up to 1.25, 4: up to 1.25"))
+        self.assertTrue(lines["threads"][0].startswith("speedup at most 2: 1.25, 4: 1.25"))
         self.assertNotIn("proved", lines["threads"][0])
 
     def test_a_lock_beside_a_remark(self):
         remark = remark_of({"remark": "preempted", "times": 9, "work": "high", "span": "high"})
         lines = lines_of(locks=[Lock("critical at a.c:3", 2, 80, 0)], most_held=80, remarks=[remark])
-        self.assertEqual(lines["locks"], ["80 us inside the most held one; another run may hold it for less, beside "
-                                          "its work (remarks) (measured)"])
-        self.assertIn("(of the recorded text; the program's may be more (remarks))", lines["threads"][0])
+        self.assertEqual(lines["locks"], ["80 us inside the most held one; another run may hold it for less "
+                                          "(warnings) (measured)"])
+        self.assertIn("(of the recorded text; the program's may be more (warnings))", lines["threads"][0])
 
     def test_a_lock_that_is_held_for_less_than_the_span(self):
         lines = lines_of(locks=[Lock("critical at a.c:3", 2, 50, 0)], most_held=50)
         self.assertNotIn("locks", lines)
-        self.assertIn("4: up to 1.43", lines["threads"][0])
+        self.assertIn("4: 1.43", lines["threads"][0])
 
     def test_the_spread_of_several_runs(self):
         lines = lines_of(runs=7, is_median=True, spread={"work": (90, 100, 120), "span": (60, 70, 75)})
         self.assertEqual(lines["runs"], ["7, and each cost is the median of theirs (measured)"])
         self.assertTrue(lines["work"][0].startswith("100 us (90 us to 120 us in 7 runs): code"))
-        self.assertTrue(lines["span"][0].startswith("70 us (60 us to 75 us in 7 runs): it ends"))
+        self.assertTrue(lines["span"][0].startswith("70 us (60 us to 75 us in 7 runs): lower bound"))
 
-    def test_several_runs_without_a_median(self):
+    def test_one_of_several_runs(self):
         told = lines_of(runs=7, is_median=False)["runs"]
-        self.assertEqual(told, ["7, and each cost is that of the one with the median work, since they have no median "
-                                "(measured)"])
-
-
-class Verdicts(unittest.TestCase):
-    def verdict(self, **asked):
-        with tempfile.NamedTemporaryFile() as file, mock.patch("spanprof.client.ask", **asked):
-            return verdict(Recording("mine.tasks", file.name))
-
-    def test_all_three(self):
-        self.assertEqual(verdict(Recording("mine.tasks")), "")
-        self.assertEqual(self.verdict(return_value="events 2\nfinished 1\n"), LEGAL)
-        self.assertEqual(self.verdict(side_effect=Fault("spanprof replay: error: event 4: NotReady 1")),
-                         "its run is refused: spanprof replay: error: event 4: NotReady 1")
-
-    def test_the_refused_event_is_shown(self):
-        log = "omptasks 1 taskwait\n---\nstart 0 1\n"
-        self.assertEqual(self.verdict(side_effect=client.Refused(["replay"], log, "error: event 0: NotReady 0")),
-                         "its run is refused: spanprof replay: error: event 0: NotReady 0; `start 0 1`: segment 0, "
-                         "which has to come first, has not finished")
+        self.assertEqual(told, ["7, and each cost is that of the run with the median elapsed time (measured)"])
 
 
 if __name__ == "__main__":

@@ -5,9 +5,8 @@ import unittest
 
 from spanprof.account import Account, Row
 from spanprof.errors import Fault
-from spanprof.record.summary_json import led_json, summary_json, write_json
+from spanprof.record.summary_json import run_json, summary_json, write_json
 from spanprof.record.tests.made_up import Answers
-from spanprof.whatif.lead import Lead
 
 
 def account():
@@ -15,19 +14,20 @@ def account():
 
 
 class Told(unittest.TestCase):
-    def test_the_account_and_the_lead(self):
-        told = led_json(Answers(), account(), "", Lead("the work: ..", "half the cost of it"))
-        self.assertEqual((told["text"], told["work"], told["cause"], told["then"]),
-                         ("sort.tasks", 100, "the work: ..", None))
+    def test_the_account(self):
+        told = run_json(Answers(), account(), "")
+        self.assertEqual((told["text"], told["work"]), ("sort.tasks", 100))
         self.assertEqual(told["account"]["parts"]["code"], 9)
 
-    def test_without_both(self):
-        told = led_json(Answers(), None, "tasks are folded", None)
-        self.assertEqual((told["account"], told["no account"], told["cause"]), (None, "tasks are folded", None))
+    def test_without_one(self):
+        told = run_json(Answers(), None, "tasks did not run to their ends")
+        self.assertEqual((told["account"], told["no account"]), (None, "tasks did not run to their ends"))
 
-    def test_the_whole_program_stands_beside_the_region(self):
-        told = summary_json(led_json(Answers(), None, "", None), {"work": 9}, None, None)
-        self.assertEqual((told["text"], told["scale"], told["whole program"]), ("sort.tasks", None, {"work": 9}))
+    def test_the_diagnosis_and_what_was_measured_and_predicted_besides(self):
+        told = summary_json({"diagnosis": []}, run_json(Answers(), None, ""), None, {"none": "why"})
+        self.assertEqual((told["diagnosis"], told["text"], told["scale"], told["predicted"]),
+                         ([], "sort.tasks", None, {"none": "why"}))
+        self.assertNotIn("diagnosis", summary_json(None, {}, None, None))
 
     def test_a_file(self):
         with tempfile.TemporaryDirectory() as folder:

@@ -25,7 +25,7 @@ function answeredWithout(dropped, boxes, threads) {
   return { ...told, end: told.ends[0] };
 }
 
-// Whether segments, slack, critical path and the greedy run are those that the page draws.
+// Whether segments, slack, critical path and the greedy schedule are those that the page draws.
 function knowsTheText() {
   const [program] = programs, { library, packed } = live, own = costsUnder([]);
   const told = library.segments(own.length), { slacks, path } = library.analyse(own);
@@ -97,7 +97,7 @@ function showLive() {
       answered(changes(program, boxes), threads);
     const told = (name) => `${human(program, now[name])}, which was ${human(program, was[name])}`;
     line.textContent = `work ${told("work")}; span ${told("span")}; ` +
-      `the greedy run on ${threads} threads ends at ${told("end")}`;
+      `the greedy schedule on ${threads} threads ends at ${told("end")}`;
     live.now = now;
   } catch (error) {
     line.textContent = `no answer: ${error.message}`;

@@ -78,7 +78,7 @@ def is_recorded(program, run):
 def drawn_differences(program, data):
     """Where the runs that the script draws are not those of the command and of the recording."""
     runs = data["runs"]
-    wrong = [] if is_greedy(program, runs["greedy"]) else ["the greedy run that is drawn is another"]
+    wrong = [] if is_greedy(program, runs["greedy"]) else ["the greedy schedule that is drawn is another"]
     if "recorded" in runs and not is_recorded(program, runs["recorded"]):
         wrong.append("the recorded run that is drawn is another")
     if unpacked(data["critical"]) != program.segments(on_path=True):

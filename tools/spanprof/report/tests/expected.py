@@ -8,6 +8,7 @@ from types import SimpleNamespace
 from spanprof.account import account_of
 from spanprof.changed_text import with_costs, without_costs
 from spanprof.client import segments
+from spanprof.tests.columns import code_of
 from spanprof.head import read_head
 from spanprof.predict.machine import machine_file, read_machine
 from spanprof.predict.predictions import by_the_model, of_changed
@@ -183,7 +184,8 @@ class Program(Sums):
     @cached_property
     def found(self):
         """The account of the run beside the text, asked anew."""
-        answers = SimpleNamespace(head=read_head(self.text), code=segments(self.text), work=self.line("work", "span"))
+        answers = SimpleNamespace(head=read_head(self.text), code=code_of(segments(self.text)), is_long=False,
+                                  work=self.line("work", "span"))
         return account_of(answers, self.base + ".timed")
 
     def account(self, what, number=None):
@@ -203,7 +205,7 @@ class Program(Sums):
         return self.line(name, *changes) if threads is None else self.end_with(changes[1:], threads)
 
     def end_with(self, changes, threads):
-        """The end of the greedy run of a text that costs what the changes say, and is else this one."""
+        """The end of the greedy schedule of a text that costs what the changes say, and is else this one."""
         costs = list(self.cost)
         for change in changes:
             s, cost = map(int, change.split("="))
@@ -249,7 +251,7 @@ class Program(Sums):
 
     def scale(self, threads, name):
         rows = {row["threads"]: row for row in self.measured["threads"]}
-        return rows[int(threads)][name.replace("-up-", "-up ")]
+        return rows[int(threads)][name.replace("speedup-", "speedup ")]
 
     def gap(self, what):
         """The whole is the sum of its parts."""

@@ -1,8 +1,10 @@
 import unittest
 from unittest import mock
 
-from spanprof.answers import Answers, named_numbers
+from spanprof.answers import Answers
+from spanprof.client import Refused, named_numbers
 from spanprof.report.tests import worked
+from spanprof.report.tests.worked import pieces_of
 
 
 class OfTheWorkedProgram(unittest.TestCase):
@@ -14,7 +16,7 @@ class OfTheWorkedProgram(unittest.TestCase):
         self.answers = Answers(worked.path("mesh.tasks"), tell=self.told.append)
 
     def test_numbers_of_span(self):
-        self.assertEqual(self.answers.span_numbers, {"segments": 13, "work": 41, "span": 31})
+        self.assertEqual(self.answers.span_numbers, {"tasks": 5, "segments": 13, "work": 41, "span": 31})
         self.assertEqual((self.answers.work, self.answers.span, self.answers.tasks), (41, 31, 5))
 
     def test_each_command_is_asked_once_and_told(self):
@@ -37,8 +39,8 @@ class OfTheWorkedProgram(unittest.TestCase):
         self.assertEqual(self.answers.curve[1], {"threads": 1, "end": 41, "least": 41, "bound": 41})
 
     def test_greedy(self):
-        self.assertEqual(self.answers.greedy[0], (0, 0))
-        self.assertIsNone(self.answers.greedy[9][1])
+        found = self.answers.greedy
+        self.assertEqual((found.starts[0], found.threads[0], found.threads[9], found.end), (0, 0, -1, 31))
 
     def test_predecessors(self):
         self.assertEqual(self.answers.predecessors[2], [0])
@@ -48,9 +50,40 @@ class OfTheWorkedProgram(unittest.TestCase):
         self.assertEqual(self.answers.what_if({}), {"work": 41, "span": 31, "was": 31})
 
     def test_a_text_read_otherwise_is_refused(self):
-        with mock.patch("spanprof.client.ask", return_value="segment,task,cost,start,slack,chain\n0,3,1,0,0,1\n"):
+        other = pieces_of(lambda *_: "segment,task,cost,start,slack,chain\n0,3,1,0,0,1\n")
+        with mock.patch("spanprof.client.pieces", other):
             with self.assertRaises(AssertionError):
                 self.answers.rows
+
+
+LONG = {("--upto", "64"): "threads,least,bound\n" + "".join("%d,31,41\n" % p for p in range(1, 65))}
+
+
+class OfALongText(unittest.TestCase):
+    """The worked program, where it is called long: its program makes greedy schedules on given threads alone."""
+
+    def setUp(self):
+        kept = worked.Kept()
+
+        def told(words, text):
+            return LONG.get(tuple(words)) or kept(words, text)
+
+        for patch in (worked.patched(), mock.patch("spanprof.answers.is_long", return_value=True),
+                      mock.patch("spanprof.client.ask", told)):
+            patch.start()
+            self.addCleanup(patch.stop)
+        self.answers = Answers(worked.path("mesh.tasks"))
+
+    def test_curve(self):
+        self.assertEqual([p for p, row in self.answers.curve.items() if "end" in row], [2])
+        self.assertEqual(self.answers.curve[2], {"threads": 2, "least": 31, "bound": 41, "end": 31})
+        self.assertEqual(max(self.answers.curve), 64)
+        self.assertEqual(self.answers.asked, ["spanprof_large --upto 64 < mesh.tasks",
+                                              "spanprof_large greedy --threads 2 < mesh.tasks"])
+
+    def test_too_little_memory(self):
+        with mock.patch("spanprof.client.columns", side_effect=Refused(["greedy"], "", "error: out of memory")):
+            self.assertEqual(self.answers.curve[2], {"threads": 2, "least": 31, "bound": 41})
 
 
 class Lines(unittest.TestCase):

@@ -8,6 +8,9 @@ import unittest
 
 from spanprof.report.command import Progress, beside, main
 from spanprof.report.tests import worked
+from spanprof.tests.proofs import with_a_proved_program
+
+setUpModule = with_a_proved_program
 
 
 class Command(unittest.TestCase):
@@ -48,8 +51,9 @@ class Command(unittest.TestCase):
         told = io.StringIO()
         with contextlib.redirect_stdout(told):
             main([worked.path("mesh.tasks"), "--factor", "task at mesh.c:8=0.5"])
-        self.assertEqual(told.getvalue(), "remark: mutexinoutset, 2 times at mesh.c:10: span too low, and too high in "
-                         "the text .inout.tasks\nlock critical at mesh.c:9: 3 times, 2 us inside, 1 us waiting\n"
+        self.assertEqual(told.getvalue(), "warning: mutexinoutset, 2 times at mesh.c:10: span too low, and too high in "
+                         "the text .inout.tasks of spanprof-convert --region\n"
+                         "lock critical at mesh.c:9: 3 times, 2 us inside, 1 us waiting\n"
                          "1 segment changed\nwork 35\nspan 25\nwas 31\n")
 
     def copied(self, name="mesh"):

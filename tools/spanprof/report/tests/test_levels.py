@@ -1,17 +1,11 @@
 import os
 import tempfile
 import unittest
-from types import SimpleNamespace
 
-from spanprof.head import Head
-from spanprof.report.large_levels import Levels, bins_for
-from spanprof.report.large_sums import sums_of
-from spanprof.report.large_times import NoTimes, colours, levels_in
-from spanprof.report.places import TaskPlace
-from spanprof.report.timeline_data import DIGITS
-from spanprof.text import marks
-
-TEXT = ["omptasks 1\n", "work 2\n", "task {  # a.c:3\n", "work 5\n", "}\n", "work 1\n"]
+from spanprof.report.level_runs import NoTimes, levels_in, levels_of_greedy
+from spanprof.report.levels import Levels, bins_for
+from spanprof.report.tests import worked
+from spanprof.report.timeline_data import DIGITS, levels_data
 
 
 class Bins(unittest.TestCase):
@@ -50,25 +44,32 @@ class Times(unittest.TestCase):
     def setUp(self):
         self.folder = tempfile.TemporaryDirectory()
         self.addCleanup(self.folder.cleanup)
-        self.answers = SimpleNamespace(name="a.tasks", head=Head(threads=3), sums=sums_of(marks(TEXT)))
+        self.view = worked.view("split")
 
     def levels(self, *lines):
         path = os.path.join(self.folder.name, "a.times")
         with open(path, "w", encoding="utf-8") as file:
             file.write("".join(line + "\n" for line in lines))
-        return levels_in(path, self.answers)
+        return levels_in(path, self.view)
 
     def test_of_a_table(self):
-        levels = self.levels("segment,thread,start_ns,end_ns", "0,0,0,2", "1,1,4,9", "2,0,3,4")
-        self.assertEqual((levels.threads, levels.end), (3, 9))
-        self.assertEqual(colours(self.answers.sums), bytes([1, 0, 1]))
+        levels = self.levels("omptasks 1", "---", "times 2 0 9", "0 0 0 2", "1 1 4 9", "2 0 3 4")
+        self.assertEqual((levels.threads, levels.end), (2, 9))
+        self.assertEqual(sum(levels.busy), 8 * levels.bins)
 
     def test_what_is_no_table(self):
-        for lines in (("segment,thread",), ("segment,thread,start_ns,end_ns", "0,0,5,2"),
-                      ("segment,thread,start_ns,end_ns", "9,0,0,2"), ("segment,thread,start_ns,end_ns", "x")):
-            with self.assertRaisesRegex(NoTimes, "no table of times"):
+        times = "times 2 0 9"
+        for lines in (("segment thread",), (times, "0 0 5 2"), (times, "99 0 0 2"), (times, "x")):
+            with self.assertRaisesRegex(NoTimes, "has no times"):
                 self.levels(*lines)
 
-    def test_the_last_places_share_a_colour(self):
-        self.answers.sums.tasks["a.c:3"] = TaskPlace("a.c:3", number=40)
-        self.assertEqual(colours(self.answers.sums)[1], 9)
+    def test_the_greedy_run(self):
+        view = worked.view("mesh")
+        levels = levels_of_greedy(view)
+        self.assertEqual((levels.end, sum(levels.busy)), (31, 41 * levels.bins))
+
+    def test_for_the_script(self):
+        with worked.patched():
+            data = levels_data(worked.view_without_page("split"))
+        self.assertEqual(sorted(data["levels"]), ["greedy", "recorded"])
+        self.assertEqual(data["names"][-1], "all others")

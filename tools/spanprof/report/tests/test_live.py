@@ -1,5 +1,6 @@
 """The live page: where its module comes from, and which answers it has to give."""
 import base64
+import hashlib
 import json
 import os
 import tempfile
@@ -11,11 +12,12 @@ from spanprof.report import live
 from spanprof.report.page import page
 from spanprof.report.tests import worked
 WASM = b"\0asm\1\0\0\0 and more"
+MODULE = live.Module(WASM, live.PROVED_CODE)
 
 
 def live_page(name):
     with worked.patched():
-        return page([worked.view(name)], (), WASM)
+        return page([worked.view(name)], (), MODULE)
 
 
 class Modules(unittest.TestCase):
@@ -33,7 +35,10 @@ class Modules(unittest.TestCase):
 
     def test_the_module_that_is_named(self):
         self.put(WASM)
-        self.assertEqual(live.module(), WASM)
+        self.assertEqual(live.module(), (WASM, "computed by m.wasm, not verified"))
+        with open(self.path + ".sha256", "w", encoding="ascii") as file:
+            file.write("%s  m.wasm\n" % hashlib.sha256(WASM).hexdigest())
+        self.assertEqual(live.module(), MODULE)
 
     def test_none_and_no_module(self):
         with self.assertRaisesRegex(Fault, "tools/live_module.sh makes it"):

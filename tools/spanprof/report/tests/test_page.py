@@ -34,7 +34,7 @@ class Pages(unittest.TestCase):
     def test_parts_and_what_leads_to_them(self):
         text = worked.page_text(["mesh", "split"])
         names = re.findall(r'<section id="(\S+)"', text)
-        self.assertEqual(names, ["summary", "compared", "speed-up", "timeline", "timeline-other", "path", "changes",
+        self.assertEqual(names, ["summary", "compared", "speedup", "timeline", "timeline-other", "path", "changes",
                                  "what-if", "tasks", "nesting", "source", "graph", "sources"])
         for name in names:
             self.assertIn('<a href="#%s">' % name, text)
@@ -75,7 +75,8 @@ class WrongNumbers(unittest.TestCase):
         self.assertEqual(len(self.faults(">41 µs<", ">42 µs<")), 1)
 
     def test_a_wrong_tooltip(self):
-        self.assertTrue(self.faults("1.00 times; the greedy run ends at 41", "1.00 times; the greedy run ends at 40"))
+        end = "1.00 times; the greedy schedule ends at %d"
+        self.assertTrue(self.faults(end % 41, end % 40))
 
     def test_a_number_of_the_wrong_program(self):
         self.assertTrue(self.faults('data-from="other span work"', 'data-from="span work"'))
@@ -92,7 +93,7 @@ class WrongNumbers(unittest.TestCase):
         data = json.loads(read_page(self.text).data)
         starts = data["programs"][1]["runs"]["greedy"]["starts"]
         self.assertEqual(self.faults('"greedy":{"starts":"%s"' % starts, '"greedy":{"starts":"1%s"' % starts),
-                         ["split.tasks: the greedy run that is drawn is another"])
+                         ["split.tasks: the greedy schedule that is drawn is another"])
 
     def test_another_recorded_run(self):
         for number, name in enumerate(("mesh", "split")):

@@ -5,6 +5,9 @@ import unittest
 from spanprof.account import Account, HeldUp
 from spanprof.report.part_account import account_picture, idle_part
 from spanprof.report.tests import worked
+from spanprof.tests.proofs import with_a_proved_program
+
+setUpModule = with_a_proved_program
 
 
 class OfTheWorkedRun(unittest.TestCase):
@@ -19,18 +22,18 @@ class OfTheWorkedRun(unittest.TestCase):
 
     def test_idle_time_by_place(self):
         part = idle_part(self.view)
-        self.assertIn("Idle with nothing ready, by what ran then", part)
-        self.assertNotIn("Idle though code was ready", part)
+        self.assertIn("Idle, by what ran then", part)
+        self.assertNotIn("Scheduling delay", part)
         self.assertIn("proved of the recorded text", part)
 
     def test_code_that_was_held_up(self):
         self.view.account = Account(2, 100, 120, 0, 80, 0, HeldUp(40, 0, 10))
         picture = account_picture(self.view)
-        for words in ("off the processor in the midst of code ", "waiting for locks "):
+        for words in ("preempted in code ", "waiting for locks "):
             self.assertIn(words, picture)
         self.assertNotIn("asleep", picture)
         self.view.answers.head.clock = "cpu"
-        self.assertIn("off the processor in the midst of code, or in the recorder ", account_picture(self.view))
+        self.assertIn("preempted in code, or in the recorder ", account_picture(self.view))
 
 
 class WithoutAnAccount(unittest.TestCase):

@@ -56,7 +56,7 @@ class Shown(unittest.TestCase):
         words = seen(gap_part(self.view))
         for part in ("2 threads: what they did in all measured", "region at split.c:2",
                      "work on one thread code, recorded on one thread", "34.5 µs 57.5 %", "inflation", "2.50 µs 4.2 %",
-                     "idle with nothing ready 14.3 µs 23.8 %", "2 × 30.0 µs 60.0 µs 100.0 %"):
+                     "idle 14.3 µs 23.8 %", "2 × 30.0 µs 60.0 µs 100.0 %"):
             self.assertIn(part, words)
         self.assertEqual(read_page(gap_part(self.view)).without_source, [])
         self.assertIn('title="34,500 ns: measured (gap work-on-one-thread)"', gap_part(self.view))
@@ -85,8 +85,8 @@ class Shown(unittest.TestCase):
         self.assertIn("the code differs: 5 tasks", gap_part(self.view))
 
     def test_why_not(self):
-        self.view.gap, self.view.scale = None, {"no gap": "the recording on 4 threads has no account"}
-        self.assertIn("is not told: the recording on 4 threads has no account .", seen(gap_part(self.view)))
+        self.view.gap, self.view.scale = None, {"no gap": "the recording on 4 threads has no time breakdown"}
+        self.assertIn("is unknown: the recording on 4 threads has no time breakdown .", seen(gap_part(self.view)))
         self.view.scale = None
         self.assertEqual(gap_part(self.view), "")
 

@@ -12,12 +12,19 @@ from spanprof.report.part_tasks import tasks_part
 from spanprof.report.part_timeline import timeline_part
 from spanprof.report.part_what_if import what_if_part
 from spanprof.report.summary_tiles import moved
-from spanprof.answers import Row
+from spanprof.diagnosis.diagnose import diagnose
+from spanprof.diagnosis.names import Names
+from spanprof.diagnosis.tell import Told
+from spanprof.diagnosis.tests.worked import facts, place
 from spanprof.remarks import remark_of
 from spanprof.report.tests import worked
+from spanprof.tests.columns import rows_of
 from spanprof.report.what_if import Trials
+from spanprof.tests.proofs import with_a_proved_program
 
-FOLDED = remark_of({"remark": "folded", "span": "high"})
+setUpModule = with_a_proved_program
+
+TURNS = remark_of({"remark": "turns together", "span": "high"})
 
 
 def seen(piece):
@@ -42,7 +49,7 @@ class OfOneProgram(unittest.TestCase):
             self.assertIn(part, words)
 
     def test_a_remark_stands_where_it_moves_a_number(self):
-        self.assertIn("remarked: span too low", seen(moved(self.view, "span")))
+        self.assertIn("warning: span too low", seen(moved(self.view, "span")))
         self.assertEqual(moved(self.view, "work"), "")
 
     def told(self, **head):
@@ -59,23 +66,25 @@ class OfOneProgram(unittest.TestCase):
         self.assertIn("What bounds its end there is the most held lock ,", words)
         self.assertNotIn("pays most", words)
 
-    def test_what_pays_on_the_threads_of_a_text_without_a_cause(self):
+    def test_what_pays_on_the_threads_of_a_text_without_a_diagnosis(self):
+        run = facts([place("task at mesh.c:8")])
+        self.view.diagnosis = Told(diagnose(run), Names(run, None))
         self.assertNotIn("pays most", self.told())
-        self.view.lead = None
-        self.assertIn("Of the places below, half the cost of task at mesh.c:8 pays most there: the greedy run of the "
-                      "text would end at 25 µs in place of 31 µs , 19.4 % less, and the span be 25 µs , 19.4 % less "
-                      "proved of", self.told())
+        self.view.diagnosis = None
+        self.assertIn("Of the places below, half the cost of task at mesh.c:8 pays most there: the greedy schedule of "
+                      "the text would end at 25 µs in place of 31 µs , 19.4 % less, and the span be 25 µs , 19.4 % "
+                      "less proved of", self.told())
         self.trials.ends = {place.number: 31 for place in self.view.places}
         self.assertNotIn("pays most", self.told())
 
     def test_a_lock_is_in_the_bounds(self):
         words = self.told(most_held=36)
-        self.assertIn("2 threads: up to 1.14 times as fast as its work in a row", words)
-        self.assertIn("The most held lock was held for 36 µs , by one thread at a time: no run of this code is more "
-                      "than 1.14 times as fast as its work in a row measured .", words)
+        self.assertIn("2 threads: speedup at most 1.14 over serial code", words)
+        self.assertIn("The most held lock was held for 36 µs , by one thread at a time: the speedup is at most "
+                      "1.14 measured .", words)
         self.assertIn("1.14: work / time inside the most held lock", curve_part([self.view]))
         words = self.told(most_held=36, remarks=[remark_of({"remark": "a", "work": "high", "span": "high"})])
-        self.assertIn("held for 36 µs measured ; another run may hold it for less, beside its work (remarks).", words)
+        self.assertIn("held for 36 µs measured ; another run may hold it for less (warnings).", words)
         self.assertNotIn("most held", self.told(most_held=30) + curve_part([self.view]))
 
     def test_a_part_of_the_program(self):
@@ -88,13 +97,13 @@ class OfOneProgram(unittest.TestCase):
     def test_divided_code(self):
         words = self.told(divided=["loops, 3 times at mesh.c:9"])
         self.assertIn("Span 31 µs measured a longest chain of the text; on another number of threads its code is "
-                      "divided otherwise", words)
+                      "divided differently", words)
         self.assertIn("On 2 threads the text ends no sooner", words)
         self.view.answers.wanted_threads = 4
         words = self.told()
         self.assertIn("The text says nothing of 4 threads : on another number of threads its code", words)
         self.assertNotRegex(words, "pays most|What bounds|4 threads: up to")
-        self.assertNotIn("greedy run at half", seen(what_if_part(self.view, self.trials, [])))
+        self.assertNotIn("greedy schedule at half", seen(what_if_part(self.view, self.trials, [])))
 
     def test_the_spread_of_several_runs(self):
         words = self.told(runs=7, is_median=True, spread={"work": (39, 41, 1044), "span": (30, 31, 36)})
@@ -109,17 +118,17 @@ class OfOneProgram(unittest.TestCase):
         words = self.told(threads=1)
         self.assertIn("code on one thread", words)
         self.assertNotRegex(words, "any number of threads|pays most|threads: up to")
-        self.assertIn("it is of one thread, and says nothing of more", curve_part([self.view]))
+        self.assertIn("it was recorded on one thread, and says nothing about more", curve_part([self.view]))
 
     def test_no_claim_against_a_remark(self):
-        self.assertIn("Span 31 µs measured proved of the text it ends no sooner on any number", self.told())
-        words = self.told(remarks=[FOLDED])
-        self.assertIn("Span 31 µs measured a longest chain of the text; the program's may be less (remarks) remarked",
+        self.assertIn("Span 31 µs measured proved of the text lower bound of the run time on any number", self.told())
+        words = self.told(remarks=[TURNS])
+        self.assertIn("Span 31 µs measured a longest chain of the text; the program's may be less (warnings) warning",
                       words)
-        self.assertNotRegex(words, "ends no sooner on any number|gains no more on any number")
+        self.assertNotRegex(words, "lower bound of the run time|greatest speedup on any number")
 
     def test_what_is_said_on_the_threads_is_a_claim_of_the_text(self):
-        for head in (dict(remarks=[]), dict(remarks=[FOLDED]), dict(locks=[]), dict(most_held=90)):
+        for head in (dict(remarks=[]), dict(remarks=[TURNS]), dict(locks=[]), dict(most_held=90)):
             for sentence in re.split(r"(?<=[a-z])\. ", self.told(**head)):
                 if "proved" in sentence:
                     self.assertRegex(sentence, "proved of the text|of the burdened text|a model of")
@@ -156,7 +165,8 @@ class OfOneProgram(unittest.TestCase):
 
     def test_no_run(self):
         words = seen(timeline_part(worked.view("plain"), 0, "timeline", "Timeline"))
-        self.assertIn("There is no replay document beside plain.tasks. So there is only the greedy run to show.", words)
+        self.assertIn("There is no replay document next to plain.tasks. So there is only the greedy schedule to show.",
+                      words)
 
     def test_path(self):
         words = seen(path_part(self.view))
@@ -222,9 +232,9 @@ class OfTwo(unittest.TestCase):
 
 class Pieces(unittest.TestCase):
     def test_cheap_segments_of_the_path_stand_together(self):
-        rows = [Row(cost, 0, 0, 0, True) for cost in (1, 0, 2, 500, 3)]
+        rows = rows_of((1, 0, 2, 500, 3))
         self.assertEqual(stretches(range(5), rows), [[0], [2], [3], [4]])
-        many = [Row(5, 0, 0, 0, True)] * 200 + [Row(1, 0, 0, 0, True)] * 9 + [Row(5, 0, 0, 0, True)] * 200
+        many = rows_of([5] * 200 + [1] * 9 + [5] * 200)
         pieces = stretches(range(409), many)
         self.assertEqual(max(map(len, pieces)), 9)
         self.assertEqual(sum(map(len, pieces)), 409)

@@ -2,7 +2,7 @@ import unittest
 from types import SimpleNamespace
 
 from spanprof.report.graph import CREATES, DEPENDS, WAITS, critical_pairs, place_edges, task_edges
-from spanprof.report.places import places, task_places, tasks
+from spanprof.report.places import Tasks, places, task_places
 from spanprof.report.tests import worked
 
 
@@ -24,7 +24,7 @@ class OfTheWorkedProgram(unittest.TestCase):
         self.assertEqual([place.number for place in self.view.places], list(range(len(shares))))
 
     def test_tasks(self):
-        found = tasks(self.view.answers)
+        found = Tasks(self.view.answers)
         self.assertEqual([task.cost for task in found], [10, 12, 7, 4, 8, 0])
         self.assertEqual([task.is_critical for task in found], [True, True, True, True, False, False])
         self.assertEqual(found[4].slack, 3)
@@ -32,9 +32,9 @@ class OfTheWorkedProgram(unittest.TestCase):
     def test_tasks_by_the_construct_that_creates_them(self):
         found = {place.name: place for place in task_places(self.view.answers)}
         both = found["mesh.c:10"]
-        self.assertEqual((both.tasks, both.costs, both.cost, both.median), ([2, 4], [7, 8], 15, 7))
+        self.assertEqual((list(both.tasks), list(both.costs), both.cost, both.median), ([2, 4], [7, 8], 15, 7))
         self.assertEqual((both.critical_tasks, both.slack, both.creating), (1, 0, 2))
-        self.assertEqual(found["the root"].tasks, [0])
+        self.assertEqual(list(found["the root"].tasks), [0])
 
     def test_edges(self):
         answers = self.view.answers

@@ -11,6 +11,9 @@ from spanprof.report.predicted import recordings
 from spanprof.report.tests import worked
 from spanprof.report.tests.page_reader import read_page
 from spanprof.report.tests.test_parts import seen
+from spanprof.tests.proofs import with_a_proved_program
+
+setUpModule = with_a_proved_program
 
 NO_MACHINE = {"SPANPROF_MACHINE": "/none"}
 
@@ -63,8 +66,8 @@ class OfARecording(unittest.TestCase):
         self.assertEqual(part.count(" least\" data-rounded=\"down\""), len(self.view.predicted_changes))
 
     def test_why_not(self):
-        self.view.predicted = self.view.predicted._replace(found=[], why_not="tasks are folded")
-        self.assertIn("How long it would take predicted Not told: tasks are folded .", seen(predicted_words(self.view)))
+        self.view.predicted = self.view.predicted._replace(found=[], why_not="no task ended")
+        self.assertIn("How long it would take predicted Not told: no task ended .", seen(predicted_words(self.view)))
 
     def test_what_was_asked(self):
         part = seen(asked_part([self.view]))

@@ -3,11 +3,11 @@ import shutil
 import tempfile
 import unittest
 
-from spanprof.answers import Answers, Row
-from spanprof.remarks import remark_of
+from spanprof.answers import Answers
 from spanprof.report.recorded_run import NoRun, events, place_in_time, recorded_run
 from spanprof.report.tests import worked
 from spanprof.report.tests.recorded_runs import refused
+from spanprof.tests.columns import rows_of
 
 
 class Refusals(unittest.TestCase):
@@ -24,7 +24,7 @@ class InOrder(unittest.TestCase):
         self.assertEqual(events("start 0 3\nfinish 0 3"), [("start", 0, 3), ("finish", 0, 3)])
 
     def test_as_early_as_thread_and_waits_allow(self):
-        rows = [Row(cost, 0, 0, 0, False) for cost in (5, 3, 4, 2)]
+        rows = rows_of((5, 3, 4, 2))
         log = [("start", 0, 0), ("finish", 0, 0), ("start", 0, 1), ("start", 1, 2), ("finish", 0, 1)]
         run = place_in_time(log, rows, [[], [0], [0], [1]])
         self.assertEqual((run.starts, run.ends, run.workers), ([0, 5, 5, 0], [5, 8, 9, 0], [0, 0, 1, None]))
@@ -56,13 +56,6 @@ class ByClock(unittest.TestCase):
         self.assertTrue(run.is_timed)
         self.assertAlmostEqual(run.starts[0], 0.3)
         self.assertEqual(run.nanoseconds(run.ends[0]), 4710)
-
-    def test_a_folded_text_has_no_times_of_all_its_code(self):
-        with open(worked.path("split.times"), encoding="utf-8") as file:
-            times = file.read()
-        answers = Answers(worked.path("split.tasks"))
-        answers.head.remarks.append(remark_of({"remark": "folded", "times": 3, "span": "high"}))
-        self.assertFalse(self.run_with(times, answers).is_timed)
 
     def test_a_table_of_another_program(self):
         for row in ("99,0,1,2", "0,x,1,2", "0", "0,\ufffd,1,2"):

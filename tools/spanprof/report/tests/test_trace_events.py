@@ -30,7 +30,7 @@ class Form(unittest.TestCase):
 
     def test_threads_and_runs_have_names(self):
         names = [event["args"]["name"] for event in self.events if event["name"] == "process_name"]
-        self.assertEqual(names, ["the recorded run, in the order of the replay", "the greedy run"])
+        self.assertEqual(names, ["the recorded run, in the order of the replay", "the greedy schedule"])
         threads = [event["tid"] for event in self.events if event["name"] == "thread_name" and event["pid"] == 2]
         self.assertEqual(threads, [0, 1])
 

@@ -13,7 +13,7 @@ from spanprof.report.true_times import Point, points_in, scale_beside
 
 DATE = "2026-11-27T11:02:55Z"
 TOLD = {"text": "mine.tasks", "work": 9, "date": DATE, "threads": [
-    {"threads": 4, "speed-up": 2.5, "speed-up from": 2.0, "speed-up to": 3.0}]}
+    {"threads": 4, "speedup": 2.5, "speedup from": 2.0, "speedup to": 3.0}]}
 POINTS = [Point(1, 1.0, 0.95, 1.05), Point(4, 1.21, 1.02, 1.33), Point(64, 2.0, 2.0, 40.0)]
 
 
@@ -44,7 +44,7 @@ class Files(unittest.TestCase):
         self.points(TOLD)
         program = Program.__new__(Program)
         program.base = self.base
-        self.assertEqual([program.scale("4", name) for name in ("threads", "speed-up", "speed-up-from", "speed-up-to")],
+        self.assertEqual([program.scale("4", name) for name in ("threads", "speedup", "speedup-from", "speedup-to")],
                          [4, 2.5, 2.0, 3.0])
 
 
@@ -57,9 +57,9 @@ class Marks(unittest.TestCase):
     def test_each_with_its_spread(self):
         part = self.part(POINTS)
         self.assertEqual(part.count('class="true s0"'), 2)
-        self.assertIn("4 threads: 1.21 (1.02 to 1.33), true speed-up against one thread: median of measured, "
+        self.assertIn("4 threads: 1.21 (1.02 to 1.33), true speedup against one thread: median of measured, "
                       "unrecorded runs of the whole program, least and greatest", part)
-        self.assertIn('data-from="scale 4 threads; scale 4 speed-up; scale 4 speed-up-from; scale 4 speed-up-to"', part)
+        self.assertIn('data-from="scale 4 threads; scale 4 speedup; scale 4 speedup-from; scale 4 speedup-to"', part)
         self.assertEqual(part.count('<i class="key hollow"'), 1)
         self.assertEqual(read_page(part).without_source, [])
 
@@ -69,7 +69,7 @@ class Marks(unittest.TestCase):
 
     def test_none(self):
         part = self.part([])
-        self.assertNotIn("true speed-up", part)
+        self.assertNotIn("true speedup", part)
         self.assertNotIn('class="true', part)
 
 

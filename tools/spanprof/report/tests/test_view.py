@@ -20,7 +20,7 @@ class Reached(unittest.TestCase):
     def test_nothing_recorded(self):
         view = worked.view("plain")
         self.assertIsNone(view.reached)
-        self.assertEqual(view.without_run, "There is no replay document beside plain.tasks.")
+        self.assertEqual(view.without_run, "There is no replay document next to plain.tasks.")
 
 
 class Kinds(unittest.TestCase):

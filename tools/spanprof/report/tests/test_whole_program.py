@@ -11,7 +11,7 @@ from spanprof.report.part_program import which_are_told
 from spanprof.report.part_source import words_of
 from spanprof.report.part_tasks import creation
 from spanprof.report.places import TaskPlace, root_name
-from spanprof.report.source_lines import Stretch
+from spanprof.source_lines import Stretch
 from spanprof.report.summary_tiles import tasks_tile
 from spanprof.report.tables import place_cell
 from spanprof.report.tests import worked

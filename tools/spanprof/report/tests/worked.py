@@ -17,7 +17,7 @@ KEPT = path("answers.json")
 
 def key(words, text):
     """Words, and a short name of the text."""
-    return "%s < %s" % (" ".join(words), hashlib.sha256(text.encode()).hexdigest()[:12])
+    return "%s < %s" % (" ".join(words), hashlib.sha256(str(text).encode()).hexdigest()[:12])
 
 
 def kept_answers():
@@ -28,6 +28,15 @@ def kept_answers():
 def document(file):
     with open(file, encoding="utf-8") as opened:
         return opened.read()
+
+
+def pieces_of(ask):
+    """What the client reads as it comes, of a program that answers so."""
+    def pieces(words, text):
+        lines = ask(words, text).encode().splitlines(True)
+        yield lines[:1]
+        yield lines[1:]
+    return pieces
 
 
 class Kept:
@@ -53,12 +62,13 @@ def with_a_machine():
 
 
 class Patched:
-    """The kept answers in place of both programs."""
+    """The kept answers in place of both programs; a diagnosis, which asks much more, is none of them."""
 
     def __init__(self):
         kept = Kept()
-        self.patches = [mock.patch("spanprof.client.ask", kept), mock.patch("spanprof.account.ask", kept.of_times),
-                        with_a_machine()]
+        self.patches = [mock.patch("spanprof.client.ask", kept), mock.patch("spanprof.client.pieces", pieces_of(kept)),
+                        mock.patch("spanprof.account.ask", kept.of_times), with_a_machine(),
+                        mock.patch("spanprof.report.view.diagnosis_of", return_value=None)]
 
     def start(self):
         for patch in self.patches:
@@ -122,14 +132,14 @@ def noting(out, ask, key_of):
 def asked_now():
     """All that the pages and their comparison ask of spanprof and spanprof_large, with what they answer."""
     from spanprof import account, client
-    from spanprof.measure import spanprof_large
     from spanprof.report.tests.compare import differences
     from spanprof.report.tests.recorded_runs import refused
     out = {}
     asked = noting(out, client.ask, key)
-    of_times = account.ask if spanprof_large() else Kept().of_times     # that program need not be there
+    of_times = account.ask if client.takes_any_size() else Kept().of_times     # that program need not be there
     times = noting(out, of_times, lambda words, file: key(["account", *words], document(file)))
-    with mock.patch("spanprof.client.ask", asked), mock.patch("spanprof.account.ask", times), with_a_machine():
+    with mock.patch("spanprof.client.ask", asked), mock.patch("spanprof.client.pieces", pieces_of(asked)), \
+            mock.patch("spanprof.account.ask", times), with_a_machine():
         for names, factors in pages():
             wrong, _ = differences(page_text(names, factors), [path(name + ".tasks") for name in names], asked)
             if wrong:

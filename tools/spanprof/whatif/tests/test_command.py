@@ -5,40 +5,37 @@ from unittest import mock
 
 from spanprof.remarks import in_words
 from spanprof.tests.in_folder import InFolder, answered
+from spanprof.tests.proofs import with_a_proved_program
 from spanprof.whatif import command
 from spanprof.whatif.tests.made_up import SORT
 
-SPANPROF = """\
+setUpModule = with_a_proved_program
+
+PROGRAM = """\
 #!/bin/sh
 text=$(cat)
+tasks=3
 case "$text" in
     *refused*) echo "error: line 1: BadWord"; exit 1 ;;
-    *toolong*) echo "error: line 9: TooManyTasks"; exit 1 ;;
+    *toolong*) tasks=9000 ;;
 esac
-[ "$1" = span ] && printf 'segments 8\\nwork %d\\nspan 60\\n' "$(echo "$text" | grep -c '^task')"
-[ "$1" = curve ] && echo threads,end,least,bound && seq "$3" | sed 's/$/,65,60,68/'
-exit 0
-"""
-LARGE = """\
-#!/bin/sh
-cat > /dev/null
 case "$1" in
+    span) printf 'tasks %d\\nsegments 8\\nwork %d\\nspan 60\\n' $tasks "$(echo "$text" | grep -c '^task')" ;;
+    curve) echo threads,end,least,bound && seq "$3" | sed 's/$/,65,60,68/' ;;
     greedy) printf 'segment,start,end,thread\\n0,0,66,0\\n1,0,5,\\n' ;;
-    --upto) printf 'threads,least,bound\\n1,76,76\\n2,60,68\\n' ;;
-    *) printf 'tasks 3\\nsegments 9\\nwork 76\\nspan 60\\n' ;;
+    --upto) printf 'threads,least,bound\\n2,60,68\\n8,60,61\\n' ;;
 esac
 """
-LITTLE_MEMORY = LARGE.replace("printf 'segment", "echo 'error: out of memory'; exit 1; printf 'segment")
+LITTLE_MEMORY = PROGRAM.replace("printf 'segment,", "echo 'error: out of memory'; exit 1; printf 'segment,")
 
 
 class Commands(InFolder):
-    """spanprof counts lines with the word task, and spanprof_large tells always the same."""
+    """The program counts lines with the word task."""
 
     def setUp(self):
         super().setUp()
         self.text = self.write("mine.tasks", SORT)
-        self.variables = {"SPANPROF": self.program("spanprof", SPANPROF),
-                          "SPANPROF_LARGE": self.program("large", LARGE)}
+        self.variables = {"SPANPROF_LARGE": self.program("large", PROGRAM)}
 
     def told(self, *words):
         """The exit status, and what stands on standard output and standard error."""
@@ -47,7 +44,7 @@ class Commands(InFolder):
     def test_a_change(self):
         self.assertEqual(self.told("--drop-wait", "taskwait"), (0, """\
 changed: 1 wait dropped: taskwait at sort.c:10
-whether the program stays right without it is yours to know: no text tells what its tasks read and write
+whether the program stays right without it is for you to judge: no text says what its tasks read and write
 in us                                text       changed text
 segments                                8                  8    +0.0 %
 work                                    5                  4   -20.0 %
@@ -62,8 +59,8 @@ proved of the text, and of the changed text: spanprof has read both
         told = json.loads(self.told("--split", "the beginning=2", "--threads", "1", "--json")[1])
         self.assertEqual(told["text"]["threads"], {"1": {"least": 60, "bound": 68, "end": 65}})
         self.assertEqual(told["changed text"]["by"], "spanprof")
-        self.assertIn("a creation is taken to cost 1: a quarter of the 1 pieces of code between two creations cost at "
-                      "most that (measured)", told["notes"])
+        self.assertIn("a creation is assumed to cost 1: a quarter of the 1 pieces of code between two creations cost "
+                      "at most that (measured)", told["notes"])
 
     def test_the_changed_text_is_kept(self):
         kept = os.path.join(self.folder, "kept.tasks")
@@ -74,20 +71,13 @@ proved of the text, and of the changed text: spanprof has read both
             '# recorded: {"program": "sort", "threads": 2, "clock": "cpu", "unit": "us"}\n'
             "# remark: a changed text, 1 wait dropped, taskgroup at sort.c:7: work and span too low or too high\n"
             "omptasks 1\nwork 4\ntask {  # sort.c:8\n"))
-        self.assertEqual(sorted(os.listdir(self.folder)), ["kept.tasks", "large", "mine.tasks", "spanprof"])
+        self.assertEqual(sorted(os.listdir(self.folder)), ["kept.tasks", "large", "mine.tasks"])
 
     def test_a_text_beyond_the_limits(self):
         self.text = self.write("mine.tasks", SORT + "task { # toolong\n}\n")
         status, out, _ = self.told("--cutoff", "1")
         self.assertEqual(status, 0)
         self.assertIn("2 threads, end                         66                 66    +0.0 %\n", out)
-        self.assertTrue(out.endswith("spanprof_large has read one beyond the limits of spanprof\n"))
-        self.variables["SPANPROF_LARGE"] = ""
-        with mock.patch("spanprof.whatif.numbers.spanprof_large", return_value=[]):
-            status, _, errors = self.told("--cutoff", "1")
-        self.assertEqual(status, 1)
-        self.assertIn("spanprof span: error: line 9: TooManyTasks; spanprof_large, which measures it, is not found",
-                      errors)
 
     def test_a_text_whose_table_is_too_large_for_the_memory(self):
         self.text = self.write("mine.tasks", SORT + "task { # toolong\n}\n")
@@ -97,8 +87,8 @@ proved of the text, and of the changed text: spanprof has read both
         self.assertNotIn("end  ", out)
         self.assertIn("2 threads, bound                       68                 68", out)
         self.variables["SPANPROF_LARGE"] = self.program("large", LITTLE_MEMORY.replace("out of memory", "BadWord"))
-        self.assertEqual(self.told("--cutoff", "1")[2], "spanprof-whatif: spanprof_large: error: BadWord\n")
-        self.assertTrue(out.endswith("limits of spanprof; there was too little memory for a greedy run\n"))
+        self.assertEqual(self.told("--cutoff", "1")[2], "spanprof-whatif: spanprof greedy: error: BadWord\n")
+        self.assertTrue(out.endswith("spanprof has read both; there was too little memory for a greedy schedule\n"))
 
     def test_a_place_list(self):
         self.assertIn("waits (--drop-wait):", self.told("--places")[1])
@@ -116,36 +106,45 @@ proved of the text, and of the changed text: spanprof has read both
         self.text = self.write("mine.tasks", "omptasks 1 refused")
         status, out, errors = self.told("--cutoff", "1")
         self.assertEqual((status, out), (1, ""))
-        self.assertIn("mine.tasks:1: BadWord: `refused` cannot stand here\n", errors)
+        self.assertIn("mine.tasks:1:12: BadWord: `refused` cannot stand here\n", errors)
         self.assertTrue(errors.endswith("spanprof span: error: line 1: BadWord\n"))
         self.text = os.path.join(self.folder, "none")
         self.assertEqual(self.told("--places")[2], "spanprof-whatif: %s: no such file\n" % self.text)
 
     def test_no_program(self):
-        self.variables["SPANPROF"] = "/nowhere/spanprof"
-        self.assertIn("/nowhere/spanprof: No such file or directory; README.md tells", self.told("--places")[2])
+        self.variables["SPANPROF_LARGE"] = "/nowhere/spanprof"
+        self.assertIn("/nowhere/spanprof: No such file or directory; README.md says", self.told("--places")[2])
 
     def test_advice(self):
         status, out, errors = self.told("--advise", "--threads", "4")
         self.assertEqual((status, errors), (0, ""))
-        self.assertIn("the greedy run of the text ends at 65 on 4 threads, at 65 on 16, in us; with one change:", out)
+        self.assertIn("the greedy schedule of the text ends at 65 on 4 threads, at 65 on 16, in us; with one change:",
+                      out)
         self.assertIn("as soon on 4 threads, to a thousandth:", out)
         self.assertIn("proved of the text, and of each changed text", out)
         told = json.loads(self.told("--advise", "--json")[1])
         self.assertEqual({one["option"] for one in told["changes"]},
                          {"factor", "drop-wait", "split", "task", "join", "cutoff"})
 
-    def test_advice_needs_the_ends_of_greedy_runs(self):
+    def test_advice_on_a_long_text(self):
         self.text = self.write("mine.tasks", SORT + "task { # toolong\n}\n")
         status, out, errors = self.told("--advise")
-        self.assertEqual((status, out), (1, ""))
-        self.assertIn("TooManyTasks; --advise compares greedy runs, which only spanprof tells", errors)
+        self.assertEqual((status, errors), (0, ""))
+        self.assertIn("the greedy schedule of the text ends at 66 on 2 threads, at 66 on 8, in us", out)
+        with mock.patch("spanprof.whatif.trials.LEAST_SECONDS", -1):
+            out = self.told("--advise")[1]
+        self.assertRegex(out, "left out: [0-9]+ more changes, for want of time: spanprof-whatif tries each")
+
+    def test_advice_without_memory_for_a_greedy_run(self):
+        self.text = self.write("mine.tasks", SORT + "task { # toolong\n}\n")
+        self.variables["SPANPROF_LARGE"] = self.program("large", LITTLE_MEMORY)
+        self.assertIn("there is too little memory for a greedy schedule of the text", self.told("--advise")[2])
 
     def test_a_program_that_tells_no_table(self):
         self.text = self.write("mine.tasks", SORT + "task { # toolong\n}\n")
-        script = "#!/bin/sh\necho work 3\necho segments 2\necho span 1\n"
+        script = "#!/bin/sh\necho work 3\necho segments 20000\necho span 1\n"
         self.variables["SPANPROF_LARGE"] = self.program("large", script)
-        self.assertEqual(self.told("--cutoff", "1")[2], "spanprof-whatif: no bounds are told on 2 threads\n")
+        self.assertEqual(self.told("--cutoff", "1")[2], "spanprof-whatif: no bounds are known on 2 threads\n")
 
     def test_wrong_words(self):
         for words in ([], ["--advise", "--cutoff", "1"], ["--threads", "0", "--places"],
@@ -154,7 +153,7 @@ proved of the text, and of the changed text: spanprof has read both
 
     def test_a_text_that_says_nothing_of_more_threads(self):
         self.text = self.write("mine.tasks", SORT.replace('"threads": 2', '"threads": 1'))
-        self.assertIn("on 8 threads: it is of one thread, and says nothing of more",
+        self.assertIn("on 8 threads: it was recorded on one thread, and says nothing about more",
                       self.told("--cutoff", "1", "--threads", "8")[1])
 
 

@@ -13,5 +13,7 @@ returns c =
     c.in_ok-command-2.ensures ∙ ap₂ and_then slack (c.in_ok-with_option.ensures.app) in
     let curve =
     c.in_ok-command-3.ensures ∙ ap₂ and_then greedy (c.in_ok-with_option-2.ensures.app) in
-    IfOk-weaker c.with_command-4.result _ _ (λ command added. added
-    ∙ ap₂ and_then curve c.in_ok-what_if_command.ensures.app) c.with_command-4.ensures
+    let whatif =
+    c.in_ok-command-4.ensures ∙ ap₂ and_then curve c.in_ok-what_if_command.ensures.app in
+    IfOk-weaker c.with_command-5.result _ _ (λ command added. added
+    ∙ ap₂ and_then whatif c.new-2.ensures.app) c.with_command-5.ensures

@@ -1,4 +1,4 @@
-use Rattle.std.proofs.Common.{◌≤◌, length, arith, rules}
+use Rattle.std.proofs.Common.{◌≤◌, ◌∙◌, length, arith, rules}
 use Rattle.std.proofs.lemmas.Grind.{common_steps}
 use Rattle.std.proofs.lemmas.List.{take-append-le}
 use Rattle.large_command.proofs.TextInput.{IsKept, as_many_more, is_taken, line_fits}
@@ -38,4 +38,5 @@ pieces-preserved g c =
           (λ text fits is. search rules);
       fewer = omega arith;
       paid = omega (arith, c.in-Ok.ensures.paid, c.pieces.invariant.paid);
+      tried_again = c.in-Ok.ensures.tried_again ∙ c.pieces.invariant.tried_again;
     }

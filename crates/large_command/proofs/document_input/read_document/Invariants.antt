@@ -1,5 +1,5 @@
 use Rattle.std.proofs.Common.{◌≡◌, ◌+◌, ◌≤◌}
-use Rattle.counted_io.specs.Counted.{inner_of, faults_of}
+use Rattle.counted_io.specs.Counted.{failures_of, faults_of, inner_of}
 use Rattle.large_command.proofs.TextInput.{IsKept, IsTaken}
 use Rattle.large_command.proofs.document_input.read_document.Given as goal
 
@@ -12,6 +12,7 @@ invariant-pieces g l =
           (IsKept l.document.items);
       fewer : l.retries ≤ l.fn.retries;
       paid : faults_of l.reader + l.retries ≡ faults_of l.fn.reader + l.fn.retries;
+      tried_again : failures_of l.reader ≡ failures_of l.fn.reader;
     }
 
 abbrev pub decreases-pieces : goal.decreases-pieces

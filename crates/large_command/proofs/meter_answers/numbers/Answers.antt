@@ -1,6 +1,4 @@
-use Rattle.std.proofs.Common.{◌∙◌, ap}
 use Rattle.std.proofs.lemmas.Result.{IfOk-weaker}
-use Rattle.task_segments.specs.Moments.{last_moment}
 use Rattle.large_command.proofs.Told.{tells_meter}
 use Rattle.large_command.proofs.meter_answers.numbers.Goals as goal
 

@@ -1,4 +1,4 @@
-use Rattle.std.proofs.Common.{◌≤◌, length, arith}
+use Rattle.std.proofs.Common.{◌≤◌, ◌∙◌, length, arith}
 use Rattle.std.proofs.lemmas.Grind.{common_steps}
 use Rattle.std.proofs.lemmas.List.{take-append-le}
 use Rattle.large_command.proofs.TextInput.{IsMetered, as_many_more, has_less_room, is_taken, line_fits}
@@ -52,4 +52,5 @@ pieces-preserved g c =
       text = λ kept. c.take.ensures.text (c.pieces.invariant.text kept);
       fewer = omega arith;
       paid = omega (arith, c.in-Ok.ensures.paid, c.pieces.invariant.paid);
+      tried_again = c.in-Ok.ensures.tried_again ∙ c.pieces.invariant.tried_again;
     }

@@ -1,5 +1,5 @@
 use Rattle.std.proofs.Common.{◌≡◌, ◌+◌, ◌≤◌}
-use Rattle.counted_io.specs.Counted.{inner_of, faults_of}
+use Rattle.counted_io.specs.Counted.{failures_of, faults_of, inner_of}
 use Rattle.large_text.specs.Streamed.{KeepsText}
 use Rattle.large_command.proofs.TextInput.{IsMetered, IsTaken}
 use Rattle.large_command.proofs.text_input.take_input.Given as goal
@@ -14,6 +14,7 @@ invariant-pieces g l =
       text : KeepsText l.fn.text → KeepsText l.text;
       fewer : l.retries ≤ l.fn.retries;
       paid : faults_of l.reader + l.retries ≡ faults_of l.fn.reader + l.fn.retries;
+      tried_again : failures_of l.reader ≡ failures_of l.fn.reader;
     }
 
 abbrev pub decreases-pieces : goal.decreases-pieces

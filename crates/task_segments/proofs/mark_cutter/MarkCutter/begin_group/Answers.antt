@@ -9,11 +9,16 @@ pub children-children_before-requires : goal.children-children_before-requires
 children-children_before-requires c =
     running_has_row c.args.self.now c.requires.moment c.requires.tables
 
-pub returns : goal.returns
-returns c = λ e h.
+pub returns-clause-ok : goal.returns-clause-ok
+returns-clause-ok c = λ e h.
     let a = c.args.self.now in
-    let begun = c.in_ok-number.ensures e h.cuts in
+    let begun = c.in_ok-number.ensures.ok e h.cuts in
+    let pushed : GroupRow = record {
+      number = c.in_ok-number.number;
+      children_before = c.children-children_before.result;
+    } in
     takes_group_begins a _ e _ h begun.0 refl refl
-    (ap (λ (rows : List GroupRow). reverse rows) c.in_ok-push.ensures.items
-    ∙ reverse-append a.groups.items (_ ∷ [])) begun.1
+    (ap (λ (rows : List GroupRow). reverse rows) c.push_reserved.ensures.items
+    ∙ reverse-append c.reserve.new.self.items (pushed ∷ [])
+    ∙ ap (λ (rows : List GroupRow). pushed ∷ reverse rows) c.reserve.ensures.items) begun.1
     (c.children-children_before.ensures ∙ children_now a.cutter e a.running h.cuts (runs_now a e h))

@@ -1,0 +1,49 @@
+#!/usr/bin/env python3
+"""Times a program and the repaired one without the recorder, in turns, and records the first, all in one folder:
+
+    measure.py FOLDER NAME      FOLDER/NAME, FOLDER/NAME.fixed: FOLDER/NAME.json, FOLDER/NAME.spanprof
+"""
+import json
+import os
+import sys
+
+from programs import FIXED, kind_of
+from timing import busy_processes, interleaved
+
+TOP = os.path.dirname(os.path.dirname(os.path.dirname(os.path.dirname(os.path.abspath(__file__)))))
+sys.path.insert(0, os.path.join(TOP, "tools"))
+from spanprof.errors import Fault                   # noqa: E402
+from spanprof.record.command import record_as_asked  # noqa: E402
+from spanprof.record.options import parse           # noqa: E402
+from spanprof.record.session import Session         # noqa: E402
+
+THREADS = 4
+OPTIONS = {"memory": ["--full"]}    # what one run cannot tell
+MEDIAN_RUN = ["--runs", "5"]
+BUSY_PROCESSES = {"machine": 2 * THREADS}
+
+
+def record(path, kind, busy):
+    """What spanprof-record keeps of a run, without the diagnosis."""
+    words = ["--force", "--threads", str(THREADS), *OPTIONS.get(kind, MEDIAN_RUN), "--out", path, "--", path]
+    session = Session(parse(words))
+    with session.begun(), busy_processes(busy):
+        recorded, _ = record_as_asked(session)
+    if recorded.status or not recorded.found:
+        raise Fault("%s: status %d, and no recording" % (path, recorded.status))
+
+
+def measure(folder, name):
+    path, kind = os.path.join(folder, name), kind_of(name)
+    busy = BUSY_PROCESSES.get(kind, 0)
+    times = interleaved([path], [path + FIXED], THREADS, busy)
+    record(path, kind, busy)
+    with open(path + ".json", "w", encoding="utf-8") as file:
+        json.dump(times._asdict(), file)
+
+
+if __name__ == "__main__":
+    try:
+        measure(*sys.argv[1:])
+    except Fault as fault:
+        sys.exit(str(fault))

@@ -1,0 +1,37 @@
+import os
+import re
+import unittest
+
+from programs import KINDS, WITHOUT_A_PLACE, kind_of, marked, programs
+
+HERE = os.path.dirname(os.path.dirname(os.path.abspath(__file__)))
+OTHER = os.path.join(HERE, "other")
+
+
+class Programs(unittest.TestCase):
+    def test_a_kind_may_have_several_programs(self):
+        self.assertEqual([kind_of(name) for name in ("lock", "lock_object", "wait", "waiter")],
+                         ["lock", "lock", "wait", None])
+
+    def test_marked_lines(self):
+        self.assertEqual(marked("int a;\nint b; // <- cause\n// the cause\n"), (2,))
+
+    def test_each_kind_has_a_program(self):
+        for folder in (HERE, OTHER):
+            self.assertEqual({one.kind for one in programs(folder)}, set(KINDS))
+
+    def test_each_program_has_a_repair_and_a_place(self):
+        for one in programs(HERE) + programs(OTHER):
+            with open(one.source, encoding="utf-8") as file:
+                text = file.read()
+            alone = one.kind in WITHOUT_A_PLACE
+            self.assertEqual(bool(one.lines), not alone, one.name)
+            self.assertEqual(bool(re.search(r"^#if(n?def| )\s*FIXED", text, re.M)), not alone, one.name)
+
+    def test_chosen_by_kind_or_name(self):
+        self.assertEqual([one.name for one in programs(HERE, ["lock_object"])], ["lock_object"])
+        self.assertEqual([one.name for one in programs(HERE, ["lock", "serial"])], ["serial", "lock", "lock_object"])
+
+
+if __name__ == "__main__":
+    unittest.main()

@@ -1,0 +1,115 @@
+"""Runs programs of the distribution as they are and recorded, each in its own folder, and compares what comes of it.
+
+real.py PROGRAMS RECORDER [WORD ..]: those of a list whose command has one of the words, or all. A program is right
+where its status, what it prints and the files that it writes are as without the recorder, and the summary names the
+runtime. Lines that tell times are left out. Status 1: a program is wrong.
+"""
+import os
+import re
+import shlex
+import shutil
+import subprocess
+import sys
+import tempfile
+from dataclasses import dataclass
+
+import inputs
+
+SECONDS = 240
+VARIES = re.compile(rb"time|second|\bsec\b|date|speedup|memory|\d:\d\d|\d s\b", re.I)
+RUNTIME = re.compile(r"threads? of ((?:gcc|LLVM) \d+)")
+OUTPUT = "standard output"
+
+
+@dataclass
+class Left:
+    """What a run left: its status, each file's bytes without lines that vary, and standard error."""
+    status: object
+    files: dict
+    said: str
+
+
+def entries(listing):
+    """PACKAGE and words of the lines of a list."""
+    lines = (line.strip() for line in listing.splitlines())
+    return [(line.partition(":")[0], shlex.split(line.partition(":")[2])) for line in lines
+            if line and not line.startswith("#")]
+
+
+def steady(data):
+    return b"\n".join(line for line in data.split(b"\n") if not VARIES.search(line))
+
+
+def new_files(folder, old):
+    found = {}
+    for path, _, names in os.walk(folder):
+        for name in names:
+            full = os.path.join(path, name)
+            with open(full, "rb") as file:
+                data = steady(file.read())
+            if old.get(os.path.relpath(full, folder)) != data:
+                found[os.path.relpath(full, folder)] = data
+    return found
+
+
+def run(words, environment):
+    with tempfile.TemporaryDirectory() as folder:
+        inputs.main(folder)
+        old = new_files(folder, {})
+        try:
+            done = subprocess.run(words, cwd=folder, env=environment, capture_output=True, timeout=SECONDS,
+                                  stdin=subprocess.DEVNULL)
+        except subprocess.TimeoutExpired:
+            return Left("no end after %d seconds" % SECONDS, {}, "")
+        files = dict(new_files(folder, old), **{OUTPUT: steady(done.stdout)})
+    return Left(done.returncode, files, done.stderr.decode("utf-8", "replace"))
+
+
+def differences(plain, other):
+    """What is otherwise in the second run."""
+    if plain.status != other.status:
+        yield "status %s, and %s without the recorder" % (other.status, plain.status)
+    for name in sorted(set(plain.files) | set(other.files)):
+        if plain.files.get(name) != other.files.get(name):
+            yield "%s differs" % name
+
+
+def faults(plain, again, recorded):
+    """Files that differ between two runs without the recorder tell nothing."""
+    varies = set(differences(plain, again))
+    yield from (fault for fault in differences(plain, recorded) if fault not in varies)
+    if not RUNTIME.search(recorded.said):
+        yield "the summary names no runtime: %s" % recorded.said.strip()
+
+
+def try_program(words, recorder):
+    """What is wrong, and the runtime's name."""
+    environment = dict(os.environ, OMP_NUM_THREADS="2", OMP_WAIT_POLICY="passive")
+    plain, again = run(words, environment), run(words, environment)
+    with tempfile.TemporaryDirectory() as out:
+        recorded = run([recorder, "--out", os.path.join(out, "run"), "--", *words], environment)
+    named = RUNTIME.search(recorded.said)
+    return list(faults(plain, again, recorded)), "status %s, on %s" % (plain.status, named[1] if named else "nothing")
+
+
+def main(listing, recorder, *wanted):
+    wrong = tried = 0
+    with open(listing, encoding="utf-8") as file:
+        programs = entries(file.read())
+    for package, words in programs:
+        name = " ".join(words)
+        if wanted and not any(word in name for word in wanted):
+            continue
+        if not shutil.which(words[0]):
+            print("skipped: %s (package %s)" % (words[0], package))
+            continue
+        found, told = try_program(words, recorder)
+        tried += 1
+        wrong += bool(found)
+        print("%s: %s%s" % (name, told, "".join("\n  " + fault for fault in found)), flush=True)
+    print("%d programs, %d wrong" % (tried, wrong))
+    return 1 if wrong or not tried else 0
+
+
+if __name__ == "__main__":
+    sys.exit(main(*sys.argv[1:]))

@@ -1,0 +1,13 @@
+#!/usr/bin/env bash
+# Runs programs of Debian's packages (checks/real/programs.txt) with small inputs, as they are and recorded on the runtime
+# that they are linked with: status, output and files have to be the same, and the summary has to name the runtime
+# (checks/real/real.py). Run it by hand. Build spanprof first; run.sh [WORD ..]: commands with one of the words.
+set -euo pipefail
+cd "$(dirname "$0")/../.."
+# shellcheck source=checks/needs.sh
+. checks/needs.sh
+needs_spanprof
+needs_llvm
+python3 -B -m unittest discover -q -s checks/real/tests -t checks/real
+make -s -C tools/openmp_recorder LLVM="$llvm"
+exec python3 -B checks/real/real.py checks/real/programs.txt "$PWD/tools/spanprof-record" "$@"

@@ -1,0 +1,28 @@
+// Each turn of a loop may create tasks; the barrier at the loop's end waits for them all.
+// openmp: 11.5 worksharing-loop constructs, 15.3.2 implicit barriers
+#include "expect.h"
+
+static long ended;
+
+int main(void) {
+  for (int round = 0; round < 20; round++) {
+    ended = 0;
+#pragma omp parallel
+    {
+#pragma omp for schedule(dynamic, 3)
+      for (int i = 0; i < 40; i++) {
+#pragma omp task
+        {
+          if (i % 8 == 0) linger();
+#pragma omp atomic
+          ended++;
+        }
+      }
+      long seen;
+#pragma omp atomic read
+      seen = ended;
+      expect("tasks that have ended behind the loop", seen, 40);
+    }
+  }
+  return wrong;
+}

@@ -1,0 +1,50 @@
+// Once a group is cancelled, tasks of it that have not begun need not run, those that have begun end at a cancellation
+// point, and the group ends.
+// openmp: 16.1 cancel construct, 16.2 cancellation point construct
+// env: OMP_CANCELLATION=true
+#include "expect.h"
+
+#define LONG_AFTER 200
+
+static int cancelling;
+
+static int seen(int *flag) {
+  int value;
+#pragma omp atomic read
+  value = *flag;
+  return value;
+}
+
+int main(void) {
+  expect("whether cancellation counts", omp_get_cancellation(), 1);
+  for (int round = 0; round < 10; round++) {
+    int behind_point = 0, behind_cancel = 0;
+    cancelling = 0;
+#pragma omp parallel
+#pragma omp single
+#pragma omp taskgroup
+    for (int i = 0; i < 16; i++) {
+#pragma omp task shared(behind_point, behind_cancel)
+      {
+        if (i == 3) {
+#pragma omp atomic write
+          cancelling = 1;
+#pragma omp cancel taskgroup
+#pragma omp atomic
+          behind_cancel++;
+        }
+        int after = 0;
+        for (int turn = 0; turn < 20 || (seen(&cancelling) && after < LONG_AFTER); turn++) {
+#pragma omp cancellation point taskgroup
+          after += seen(&cancelling);
+          usleep(50);
+        }
+#pragma omp atomic
+        behind_point += after == LONG_AFTER;
+      }
+    }
+    expect("tasks that went on behind cancel", behind_cancel, 0);
+    expect("tasks that went on long after the group was cancelled", behind_point, 0);
+  }
+  return wrong;
+}

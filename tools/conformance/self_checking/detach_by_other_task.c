@@ -1,0 +1,28 @@
+// A sibling fulfils the event of a detached task; taskwait waits until then.
+// openmp: 12.5.2 detach clause, 18.11 event routine
+#include "expect.h"
+
+int main(void) {
+  for (int round = 0; round < 20; round++) {
+    int fulfilled = 0, seen;
+#pragma omp parallel
+#pragma omp single
+    {
+      omp_event_handle_t event = (omp_event_handle_t)0;
+#pragma omp task detach(event)
+      linger();
+#pragma omp task firstprivate(event) shared(fulfilled)
+      {
+        linger();
+#pragma omp atomic write
+        fulfilled = 1;
+        omp_fulfill_event(event);
+      }
+#pragma omp taskwait
+#pragma omp atomic read
+      seen = fulfilled;
+      expect("whether the event was fulfilled before taskwait ended", seen, 1);
+    }
+  }
+  return wrong;
+}

@@ -1,0 +1,57 @@
+// The event of a detached task is fulfilled before the task begins, and in the task itself: it ends with its code.
+// openmp: 12.5.2 detach clause, 18.11 event routine
+#include "expect.h"
+
+static int ended;
+
+static void before_it_begins(void) {
+  omp_event_handle_t event = (omp_event_handle_t)0;
+  int gate = 0, item = 0;
+  (void)gate, (void)item;
+#pragma omp task depend(out : gate)
+  linger();
+#pragma omp task detach(event) depend(in : gate) depend(out : item)
+  {
+    linger();
+#pragma omp atomic
+    ended++;
+  }
+  omp_fulfill_event(event);
+#pragma omp task depend(in : item)
+  {
+    int seen;
+#pragma omp atomic read
+    seen = ended;
+    expect("whether the code has ended before the dependent task", seen, 1);
+  }
+#pragma omp taskwait
+}
+
+static void in_itself(void) {
+  omp_event_handle_t event = (omp_event_handle_t)0;
+#pragma omp task detach(event)
+  {
+    omp_fulfill_event(event);
+    linger();
+#pragma omp atomic
+    ended++;
+  }
+#pragma omp taskwait
+  int seen;
+#pragma omp atomic read
+  seen = ended;
+  expect("whether the code has ended behind taskwait", seen, 2);
+}
+
+int main(void) {
+  for (int round = 0; round < 20; round++) {
+    ended = 0;
+#pragma omp parallel
+#pragma omp single
+    {
+      before_it_begins();
+      in_itself();
+    }
+  }
+  return wrong;
+}

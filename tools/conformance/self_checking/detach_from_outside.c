@@ -1,0 +1,53 @@
+// A thread outside of the team fulfils the event of a detached task, behind which a dependent task goes on.
+// openmp: 12.5.2 detach clause, 18.11 event routine
+#include <pthread.h>
+
+#include "expect.h"
+
+static omp_event_handle_t handed_over;
+static int created, fulfilled;
+
+static void *outside(void *unused) {
+  int go;
+  do {
+#pragma omp atomic read
+    go = created;
+  } while (!go);
+  linger();
+#pragma omp atomic write
+  fulfilled = 1;
+  omp_fulfill_event(handed_over);
+  return unused;
+}
+
+static void detached_then_dependent(void) {
+  omp_event_handle_t event = (omp_event_handle_t)0;
+  int item = 0;
+  (void)item;
+#pragma omp task detach(event) depend(out : item)
+  linger();
+  handed_over = event;
+#pragma omp atomic write
+  created = 1;
+#pragma omp task depend(in : item)
+  {
+    int seen;
+#pragma omp atomic read
+    seen = fulfilled;
+    expect("whether the event was fulfilled before the dependent task", seen, 1);
+  }
+}
+
+int main(void) {
+  for (int round = 0; round < 10; round++) {
+    pthread_t thread;
+    created = fulfilled = 0;
+    if (pthread_create(&thread, NULL, outside, NULL)) return 0;
+#pragma omp parallel
+#pragma omp single
+    detached_then_dependent();
+    expect("whether the event was fulfilled before the region's end", fulfilled, 1);
+    pthread_join(thread, NULL);
+  }
+  return wrong;
+}

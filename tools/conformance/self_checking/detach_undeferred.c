@@ -1,0 +1,56 @@
+// An undeferred task with detach has run before its creator goes on; tasks that depend on it wait for its event.
+// openmp: 12.5.2 detach clause, 12.5 task construct (if clause), 18.11 event routine
+#include <pthread.h>
+
+#include "expect.h"
+
+static omp_event_handle_t handed_over;
+static int created, fulfilled;
+
+static void *outside(void *unused) {
+  int go;
+  do {
+#pragma omp atomic read
+    go = created;
+  } while (!go);
+  usleep(2000);
+#pragma omp atomic write
+  fulfilled = 1;
+  omp_fulfill_event(handed_over);
+  return unused;
+}
+
+static void undeferred_then_dependent(void) {
+  omp_event_handle_t event = (omp_event_handle_t)0;
+  int item = 0, ran = 0;
+  (void)item;
+#pragma omp task detach(event) if (0) depend(out : item) shared(ran)
+  {
+    ran = 1;
+    handed_over = event;
+#pragma omp atomic write
+    created = 1;
+  }
+  expect("whether the undeferred task has run", ran, 1);
+#pragma omp task depend(in : item)
+  {
+    int seen;
+#pragma omp atomic read
+    seen = fulfilled;
+    expect("whether the event was fulfilled before the dependent task", seen, 1);
+  }
+}
+
+int main(void) {
+  for (int round = 0; round < 10; round++) {
+    pthread_t thread;
+    created = fulfilled = 0;
+    if (pthread_create(&thread, NULL, outside, NULL)) return 0;
+#pragma omp parallel
+#pragma omp single
+    undeferred_then_dependent();
+    expect("whether the event was fulfilled before the region's end", fulfilled, 1);
+    pthread_join(thread, NULL);
+  }
+  return wrong;
+}

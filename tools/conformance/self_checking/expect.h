@@ -1,0 +1,18 @@
+// What a program of this folder saw and what is right, as a line for each difference; main returns `wrong`.
+#include <omp.h>
+#include <stdio.h>
+#include <unistd.h>
+
+static int wrong;
+
+static inline void expect(const char *what, long seen, long right) {
+  if (seen == right) return;
+#pragma omp critical(expecting)
+  {
+    printf("%s: %ld was seen, %ld is right\n", what, seen, right);
+    wrong = 1;
+  }
+}
+
+// So long that other threads get ahead where nothing holds them back.
+static inline void linger(void) { usleep(200); }

@@ -1,0 +1,33 @@
+// What a task sets for itself (threads of its regions, schedule) its creator and its siblings do not see; children do.
+// openmp: 2.2 internal control variables, 2.3.2 how they relate to tasks
+#include "expect.h"
+
+static void look_from_child(int threads) {
+#pragma omp task
+  expect("threads as the child of the task that set them", omp_get_max_threads(), threads);
+#pragma omp taskwait
+}
+
+int main(void) {
+  for (int round = 0; round < 20; round++) {
+#pragma omp parallel
+#pragma omp single
+    {
+      int before = omp_get_max_threads();
+#pragma omp task
+      {
+        omp_set_num_threads(before + 3);
+        omp_set_schedule(omp_sched_dynamic, 7);
+        look_from_child(before + 3);
+      }
+#pragma omp taskwait
+      expect("threads as the creator of the task that set them", omp_get_max_threads(), before);
+#pragma omp task
+      expect("threads as its sibling", omp_get_max_threads(), before);
+#pragma omp task if(0)
+      omp_set_num_threads(before + 5);
+      expect("threads as the creator of an undeferred task that set them", omp_get_max_threads(), before);
+    }
+  }
+  return wrong;
+}

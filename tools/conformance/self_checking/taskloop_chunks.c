@@ -1,0 +1,57 @@
+// With grainsize(g) each task has g to 2g - 1 turns, as long as there are so many; num_tasks(n) makes min(n, turns) tasks.
+// openmp: 12.6.1 grainsize clause, 12.6.2 num_tasks clause
+#include "expect.h"
+
+#define TURNS 100
+static int turns_of[TURNS + 1], tasks;
+
+static int number_of_task(int *number) {
+  if (*number < 0) {
+#pragma omp atomic capture
+    *number = tasks++;
+  }
+  return *number;
+}
+
+static void count(int *number) {
+  int task = number_of_task(number);
+#pragma omp atomic
+  turns_of[task]++;
+}
+
+static void forget(void) {
+  for (int i = 0; i < TURNS; i++) turns_of[i] = 0;
+  tasks = 0;
+}
+
+static void by_grain(int turns, int grain) {
+  int number = -1, sum = 0;
+#pragma omp taskloop grainsize(grain) firstprivate(number)
+  for (int i = 0; i < turns; i++) count(&number);
+  for (int i = 0; i < tasks; i++) {
+    sum += turns_of[i];
+    expect("a task with fewer turns than the grain", turns_of[i] < grain && turns >= grain, 0);
+    expect("a task with twice the grain or more", turns_of[i] >= 2 * grain, 0);
+  }
+  expect("turns of all tasks", sum, turns);
+  forget();
+}
+
+static void by_number(int turns, int wanted) {
+  int number = -1;
+#pragma omp taskloop num_tasks(wanted) firstprivate(number)
+  for (int i = 0; i < turns; i++) count(&number);
+  expect("tasks by num_tasks", tasks, wanted < turns ? wanted : turns);
+  forget();
+}
+
+int main(void) {
+#pragma omp parallel
+#pragma omp single
+  for (int turns = 1; turns <= 30; turns += 3)
+    for (int size = 1; size <= 12; size++) {
+      by_grain(turns, size);
+      by_number(turns, size);
+    }
+  return wrong;
+}

@@ -1,0 +1,28 @@
+// A taskwait with depend waits for the tasks that it depends on, and needs no other.
+// openmp: 15.5 taskwait construct, 15.9.5 depend clause
+#include "expect.h"
+
+int main(void) {
+  for (int round = 0; round < 20; round++) {
+    int a = 0, b = 0;
+    (void)b;
+#pragma omp parallel
+#pragma omp single
+    {
+#pragma omp task depend(out : a)
+      {
+        linger();
+#pragma omp atomic write
+        a = 1;
+      }
+#pragma omp task depend(out : b)
+      linger();
+#pragma omp taskwait depend(in : a)
+      int seen;
+#pragma omp atomic read
+      seen = a;
+      expect("whether the task has ended behind taskwait", seen, 1);
+    }
+  }
+  return wrong;
+}

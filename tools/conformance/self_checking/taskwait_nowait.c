@@ -1,0 +1,29 @@
+// A taskwait with depend and nowait does not wait itself; tasks behind it that share its items do.
+// openmp: 15.5 taskwait construct, 15.6 nowait clause
+#include "expect.h"
+
+int main(void) {
+  for (int round = 0; round < 20; round++) {
+    int a = 0, b = 0, ended = 0;
+    (void)a, (void)b;
+#pragma omp parallel
+#pragma omp single
+    {
+#pragma omp task depend(out : a) shared(ended)
+      {
+        linger();
+#pragma omp atomic write
+        ended = 1;
+      }
+#pragma omp taskwait depend(in : a) depend(out : b) nowait
+#pragma omp task depend(in : b) shared(ended)
+      {
+        int seen;
+#pragma omp atomic read
+        seen = ended;
+        expect("whether the first task has ended before the last", seen, 1);
+      }
+    }
+  }
+  return wrong;
+}

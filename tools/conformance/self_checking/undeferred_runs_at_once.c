@@ -1,0 +1,30 @@
+// A task with if(0), and each one that is included, has run before its creator goes on, and behind what it depends on.
+// openmp: 12.5 task construct, 12.3 final clause
+#include "expect.h"
+
+int main(void) {
+  for (int round = 0; round < 20; round++) {
+    int first = 0, second = 0, item = 0;
+    (void)item;
+#pragma omp parallel
+#pragma omp single
+    {
+#pragma omp task depend(out : item) shared(first)
+      {
+        linger();
+#pragma omp atomic write
+        first = 1;
+      }
+#pragma omp task if(0) depend(in : item) shared(first, second)
+      {
+        int seen;
+#pragma omp atomic read
+        seen = first;
+        expect("whether the task before has ended", seen, 1);
+        second = 1;
+      }
+      expect("whether the undeferred task has run", second, 1);
+    }
+  }
+  return wrong;
+}

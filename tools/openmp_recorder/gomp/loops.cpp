@@ -1,0 +1,204 @@
+// Loops and sections, whose chunks a thread gets one by one. Of a static loop whose chunks gcc's code finds by itself
+// nothing is called.
+#include "../callbacks.hpp"
+#include "here.hpp"
+#include "own.hpp"
+#include "turns.hpp"
+#include "waits.hpp"
+
+namespace {
+using Unsigned = unsigned long long;
+
+void begin_divided(ompt_work_t what, uint64_t turns, const void *place) {
+  Here &own = here();
+  end_divided();
+  own.in_divided = true;
+  own.divided = what;
+  on_work(what, ompt_scope_begin, nullptr, own.task, turns, place);
+}
+
+void tell_chunk(ompt_dispatch_t kind, uint64_t turns) {
+  DispatchedChunk chunk{0, turns};
+  ompt_data_t instance;
+  instance.ptr = &chunk;
+  on_dispatch(nullptr, nullptr, kind, instance);
+}
+
+bool got_chunk(bool is_there, uint64_t turns) {
+  if (is_there && turns) tell_chunk(static_cast<ompt_dispatch_t>(dispatched_chunk), turns);
+  if (!is_there) end_divided();
+  return is_there;
+}
+
+// The loop's bounds may be those of its chunk.
+bool got(bool is_there, const long *from, const long *to) {
+  return got_chunk(is_there, from ? turns_between(*from, *to, here().step) : 0);
+}
+bool got(bool is_there, const Unsigned *from, const Unsigned *to) {
+  auto step = here().step;
+  return got_chunk(is_there, from ? turns_between(step > 0, *from, *to, static_cast<Unsigned>(step)) : 0);
+}
+
+void begin_loop(long from, long to, long step, const void *place) {
+  here().step = step;
+  begin_divided(ompt_work_loop, turns_between(from, to, step), place);
+}
+void begin_loop(bool is_up, Unsigned from, Unsigned to, Unsigned step, const void *place) {
+  here().step = static_cast<int64_t>(step);
+  begin_divided(ompt_work_loop, turns_between(is_up, from, to, step), place);
+}
+
+// Of loops within each other that `ordered` names the outermost is divided.
+template <class Turn>
+void begin_crossed(unsigned counts, const Turn *turns, const void *place) {
+  here().step = 1;
+  here().counts = counts;
+  begin_divided(ompt_work_loop, static_cast<uint64_t>(turns[0]), place);
+}
+
+unsigned got_section(unsigned number) {
+  if (number) tell_chunk(static_cast<ompt_dispatch_t>(dispatched_section), 1);
+  else end_divided();
+  return number;
+}
+}  // namespace
+
+void end_divided() {
+  Here &own = here();
+  if (!own.in_divided) return;
+  own.in_divided = false;
+  on_work(own.divided, ompt_scope_end, nullptr, own.task, 0, nullptr);
+}
+
+#define START(name)                                                                    \
+  ENTRY bool name(long from, long to, long step, long chunk, long *first, long *end) { \
+    ENTER(name, from, to, step, chunk, first, end);                                    \
+    begin_loop(from, to, step, PLACE);                                                 \
+    return got(own_##name(from, to, step, chunk, first, end), first, end);             \
+  }
+#define START_ULL(name)                                                                                   \
+  ENTRY bool name(bool is_up, Unsigned from, Unsigned to, Unsigned step, Unsigned chunk, Unsigned *first, \
+                  Unsigned *end) {                                                                        \
+    ENTER(name, is_up, from, to, step, chunk, first, end);                                                \
+    begin_loop(is_up, from, to, step, PLACE);                                                             \
+    return got(own_##name(is_up, from, to, step, chunk, first, end), first, end);                         \
+  }
+#define NEXT(name, Turn)                            \
+  ENTRY bool name(Turn *first, Turn *end) {         \
+    ENTER(name, first, end);                        \
+    return got(own_##name(first, end), first, end); \
+  }
+#define LOOP(schedule)                        \
+  START(GOMP_loop_##schedule##_start)         \
+  NEXT(GOMP_loop_##schedule##_next, long)     \
+  START_ULL(GOMP_loop_ull_##schedule##_start) \
+  NEXT(GOMP_loop_ull_##schedule##_next, Unsigned)
+LOOP(static)
+LOOP(dynamic)
+LOOP(guided)
+LOOP(nonmonotonic_dynamic)
+LOOP(nonmonotonic_guided)
+LOOP(ordered_static)
+LOOP(ordered_dynamic)
+LOOP(ordered_guided)
+
+// The schedule and the size of its chunks are those of OMP_SCHEDULE.
+#define START_BY_SETTING(name)                                             \
+  ENTRY bool name(long from, long to, long step, long *first, long *end) { \
+    ENTER(name, from, to, step, first, end);                               \
+    begin_loop(from, to, step, PLACE);                                     \
+    return got(own_##name(from, to, step, first, end), first, end);        \
+  }
+#define START_BY_SETTING_ULL(name)                                                                         \
+  ENTRY bool name(bool is_up, Unsigned from, Unsigned to, Unsigned step, Unsigned *first, Unsigned *end) { \
+    ENTER(name, is_up, from, to, step, first, end);                                                        \
+    begin_loop(is_up, from, to, step, PLACE);                                                              \
+    return got(own_##name(is_up, from, to, step, first, end), first, end);                                 \
+  }
+#define LOOP_BY_SETTING(schedule)                        \
+  START_BY_SETTING(GOMP_loop_##schedule##_start)         \
+  NEXT(GOMP_loop_##schedule##_next, long)                \
+  START_BY_SETTING_ULL(GOMP_loop_ull_##schedule##_start) \
+  NEXT(GOMP_loop_ull_##schedule##_next, Unsigned)
+LOOP_BY_SETTING(runtime)
+LOOP_BY_SETTING(nonmonotonic_runtime)
+LOOP_BY_SETTING(maybe_nonmonotonic_runtime)
+LOOP_BY_SETTING(ordered_runtime)
+
+// With reductions for tasks or with memory of the construct's own. A loop without `first` finds its chunks by itself.
+#define START_WITH_MORE(name)                                                                            \
+  ENTRY bool name(long from, long to, long step, long schedule, long chunk, long *first, long *end,      \
+                  uintptr_t *reductions, void **memory) {                                                \
+    ENTER(name, from, to, step, schedule, chunk, first, end, reductions, memory);                        \
+    if (reductions) begin_group(PLACE);                                                                  \
+    if (first) begin_loop(from, to, step, PLACE);                                                        \
+    return got(own_##name(from, to, step, schedule, chunk, first, end, reductions, memory), first, end); \
+  }
+#define START_WITH_MORE_ULL(name)                                                                               \
+  ENTRY bool name(bool is_up, Unsigned from, Unsigned to, Unsigned step, long schedule, Unsigned chunk,         \
+                  Unsigned *first, Unsigned *end, uintptr_t *reductions, void **memory) {                       \
+    ENTER(name, is_up, from, to, step, schedule, chunk, first, end, reductions, memory);                        \
+    if (reductions) begin_group(PLACE);                                                                         \
+    if (first) begin_loop(is_up, from, to, step, PLACE);                                                        \
+    return got(own_##name(is_up, from, to, step, schedule, chunk, first, end, reductions, memory), first, end); \
+  }
+START_WITH_MORE(GOMP_loop_start)
+START_WITH_MORE(GOMP_loop_ordered_start)
+START_WITH_MORE_ULL(GOMP_loop_ull_start)
+START_WITH_MORE_ULL(GOMP_loop_ull_ordered_start)
+
+#define START_CROSSED(name, Turn)                                                     \
+  ENTRY bool name(unsigned counts, Turn *turns, Turn chunk, Turn *first, Turn *end) { \
+    ENTER(name, counts, turns, chunk, first, end);                                    \
+    begin_crossed(counts, turns, PLACE);                                              \
+    return got(own_##name(counts, turns, chunk, first, end), first, end);             \
+  }
+#define START_CROSSED_BY_SETTING(name, Turn)                              \
+  ENTRY bool name(unsigned counts, Turn *turns, Turn *first, Turn *end) { \
+    ENTER(name, counts, turns, first, end);                               \
+    begin_crossed(counts, turns, PLACE);                                  \
+    return got(own_##name(counts, turns, first, end), first, end);        \
+  }
+#define START_CROSSED_WITH_MORE(name, Turn)                                                             \
+  ENTRY bool name(unsigned counts, Turn *turns, long schedule, Turn chunk, Turn *first, Turn *end,      \
+                  uintptr_t *reductions, void **memory) {                                               \
+    ENTER(name, counts, turns, schedule, chunk, first, end, reductions, memory);                        \
+    if (reductions) begin_group(PLACE);                                                                 \
+    if (first) begin_crossed(counts, turns, PLACE);                                                     \
+    return got(own_##name(counts, turns, schedule, chunk, first, end, reductions, memory), first, end); \
+  }
+#define CROSSED(kind, Turn)                                            \
+  START_CROSSED(GOMP_##kind##_doacross_static_start, Turn)             \
+  START_CROSSED(GOMP_##kind##_doacross_dynamic_start, Turn)            \
+  START_CROSSED(GOMP_##kind##_doacross_guided_start, Turn)             \
+  START_CROSSED_BY_SETTING(GOMP_##kind##_doacross_runtime_start, Turn) \
+  START_CROSSED_WITH_MORE(GOMP_##kind##_doacross_start, Turn)
+CROSSED(loop, long)
+CROSSED(loop_ull, Unsigned)
+
+#define END(name)     \
+  ENTRY void name() { \
+    ENTER(name);      \
+    end_divided();    \
+    own_##name();     \
+  }
+END(GOMP_loop_end_nowait)
+END(GOMP_sections_end_nowait)
+
+ENTRY unsigned GOMP_sections_start(unsigned count) {
+  ENTER(GOMP_sections_start, count);
+  begin_divided(ompt_work_sections, count, PLACE);
+  return got_section(own_GOMP_sections_start(count));
+}
+
+ENTRY unsigned GOMP_sections2_start(unsigned count, uintptr_t *reductions, void **memory) {
+  ENTER(GOMP_sections2_start, count, reductions, memory);
+  if (reductions) begin_group(PLACE);
+  begin_divided(ompt_work_sections, count, PLACE);
+  return got_section(own_GOMP_sections2_start(count, reductions, memory));
+}
+
+ENTRY unsigned GOMP_sections_next() {
+  ENTER(GOMP_sections_next);
+  return got_section(own_GOMP_sections_next());
+}

@@ -1,0 +1,73 @@
+// Turns of a loop that wait for each other: `ordered`, with `depend` or without.
+#include <stdarg.h>
+
+#include <algorithm>
+#include <vector>
+
+#include "../callbacks.hpp"
+#include "../told.hpp"
+#include "here.hpp"
+#include "own.hpp"
+
+namespace {
+using Unsigned = unsigned long long;
+constexpr auto order = static_cast<ompt_mutex_t>(order_of_turns);
+constexpr unsigned most_loops = 16;  // within each other
+
+// The turn by its numbers in the loops.
+template <class Turn>
+void tell_turn(const Turn *numbers, ompt_dependence_type_t type) {
+  std::vector<ompt_dependence_t> items(here().counts);
+  for (size_t i = 0; i < items.size(); i++) {
+    items[i].variable.value = static_cast<uint64_t>(numbers[i]);
+    items[i].dependence_type = type;
+  }
+  on_dependences(here().task, items.data(), static_cast<int>(items.size()));
+}
+
+ompt_wait_id_t name_of_order() { return reinterpret_cast<ompt_wait_id_t>(&this_here.counts) | 1; }
+}  // namespace
+
+ENTRY void GOMP_ordered_start() {
+  ENTER(GOMP_ordered_start);
+  here();
+  on_lock_asked(order, 0, 0, name_of_order(), PLACE);
+  own_GOMP_ordered_start();
+  on_lock_got(order, name_of_order(), PLACE);
+}
+
+ENTRY void GOMP_ordered_end() {
+  ENTER(GOMP_ordered_end);
+  on_lock_left(order, name_of_order(), PLACE);
+  own_GOMP_ordered_end();
+}
+
+ENTRY void GOMP_doacross_post(long *turn) {
+  ENTER(GOMP_doacross_post, turn);
+  tell_turn(turn, ompt_dependence_type_source);
+  own_GOMP_doacross_post(turn);
+}
+
+ENTRY void GOMP_doacross_ull_post(Unsigned *turn) {
+  ENTER(GOMP_doacross_ull_post, turn);
+  tell_turn(turn, ompt_dependence_type_source);
+  own_GOMP_doacross_ull_post(turn);
+}
+
+// The turn's numbers in the inner loops follow that in the outermost.
+#define WAIT(name, Turn)                                                                                              \
+  ENTRY void name(Turn first, ...) {                                                                                  \
+    static const auto llvms = reinterpret_cast<decltype(&name)>(llvms_function(#name));                               \
+    static const auto own = llvms ? llvms : reinterpret_cast<decltype(&name)>(own_function(#name));                   \
+    unsigned counts = llvms ? most_loops : std::min(here().counts, most_loops);                                       \
+    Turn turn[most_loops] = {first};                                                                                  \
+    va_list more;                                                                                                     \
+    va_start(more, first);                                                                                            \
+    for (unsigned i = 1; i < counts; i++) turn[i] = va_arg(more, Turn);                                               \
+    va_end(more);                                                                                                     \
+    own(turn[0], turn[1], turn[2], turn[3], turn[4], turn[5], turn[6], turn[7], turn[8], turn[9], turn[10], turn[11], \
+        turn[12], turn[13], turn[14], turn[15]);                                                                      \
+    if (!llvms) tell_turn(turn, ompt_dependence_type_sink);                                                           \
+  }
+WAIT(GOMP_doacross_wait, long)
+WAIT(GOMP_doacross_ull_wait, Unsigned)

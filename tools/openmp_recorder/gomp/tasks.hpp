@@ -1,0 +1,67 @@
+// Tasks: the runtime is handed a function and data of ours, in which those of the program are.
+#pragma once
+#include <omp-tools.h>
+
+#include <cstdint>
+#include <cstring>
+
+#include "here.hpp"
+
+using Code = void (*)(void *);
+using Copier = void (*)(void *, void *);
+
+enum Flags : unsigned {
+  task_is_final = 2,
+  task_depends = 8,
+  loop_is_up = 1 << 8,
+  loop_has_grainsize = 1 << 9,
+  loop_is_deferred = 1 << 10,  // by its `if`
+  loop_without_group = 1 << 11,
+  loop_reduces = 1 << 12,
+  task_is_detached = 1 << 13
+};
+
+// What stands in front of the program's data. The runtime writes into its first words: of a taskloop's task the bounds,
+// of a detached one its event.
+struct Head {
+  uint64_t written[2];
+  Code code;
+  ompt_data_t task;
+  const void *place;
+  uint32_t start;  // of the program's data, from here
+  int flags;  // as the tools interface has them
+  unsigned words_written : 2;  // that are the program's
+  unsigned is_final : 1, is_detached : 1;
+  unsigned waits : 1;  // for what it depends on, before it begins
+  unsigned is_told_at_start : 1;  // that it is made
+  unsigned may_be_cancelled : 1;  // though the runtime would run it, since it has a copier
+  void *data() { return reinterpret_cast<char *>(this) + start; }
+};
+
+// What is copied to make a task.
+struct Given {
+  Head head;
+  Copier copier;  // of the program's data; none where bytes are copied
+  void *from;
+  long bytes;
+  void copy_to(void *to) const {
+    auto *made = static_cast<Head *>(std::memcpy(to, &head, sizeof head));
+    if (copier) copier(made->data(), from);
+    else if (bytes) std::memcpy(made->data(), from, static_cast<size_t>(bytes));
+  }
+};
+
+inline long aligned(long alignment) {
+  constexpr long least = alignof(Head);
+  return alignment < least ? least : alignment;
+}
+inline uint32_t start_of_data(long alignment) {
+  long to = aligned(alignment);
+  return static_cast<uint32_t>((static_cast<long>(sizeof(Head)) + to - 1) & -to);
+}
+
+void run_task(void *head);
+void tell_task(Here &own, Head &, void **depend);  // that it is made
+void make_empty_task(void **depend, const void *place);
+enum Cancelled { cancelled_region = 1, cancelled_group = 8 };
+bool is_cancelled(Cancelled what);  // of the task that runs; a group also where its region is

@@ -1,0 +1,128 @@
+// Waits for tasks, groups, barriers, and what is cancelled.
+#include "../callbacks.hpp"
+#include "here.hpp"
+#include "items.hpp"
+#include "own.hpp"
+#include "waits.hpp"
+
+void begin_group(const void *place) {
+  on_sync(ompt_sync_region_taskgroup, ompt_scope_begin, nullptr, here().task, place);
+}
+
+void tell_wait_for(void **depend, int flags, const void *place) {
+  std::vector<ompt_dependence_t> items = items_of(depend);
+  ompt_data_t none = {0};
+  flags |= ompt_task_explicit | ompt_task_taskwait | ompt_task_undeferred;
+  on_create(here().task, nullptr, &none, flags, 0, place);
+  on_dependences(&none, items.data(), static_cast<int>(items.size()));
+}
+
+void tell_waited_for() {
+  ompt_data_t none = {0};
+  on_schedule(&none, ompt_taskwait_complete, nullptr);
+}
+
+void wait_for(void **depend, const void *place) {
+  static const auto own = reinterpret_cast<void (*)(void **)>(own_function("GOMP_taskwait_depend"));
+  tell_wait_for(depend, waits_alone, place);
+  own(depend);
+  tell_waited_for();
+}
+
+namespace {
+class GroupEnd {
+ public:
+  explicit GroupEnd(const void *of) : place(of) { tell(ompt_scope_begin); }
+  ~GroupEnd() {
+    tell(ompt_scope_end);
+    on_sync(ompt_sync_region_taskgroup, ompt_scope_end, nullptr, here().task, place);
+  }
+
+ private:
+  const void *place;
+  void tell(ompt_scope_endpoint_t endpoint) const {
+    on_sync_wait(ompt_sync_region_taskgroup, endpoint, nullptr, here().task, place);
+  }
+};
+
+enum { loop_or_sections = 2 | 4, region = 1, group = 8 };
+
+int flags_of(int which, bool is_asked) {
+  constexpr int activated = 0x10, detected = 0x20;
+  int what = which & region ? ompt_cancel_parallel : which & group ? ompt_cancel_taskgroup : ompt_cancel_loop;
+  return what | (is_asked ? activated : detected);
+}
+
+bool tell_cancelled(bool is_cancelled, int which, bool is_asked, const void *place) {
+  if (is_cancelled) on_cancel(here().task, flags_of(which, is_asked), place);
+  return is_cancelled;
+}
+}  // namespace
+
+ENTRY void GOMP_taskwait() {
+  ENTER(GOMP_taskwait);
+  Here &own = here();
+  on_sync(ompt_sync_region_taskwait, ompt_scope_begin, nullptr, own.task, PLACE);
+  own_GOMP_taskwait();
+  on_sync(ompt_sync_region_taskwait, ompt_scope_end, nullptr, own.task, PLACE);
+}
+
+ENTRY void GOMP_taskwait_depend(void **depend) {
+  PASS_ON(GOMP_taskwait_depend, depend);
+  wait_for(depend, PLACE);
+}
+
+ENTRY void GOMP_taskgroup_start() {
+  ENTER(GOMP_taskgroup_start);
+  begin_group(PLACE);
+  own_GOMP_taskgroup_start();
+}
+
+ENTRY void GOMP_taskgroup_end() {
+  ENTER(GOMP_taskgroup_end);
+  GroupEnd end(PLACE);
+  own_GOMP_taskgroup_end();
+}
+
+#define BARRIER(answer, name, kind) \
+  ENTRY answer name() {             \
+    ENTER(name);                    \
+    end_divided();                  \
+    Barrier barrier(kind, PLACE);   \
+    return own_##name();            \
+  }
+BARRIER(void, GOMP_barrier, ompt_sync_region_barrier_explicit)
+BARRIER(bool, GOMP_barrier_cancel, ompt_sync_region_barrier_explicit)
+BARRIER(void, GOMP_loop_end, ompt_sync_region_barrier_implicit_workshare)
+BARRIER(bool, GOMP_loop_end_cancel, ompt_sync_region_barrier_implicit_workshare)
+BARRIER(void, GOMP_sections_end, ompt_sync_region_barrier_implicit_workshare)
+BARRIER(bool, GOMP_sections_end_cancel, ompt_sync_region_barrier_implicit_workshare)
+
+// The group of a construct with reductions for tasks ends, and then the construct, with a barrier.
+ENTRY void GOMP_workshare_task_reduction_unregister(bool is_cancelled) {
+  ENTER(GOMP_workshare_task_reduction_unregister, is_cancelled);
+  static const auto own_barrier = reinterpret_cast<void (*)()>(own_function("GOMP_barrier"));
+  {
+    GroupEnd end(PLACE);
+    own_GOMP_workshare_task_reduction_unregister(true);
+  }
+  if (is_cancelled) return;
+  Barrier barrier(ompt_sync_region_barrier_implicit_workshare, PLACE);
+  own_barrier();
+}
+
+ENTRY void GOMP_scope_start(uintptr_t *reductions) {
+  ENTER(GOMP_scope_start, reductions);
+  begin_group(PLACE);
+  own_GOMP_scope_start(reductions);
+}
+
+ENTRY bool GOMP_cancel(int which, bool is_asked) {
+  ENTER(GOMP_cancel, which, is_asked);
+  return tell_cancelled(own_GOMP_cancel(which, is_asked), which, is_asked, PLACE);
+}
+
+ENTRY bool GOMP_cancellation_point(int which) {
+  ENTER(GOMP_cancellation_point, which);
+  return tell_cancelled(own_GOMP_cancellation_point(which), which, false, PLACE);
+}

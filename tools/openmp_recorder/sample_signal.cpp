@@ -1,0 +1,82 @@
+#include "sample_signal.hpp"
+
+#include <stdlib.h>
+
+#include <atomic>
+#include <cstring>
+
+#include "systems.hpp"
+
+namespace {
+std::atomic<int> taken{0};
+
+Systems<decltype(&sigaction)> set_action("sigaction");
+Systems<decltype(&signal)> set_handler("signal");
+Systems<decltype(&sigfillset)> fill_set("sigfillset");
+
+int systems_action(int number, const struct sigaction *action, struct sigaction *before) {
+  return set_action.get()(number, action, before);
+}
+
+// What was sent and has not come yet goes with it, so that the program's handler gets nothing that is not its own.
+void give_up(int number) {
+  if (!taken.compare_exchange_strong(number, 0)) return;
+  struct sigaction ignored {
+  }, normal{};
+  ignored.sa_handler = SIG_IGN;
+  normal.sa_handler = SIG_DFL;
+  systems_action(number, &ignored, nullptr);
+  stop_sampling();
+  systems_action(number, &ignored, nullptr);
+  systems_action(number, &normal, nullptr);
+}
+
+bool is_asked() {
+  auto is = [](const char *name, const char *word) {
+    const char *value = getenv(name);
+    return value && !strcmp(value, word);
+  };
+  return getenv("SPANPROF_OUT") && !is("SPANPROF_SAMPLES", "0") && !is("SPANPROF_RECORD", "0") &&
+         !is("SPANPROF_ONLINE", "1");
+}
+
+bool stands_before_the_system() { return dlsym(RTLD_DEFAULT, "sigaction") == reinterpret_cast<void *>(sigaction); }
+}  // namespace
+
+int sample_signal() { return taken.load(std::memory_order_relaxed); }
+
+bool take_sample_signal(OnSignal handler) {
+  if (!is_asked() || !stands_before_the_system()) return false;
+  set_handler.get();
+  fill_set.get();
+  for (int number = SIGRTMAX - 1; number > SIGRTMIN; number--) {
+    struct sigaction now {};
+    if (systems_action(number, nullptr, &now) || now.sa_handler != SIG_DFL || now.sa_flags & SA_SIGINFO) continue;
+    struct sigaction action {};
+    action.sa_sigaction = handler;
+    action.sa_flags = SA_SIGINFO | SA_RESTART | SA_ONSTACK;
+    if (systems_action(number, &action, nullptr)) return false;
+    taken = number;
+    return true;
+  }
+  return false;
+}
+
+ENTRY int sigaction(int number, const struct sigaction *action, struct sigaction *before) {
+  if (number != sample_signal() || !number) return systems_action(number, action, before);
+  if (action) give_up(number);
+  if (action) return systems_action(number, action, before);
+  if (before) *before = {};
+  return 0;
+}
+
+ENTRY sighandler_t signal(int number, sighandler_t handler) {
+  if (number && number == sample_signal()) give_up(number);
+  return set_handler.get()(number, handler);
+}
+
+ENTRY int sigfillset(sigset_t *set) {
+  int failed = fill_set.get()(set);
+  if (!failed && sample_signal()) sigdelset(set, sample_signal());
+  return failed;
+}

@@ -1,0 +1,112 @@
+#include "sampled_calls.hpp"
+
+#include <algorithm>
+#include <map>
+#include <set>
+#include <vector>
+
+#include "run.hpp"
+
+namespace {
+using Names = std::vector<std::string>;  // innermost first
+
+constexpr const char *of_system = "@";  // before its library
+
+bool begins_with_one(const std::string &name, const std::vector<const char *> &starts) {
+  return std::any_of(starts.begin(), starts.end(), [&](auto *start) { return !name.rfind(start, 0); });
+}
+
+// The library of the system that has it; empty where it is the program's, or another library's.
+std::string library_of_system(const void *code, const Places &places) {
+  const ModuleOfRun *module = code && places.modules() ? places.modules()->of(code) : nullptr;
+  std::string name = module ? module->path.substr(module->path.rfind('/') + 1) : "";
+  return begins_with_one(name, {"libc.so", "libm.so", "ld-linux", "linux-vdso", "libstdc++", "libgcc_s"}) ? name : "";
+}
+
+// As a program calls it: `sin` of `__sin_fma`.
+std::string called_as(std::string name) {
+  if (!name.rfind("__GI_", 0)) name = name.substr(5);
+  name = name.substr(std::min(name.find_first_not_of('_'), name.size()));
+  for (const char *ending : {"_fma", "_avx", "_evex", "_sse"}) name = name.substr(0, name.find(ending));
+  return name;
+}
+
+// That of the file where the function has none, as those of a program without symbols.
+Names names_of(const void *code, const Places &places) {
+  Names out;
+  if (std::string library = library_of_system(code, places); !library.empty()) {
+    std::string name = called_as(places.function(code));
+    return {(name.empty() ? library : name) + of_system + library};
+  }
+  for (const Frame &frame : places.frames(code))
+    if (!frame.function.empty()) out.push_back(frame.function);
+  if (!out.empty()) return out;
+  std::string name = places.function(code);
+  return name.empty() ? out : Names{name};
+}
+
+bool is_of_system(const std::string &name) { return name.find(of_system) != std::string::npos; }
+bool begins_the_program(const std::string &name) { return is_of_system(name) || name == "_start"; }
+
+// The functions of the system that stand in the recorder's library are called as without it.
+bool is_recorder(const void *code, const Places &places) {
+  const ModuleOfRun *module = code && places.modules() ? places.modules()->of(code) : nullptr;
+  return module && module->path.substr(module->path.rfind('/') + 1) == "librecorder.so";
+}
+
+void add_names(Names &all, const Names &more) {
+  for (const std::string &name : more) {
+    if (!all.empty() && is_of_system(all.back()) && is_of_system(name)) all.back() = name;  // what the program called
+    else if (all.empty() || all.back() != name) all.push_back(name);
+  }
+}
+
+std::string joined(const Names &names) {
+  std::string out;
+  for (auto name = names.rbegin(); name != names.rend(); ++name) out += (out.empty() ? "" : ";") + *name;
+  return out;
+}
+
+using Sampled = std::pair<bool, std::string>;  // whether the thread slept, and in which calls
+
+struct Sum {
+  std::map<Sampled, uint64_t> by_calls;  // microseconds
+};
+
+std::vector<std::string> all_named(const Stacks &stacks, Places &places) {
+  std::set<const void *> codes;
+  for (const Calls &calls : stacks.all()) codes.insert(calls.begin(), calls.end());
+  places.look_up({codes.begin(), codes.end()});
+  std::vector<std::string> out;
+  for (const Calls &calls : stacks.all()) out.push_back(named_calls(calls, places));
+  return out;
+}
+}  // namespace
+
+std::string named_calls(const Calls &calls, const Places &places) {
+  Names all;
+  for (const void *code : calls) {
+    bool is_runtime = places.modules() && places.modules()->in_runtime(code);
+    if (is_runtime && !all.empty()) break;
+    if (!is_runtime && !is_recorder(code, places)) add_names(all, names_of(code, places));
+  }
+  while (all.size() > 1 && begins_the_program(all.back())) all.pop_back();
+  return joined(all);
+}
+
+std::string sampled_lines(const Region &region, const OffTimes &times, const Stacks &stacks, Places &places) {
+  std::vector<std::string> names = all_named(stacks, places);
+  std::map<uint64_t, Sum> found;
+  for (const OffTime &one : times.all) {
+    if (!one.stands_for || one.stack >= names.size() || names[one.stack].empty()) continue;
+    uint32_t number = number_in_text(*one.task, one.segment, region);
+    if (number != none) found[number].by_calls[{one.asleep, names[one.stack]}] += one.stands_for;
+  }
+  std::string out;
+  for (auto &[number, sum] : found)
+    for (auto &[calls, time] : sum.by_calls) {
+      const char *did = calls.first ? " slept " : " ran ";
+      out += std::to_string(number) + did + std::to_string(time) + " " + calls.second + "\n";
+    }
+  return out;
+}

@@ -1,0 +1,288 @@
+#include "samples.hpp"
+
+#include <fcntl.h>
+#include <pthread.h>
+#include <sys/mman.h>
+#include <sys/resource.h>
+#include <sys/syscall.h>
+#include <time.h>
+#include <unistd.h>
+
+#include <algorithm>
+#include <cstring>
+#include <mutex>
+#include <new>
+#include <utility>
+#include <vector>
+
+#include "callers.hpp"
+#include "clocks.hpp"
+#include "log_head.hpp"
+#include "registers.hpp"
+#include "sample_signal.hpp"
+#include "system_calls.hpp"
+
+#if defined(__x86_64__)
+extern "C" char *__libc_stack_end;
+
+__thread Samples *own_samples = nullptr;  // no handler reads it
+
+namespace {
+using log_form::RawSample;
+using log_form::window_bytes;
+
+constexpr long apart = 2000000;  // nanoseconds of the processor; kernels look at their ticks, often each 4 ms
+constexpr uint64_t longest_stack = 1 << 30;
+constexpr size_t largest = sizeof(RawSample) + log_form::most_frames * sizeof(uint64_t);
+
+// In a handler too: calls of the kernel alone. The room is taken from the disk, so that no write can fail.
+char *map_window(const char *path, uint64_t number) {
+  int file = open(path, O_RDWR | O_CREAT | O_CLOEXEC, 0666);
+  if (file < 0) return nullptr;
+  auto at = static_cast<off_t>(number * window_bytes);
+  void *pages = MAP_FAILED;
+  if (is_allowed((number + 1) * window_bytes) && !posix_fallocate(file, at, window_bytes))
+    pages = mmap(nullptr, window_bytes, PROT_READ | PROT_WRITE, MAP_SHARED, file, at);
+  close(file);
+  return pages == MAP_FAILED ? nullptr : static_cast<char *>(pages);
+}
+
+char *map_memory() {
+  void *pages = mmap(nullptr, window_bytes, PROT_READ | PROT_WRITE, MAP_PRIVATE | MAP_ANONYMOUS, -1, 0);
+  return pages == MAP_FAILED ? nullptr : static_cast<char *>(pages);
+}
+
+size_t bytes_of(const RawSample &sample) { return sizeof sample + sample.frames * sizeof(uint64_t); }
+
+bool is_first_thread() { return getpid() == gettid(); }
+
+uint64_t length_of_first_stack() {
+  rlimit most{};
+  bool is_known = !getrlimit(RLIMIT_STACK, &most) && most.rlim_cur < longest_stack;
+  return is_known ? most.rlim_cur : longest_stack;
+}
+
+// Of the calling thread, from its lowest address on; nothing where that is not known.
+frames::Stack own_stack() {
+  if (is_first_thread()) {
+    auto end = reinterpret_cast<uint64_t>(__libc_stack_end);
+    return {end - length_of_first_stack(), end};
+  }
+  pthread_attr_t attributes;
+  if (pthread_getattr_np(pthread_self(), &attributes)) return {};
+  void *lowest = nullptr;
+  size_t bytes = 0;
+  pthread_attr_getstack(&attributes, &lowest, &bytes);
+  pthread_attr_destroy(&attributes);
+  auto first = reinterpret_cast<uint64_t>(lowest);
+  return {first, first + bytes};
+}
+
+// The system's functions would link another library, or be those of the program.
+int make_timer(Samples *of) {
+  sigevent event{};
+  event.sigev_notify = SIGEV_THREAD_ID;
+  event.sigev_signo = sample_signal();
+  event.sigev_value.sival_ptr = of;
+  event._sigev_un._tid = gettid();
+  int timer = -1;
+  if (syscall(SYS_timer_create, CLOCK_THREAD_CPUTIME_ID, &event, &timer)) return -1;
+  itimerspec each{{0, apart}, {0, apart}};
+  syscall(SYS_timer_settime, timer, 0, &each, nullptr);
+  return timer;
+}
+
+struct Listed {
+  std::mutex adding;
+  std::vector<Samples *> all;  // of all threads, so that their timers can be ended
+};
+
+Listed &listed() {  // first used when this library is loaded, and never destroyed
+  static auto &known = *new Listed;
+  return known;
+}
+
+Samples *new_samples() {
+  auto *made = new Samples;
+  std::lock_guard<std::mutex> guard(listed().adding);
+  listed().all.push_back(made);
+  return made;
+}
+
+// A thread of LLVM's runtime ends without a word.
+struct AtEnd {
+  ~AtEnd() {
+    if (own_samples) own_samples->end_thread();
+  }
+};
+thread_local AtEnd at_end;
+}  // namespace
+
+void Samples::begin_file(const std::string &name) {
+  if (name.size() >= sizeof path) return;
+  is_busy = true;
+  char *memory = window;
+  window = map_window(name.c_str(), 0);
+  if (window && memory) std::memcpy(window, memory, used);
+  else used = 0;
+  if (memory) munmap(memory, window_bytes);
+  std::memcpy(path, name.c_str(), name.size() + 1);
+  is_over = !window;
+  each = 1;
+  is_busy = false;
+}
+
+void Samples::begin_thread() {
+  KeepErrno kept;
+  own_samples = this;
+  (void)&at_end;
+  if (timer >= 0 || !sample_signal()) return;
+  if (!window && !is_over) window = map_memory();
+  stack = own_stack();
+  lowest = std::exchange(stack.lowest, 0);
+  timer = make_timer(this);
+}
+
+void Samples::end_timer() {
+  int known = timer.exchange(-1);
+  if (known >= 0) syscall(SYS_timer_delete, known);
+}
+
+void Samples::end_thread() {
+  end_timer();
+  own_samples = nullptr;
+}
+
+// Where memory alone has them each second one goes, so that those left are evenly apart.
+void Samples::keep_half() {
+  size_t kept = 0, number = 0;
+  for (size_t at = 0; at < used;) {
+    size_t bytes = bytes_of(*reinterpret_cast<RawSample *>(window + at));
+    if (number++ % 2) {
+      std::memmove(window + kept, window + at, bytes);
+      reinterpret_cast<RawSample *>(window + kept)->stands_for *= 2;
+      kept += bytes;
+    }
+    at += bytes;
+  }
+  std::memset(window + kept, 0, used - kept);
+  used = kept;
+  each *= 2;
+}
+
+bool Samples::make_room() {
+  if (used + largest <= window_bytes) return true;
+  if (!has_file()) return keep_half(), true;
+  munmap(window, window_bytes);
+  window = map_window(path, ++windows);
+  used = 0;
+  is_over = !window;
+  return window;
+}
+
+bool Samples::is_to_write(const siginfo_t &signal) {
+  if (!may_write()) return false;
+  since += static_cast<unsigned>(signal.si_overrun) + 1;
+  return since >= each;
+}
+
+RawSample &Samples::sample_here(const ucontext_t &context) {
+  frames::State state = registers_of(context);
+  uint64_t top = state.values[frames::stack_pointer];
+  bool is_own = lowest <= top && top < stack.end;  // else the program gave the thread another one
+  auto *sample = reinterpret_cast<RawSample *>(window + used);
+  frames::Stack readable = is_own ? frames::Stack{top, stack.end} : frames::Stack{};
+  sample->frames = static_cast<uint8_t>(frames::walk(state, readable, sample->calls(), log_form::most_frames));
+  return *sample;
+}
+
+// The time is written last: where it is 0 there is no sample.
+void Samples::publish(RawSample &sample, int64_t began) {
+  sample.wall = began;
+  sample.took = static_cast<uint16_t>(std::min<int64_t>(wall_time() - began, UINT16_MAX));
+  used += bytes_of(sample);
+  __atomic_store_n(&sample.at, read_time_stamp(After::Itself), __ATOMIC_RELEASE);
+}
+
+void Samples::take(const siginfo_t &signal, const ucontext_t &context) {
+  if (!is_to_write(signal)) return;
+  is_busy = true;
+  int64_t began = wall_time();
+  if (make_room()) {
+    RawSample &sample = sample_here(context);
+    sample.slept = 0;
+    sample.stands_for = static_cast<uint32_t>(since * (apart / 1000));
+    since = 0;
+    publish(sample, began);
+  }
+  is_busy = false;
+}
+
+// In the place of the recorder's own functions stands that of the system which they called.
+void Samples::put_wait(const void *function, int64_t nanoseconds) {
+  if (!may_write()) return;
+  KeepErrno kept;
+  is_busy = true;
+  int64_t began = wall_time();
+  ucontext_t context;
+  if (!getcontext(&context) && make_room()) {
+    RawSample &sample = sample_here(context);
+    uint64_t *calls = sample.calls(), *end = calls + sample.frames;
+    auto is_own = [](uint64_t code) { return recorder_code.has(reinterpret_cast<const void *>(code)); };
+    uint64_t *rest = std::find_if_not(calls, end, is_own);
+    sample.frames = static_cast<uint8_t>(1 + std::move(rest, end, calls + 1) - (calls + 1));
+    calls[0] = reinterpret_cast<uint64_t>(function);
+    sample.slept = 1;
+    sample.stands_for = static_cast<uint32_t>(nanoseconds / 1000);
+    publish(sample, began);
+  }
+  is_busy = false;
+}
+
+void sample_thread(ThreadLog &log, const std::string &folder) {
+  if (!sample_signal()) return;
+  if (!log.samples) log.samples = own_samples ? own_samples : new_samples();
+  if (!log.samples->has_file()) log.samples->begin_file(folder + log_form::samples_file + std::to_string(log.number));
+  log.samples->begin_thread();
+}
+
+void leave_samples(ThreadLog &log) {
+  if (log.samples) log.samples->end_thread();
+}
+
+namespace {
+// In the child of a fork, which has no timers: their numbers may be those of others here.
+void forget_samples() {
+  own_samples = nullptr;
+  new (&listed()) Listed;  // another thread may have held the lock when the process forked
+}
+}  // namespace
+
+// Timers of a thread that ended since are gone already.
+void stop_sampling() {
+  std::lock_guard<std::mutex> guard(listed().adding);
+  for (Samples *one : listed().all) one->end_timer();
+}
+
+namespace {
+void on_signal(int, siginfo_t *signal, void *context) {
+  KeepErrno kept;
+  if (signal->si_code != SI_TIMER) return;
+  static_cast<Samples *>(signal->si_value.sival_ptr)->take(*signal, *static_cast<ucontext_t *>(context));
+}
+
+// What the program does before it meets OpenMP is sampled too, of its first thread.
+__attribute__((constructor)) void library_is_loaded() {
+  if (!frames::are_known() || !take_sample_signal(on_signal)) return;
+  find_recorder();
+  pthread_atfork(nullptr, nullptr, forget_samples);
+  if (is_first_thread()) new_samples()->begin_thread();
+}
+}  // namespace
+#else
+__thread Samples *own_samples = nullptr;
+void Samples::put_wait(const void *, int64_t) {}
+void sample_thread(ThreadLog &, const std::string &) {}
+void leave_samples(ThreadLog &) {}
+void stop_sampling() {}
+#endif

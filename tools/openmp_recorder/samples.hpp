@@ -1,0 +1,48 @@
+// What a thread runs, by samples: a timer of its own processor time sends it a signal, and the handler writes down the
+// calls on its stack. Only where this library stands before the system's, so that it sees a program take the signal.
+#pragma once
+#include <signal.h>
+#include <ucontext.h>
+
+#include <atomic>
+#include <string>
+
+#include "frames.hpp"
+#include "log_form.hpp"
+#include "log_head.hpp"
+
+// Of one thread. Its own code and its own handler alone use it, so `is_busy` is all that keeps them apart; it is never
+// given back, since a signal that was sent before may still come.
+class Samples {
+ public:
+  void begin_file(const std::string &path);  // from now on they are there however the program ends
+  void begin_thread();  // the calling one; another one may have been before
+  void end_thread();
+  void end_timer();  // any thread may call it
+  void take(const siginfo_t &signal, const ucontext_t &context);  // in the handler
+  void put_wait(const void *function, int64_t nanoseconds);  // the thread slept in this function of the system
+  bool has_file() const { return path[0]; }
+
+ private:
+  char path[512] = {};
+  char *window = nullptr;  // mapped: of the file, or before there is one, of memory
+  size_t used = 0;
+  uint64_t windows = 0;  // of the file, before this one
+  unsigned each = 1, since = 0;  // of so many signals one is written, where memory alone has them
+  volatile bool is_busy = false, is_over = false;
+  std::atomic<int> timer{-1};
+  frames::Stack stack{};
+  uint64_t lowest = 0;  // of the thread's stack
+
+  bool make_room();
+  void keep_half();
+  bool is_to_write(const siginfo_t &signal);
+  bool may_write() const { return !is_busy && !is_over && window && !is_stopped(); }
+  log_form::RawSample &sample_here(const ucontext_t &context);
+  void publish(log_form::RawSample &sample, int64_t began);
+};
+
+class ThreadLog;
+void sample_thread(ThreadLog &log, const std::string &folder);  // the calling thread, whose log that is
+void leave_samples(ThreadLog &log);  // the calling thread ends
+extern __attribute__((tls_model("initial-exec"))) __thread Samples *own_samples;  // of the calling thread, or none

@@ -1,0 +1,91 @@
+// Locks of the system, which no runtime tells of: a wait for one is told as for a lock of OpenMP, and one that is free
+// is not. Locks of the runtime and of the recorder itself are passed on, and so are those of a thread that has no log
+// yet: no call here leads to another one.
+#include <errno.h>
+#include <pthread.h>
+
+#include <algorithm>
+
+#include "callbacks.hpp"
+#include "callers.hpp"
+#include "log_head.hpp"
+#include "system_waits.hpp"
+#include "systems.hpp"
+#include "told.hpp"
+
+namespace {
+#define SYSTEMS(name) Systems<decltype(&name)> own_##name(#name)
+SYSTEMS(pthread_mutex_lock);
+SYSTEMS(pthread_mutex_trylock);
+SYSTEMS(pthread_mutex_unlock);
+SYSTEMS(pthread_rwlock_rdlock);
+SYSTEMS(pthread_rwlock_tryrdlock);
+SYSTEMS(pthread_rwlock_wrlock);
+SYSTEMS(pthread_rwlock_trywrlock);
+SYSTEMS(pthread_rwlock_unlock);
+
+// Those that the thread waited for and holds, so that their end is told; beyond these it is not.
+struct Held {
+  static constexpr unsigned most = 8;
+  const void *locks[most];
+  unsigned count;
+};
+__attribute__((tls_model("initial-exec"))) __thread Held held;
+
+ompt_wait_id_t name_of(const void *lock) { return reinterpret_cast<ompt_wait_id_t>(lock); }
+
+void hold(const void *lock) {
+  if (held.count < Held::most) held.locks[held.count++] = lock;
+}
+
+bool let_go(const void *lock) {
+  const void **end = held.locks + held.count, **found = std::find(held.locks, end, lock);
+  if (found == end) return false;
+  *found = held.locks[--held.count];
+  return true;
+}
+
+bool is_told(const void *place) {
+  return thread_log && !is_stopped() && !in_runtime(place) && !recorder_code.has(place);
+}
+
+template <class Lock>
+__attribute__((noinline)) int wait_for(Lock *lock, int (*systems)(Lock *), unsigned kind, const void *place) {
+  if (!is_told(place)) return systems(lock);
+  auto told = static_cast<ompt_mutex_t>(kind);
+  on_lock_asked(told, 0, 0, name_of(lock), place);
+  int status = systems(lock);
+  on_lock_got(told, name_of(lock), place);
+  if (status) on_lock_left(told, name_of(lock), place);
+  else hold(lock);
+  return status;
+}
+
+__attribute__((noinline)) void tell_left(const void *lock, const void *place, unsigned kind) {
+  if (let_go(lock) && thread_log) on_lock_left(static_cast<ompt_mutex_t>(kind), name_of(lock), place);
+}
+}  // namespace
+
+void leave_for_wait(const void *lock, const void *place) {
+  if (held.count) tell_left(lock, place, system_mutex);
+}
+
+#define PLACE __builtin_return_address(0)
+#define LOCK(name, try_name, type, kind)                        \
+  ENTRY int name(type *lock) {                                  \
+    int status = own_##try_name.get()(lock);                    \
+    if (__builtin_expect(status != EBUSY, true)) return status; \
+    return wait_for(lock, own_##name.get(), kind, PLACE);       \
+  }
+#define UNLOCK(name, type, kind)                                       \
+  ENTRY int name(type *lock) {                                         \
+    if (__builtin_expect(held.count, 0)) tell_left(lock, PLACE, kind); \
+    return own_##name.get()(lock);                                     \
+  }
+LOCK(pthread_mutex_lock, pthread_mutex_trylock, pthread_mutex_t, system_mutex)
+UNLOCK(pthread_mutex_unlock, pthread_mutex_t, system_mutex)
+UNLOCK(pthread_rwlock_unlock, pthread_rwlock_t, system_rwlock)
+
+// A lock for readers that cannot be had at once for want of room says EAGAIN, as the one that waits would.
+LOCK(pthread_rwlock_rdlock, pthread_rwlock_tryrdlock, pthread_rwlock_t, system_rwlock)
+LOCK(pthread_rwlock_wrlock, pthread_rwlock_trywrlock, pthread_rwlock_t, system_rwlock)

@@ -1,0 +1,96 @@
+// The system's functions that programs sleep in. Each is passed on as it was called, and looks at the time before and
+// behind; what is written then takes no lock and no memory, and keeps errno. A thread without samples is passed on.
+#include "system_waits.hpp"
+
+#include <poll.h>
+#include <pthread.h>
+#include <semaphore.h>
+#include <stdio.h>
+#include <sys/select.h>
+#include <sys/socket.h>
+#include <sys/wait.h>
+#include <time.h>
+#include <unistd.h>
+
+#include "callers.hpp"
+#include "log_head.hpp"
+#include "samples.hpp"
+#include "systems.hpp"
+#include "ticks.hpp"
+
+namespace {
+// One call: until it returns, or is left by an exception or the thread's end.
+class Waiting {
+ public:
+  Waiting(const void *called, const void *by) : function(called), place(by), samples(own_samples) {
+    if (samples) began = read_ticks(After::Itself);
+  }
+  ~Waiting() {
+    if (samples && took() >= static_cast<double>(least_wait)) tell();
+  }
+  Waiting(const Waiting &) = delete;
+
+ private:
+  const void *function, *place;
+  Samples *samples;
+  uint64_t began = 0;
+  double took() const { return static_cast<double>(read_ticks(After::Itself) - began) * nanoseconds_of_tick(); }
+  __attribute__((noinline)) void tell() const {
+    bool is_of_program = !in_runtime(place) && !recorder_code.has(place);
+    if (is_of_program && samples == own_samples) samples->put_wait(function, static_cast<int64_t>(took()));
+  }
+};
+}  // namespace
+
+#define WAITS_BY(version, result, name, parameters, ...)                                    \
+  ENTRY result name parameters {                                                            \
+    static Systems<result(*) parameters> systems(#name, version);                           \
+    auto function = systems.get();                                                          \
+    Waiting waiting(reinterpret_cast<const void *>(function), __builtin_return_address(0)); \
+    return function(__VA_ARGS__);                                                           \
+  }
+#define WAITS(result, name, parameters, ...) WAITS_BY(nullptr, result, name, parameters, __VA_ARGS__)
+
+WAITS(ssize_t, read, (int file, void *bytes, size_t count), file, bytes, count)
+WAITS(ssize_t, write, (int file, const void *bytes, size_t count), file, bytes, count)
+WAITS(ssize_t, pread, (int file, void *bytes, size_t count, off_t at), file, bytes, count, at)
+WAITS(ssize_t, pwrite, (int file, const void *bytes, size_t count, off_t at), file, bytes, count, at)
+WAITS(int, fsync, (int file), file)
+WAITS(int, fdatasync, (int file), file)
+WAITS(size_t, fread, (void *bytes, size_t size, size_t count, FILE *file), bytes, size, count, file)
+WAITS(size_t, fwrite, (const void *bytes, size_t size, size_t count, FILE *file), bytes, size, count, file)
+WAITS(char *, fgets, (char *line, int size, FILE *file), line, size, file)
+WAITS(int, fflush, (FILE * file), file)
+WAITS(ssize_t, recv, (int socket, void *bytes, size_t count, int flags), socket, bytes, count, flags)
+WAITS(ssize_t, send, (int socket, const void *bytes, size_t count, int flags), socket, bytes, count, flags)
+WAITS(int, nanosleep, (const timespec *time, timespec *left), time, left)
+WAITS(int, clock_nanosleep, (clockid_t clock, int flags, const timespec *time, timespec *left), clock, flags, time,
+      left)
+WAITS(int, usleep, (useconds_t time), time)
+WAITS(unsigned, sleep, (unsigned time), time)
+WAITS(int, poll, (pollfd * files, nfds_t count, int time), files, count, time)
+WAITS(int, select, (int count, fd_set *in, fd_set *out, fd_set *other, timeval *time), count, in, out, other, time)
+WAITS(pid_t, waitpid, (pid_t process, int *status, int flags), process, status, flags)
+WAITS(int, system, (const char *command), command)
+WAITS(int, pthread_join, (pthread_t thread, void **value), thread, value)
+WAITS(int, sem_wait, (sem_t * semaphore), semaphore)
+
+// The system has older functions of these names, for programs of before 2003.
+namespace {
+constexpr const char *newer = "GLIBC_2.3.2";
+}
+ENTRY int pthread_cond_wait(pthread_cond_t *condition, pthread_mutex_t *mutex) {
+  static Systems<decltype(&pthread_cond_wait)> systems("pthread_cond_wait", newer);
+  leave_for_wait(mutex, __builtin_return_address(0));
+  auto function = systems.get();
+  Waiting waiting(reinterpret_cast<const void *>(function), __builtin_return_address(0));
+  return function(condition, mutex);
+}
+
+ENTRY int pthread_cond_timedwait(pthread_cond_t *condition, pthread_mutex_t *mutex, const timespec *until) {
+  static Systems<decltype(&pthread_cond_timedwait)> systems("pthread_cond_timedwait", newer);
+  leave_for_wait(mutex, __builtin_return_address(0));
+  auto function = systems.get();
+  Waiting waiting(reinterpret_cast<const void *>(function), __builtin_return_address(0));
+  return function(condition, mutex, until);
+}

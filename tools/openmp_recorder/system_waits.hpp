@@ -1,0 +1,7 @@
+// Calls of the system that may sleep: of one that took 50 us or longer a sample is written, with the calls that led
+// to it.
+#pragma once
+
+constexpr long long least_wait = 50000;  // nanoseconds
+
+void leave_for_wait(const void *lock, const void *place);  // a mutex that a wait for a condition gives back meanwhile

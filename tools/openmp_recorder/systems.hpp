@@ -1,0 +1,31 @@
+// The system's functions, before which those of this library stand.
+#pragma once
+#include <dlfcn.h>
+
+#include <atomic>
+
+#define ENTRY extern "C" __attribute__((visibility("default")))
+
+// Found when this library is loaded, since the program may call it in a handler of a signal or while it holds any lock;
+// another library's constructor that ran before finds it by itself. It takes no lock of this library's.
+template <class Function>
+class Systems {
+ public:
+  explicit constexpr Systems(const char *its_name, const char *its_version = nullptr)
+      : name(its_name), version(its_version) {}
+  Function get() {
+    Function known = found.load(std::memory_order_relaxed);
+    return __builtin_expect(known != nullptr, true) ? known : find();
+  }
+
+ private:
+  const char *name, *version;  // where the system has several of that name
+  std::atomic<Function> found{nullptr};
+  __attribute__((noinline)) Function find() {
+    void *address = version ? dlvsym(RTLD_NEXT, name, version) : nullptr;
+    if (!address) address = dlsym(RTLD_NEXT, name);
+    auto function = reinterpret_cast<Function>(address);
+    found.store(function, std::memory_order_relaxed);
+    return function;
+  }
+};

@@ -1,0 +1,96 @@
+// Samples of what threads ran: as they lie in a file, and by segment of the text.
+#include <unistd.h>
+
+#include <cstdio>
+#include <cstdlib>
+#include <cstring>
+#include <string>
+#include <vector>
+
+#include "../sampled_calls.hpp"
+#include "whole.hpp"
+
+namespace {
+using log_form::RawSample;
+
+class Window {
+ public:
+  Window &add(uint64_t at, std::vector<uint64_t> calls, bool slept = false) {
+    RawSample raw{at, 0, 4000, 10, static_cast<uint8_t>(calls.size()), slept};
+    bytes.append(reinterpret_cast<const char *>(&raw), sizeof raw);
+    bytes.append(reinterpret_cast<const char *>(calls.data()), calls.size() * sizeof calls[0]);
+    return *this;
+  }
+  Window &next() {
+    bytes.resize((bytes.size() / log_form::window_bytes + 1) * log_form::window_bytes);
+    return *this;
+  }
+  std::vector<Sample> read(Stacks &stacks) const {
+    char name[] = "/tmp/spanprof-test-XXXXXX";
+    int file = mkstemp(name);
+    bool is_whole = write(file, bytes.data(), bytes.size()) == static_cast<ssize_t>(bytes.size());
+    close(file);
+    log_form::Head head{};
+    head.counter = log_form::Counter::TimeStamp;
+    std::vector<Sample> found = read_samples(name, head, stacks);
+    unlink(name);
+    return is_whole ? found : std::vector<Sample>();
+  }
+
+ private:
+  std::string bytes;
+};
+
+const void *code(uint64_t address) { return reinterpret_cast<const void *>(address); }
+}  // namespace
+
+TEST(samples_of_all_windows_are_read_with_each_list_of_calls_once) {
+  Stacks stacks;
+  std::vector<Sample> found =
+      Window().add(5, {100, 200}).add(6, {101, 200}).next().add(9, {100, 200}, true).next().read(stacks);
+  EXPECT(found.size(), 3u);
+  EXPECT(stacks.all().size(), 2u);
+  EXPECT(stacks.all()[0] == (Calls{code(101), code(200)}), true);  // the instruction is told as a call's end
+  EXPECT(found[2].stack, found[0].stack);
+  EXPECT(found[2].order, 9u);
+  EXPECT(found[1].slept, false);
+  EXPECT(found[2].slept, true);
+}
+
+TEST(what_is_no_sample_ends_its_window_alone) {
+  Stacks stacks;
+  EXPECT(Window().add(5, {}).add(6, {100}).next().add(9, {100}).next().read(stacks).size(), 1u);
+  EXPECT(Window().add(5, std::vector<uint64_t>(log_form::most_frames + 1, 100)).next().read(stacks).size(), 0u);
+  EXPECT(Window().add(5, {100, 200}).read(stacks).size(), 1u);
+  EXPECT(Window().read(stacks).size(), 0u);
+}
+
+TEST(samples_belong_to_the_segment_that_runs) {
+  Program made;
+  made.sample(0, 0, 4000).after(9).add(0, Told::SyncBegin, 1, 0, ompt_sync_region_taskwait);
+  made.add(0, Told::SyncEnd, 1, 0, ompt_sync_region_taskwait).sample(0, 1, 8000).sample(0, 0, 4000).after(9);
+  made.sample(0, 1, 900, true);
+  end_region(made);
+  made.times();
+  Stacks stacks;
+  stacks.number({code(100), code(200)});
+  stacks.number({code(300)});
+  Places places;
+  places.put_frames(code(100), {{"leaf", "a.c:1"}, {"inlined", "a.c:2"}});
+  places.put_frames(code(200), {{"outer", "a.c:3"}});
+  places.put_frames(code(300), {{"other", "a.c:4"}});
+  EXPECT(sampled_lines(*made.found.whole, made.found.whole->off, stacks, places),
+         "1 ran 4000 outer;inlined;leaf\n2 ran 8000 other\n2 ran 4000 outer;inlined;leaf\n2 slept 900 other\n");
+  EXPECT(off_lines(*made.found.whole, made.found.whole->off), "");
+}
+
+TEST(calls_end_where_the_system_called_the_program) {
+  Places places;
+  const char *names[] = {"f", "f", "main", "_start"};
+  Calls calls;
+  for (uint64_t i = 0; i < 4; i++) {
+    calls.push_back(code(100 + i));
+    places.put_frames(calls.back(), {{names[i], "a.c:1"}});
+  }
+  EXPECT(named_calls(calls, places), "main;f");
+}

@@ -1,0 +1,127 @@
+"""Has the converter make texts of a log. What it is asked for stands in its environment."""
+import glob
+import json
+import os
+import re
+import shutil
+import signal
+import subprocess
+import tempfile
+
+from spanprof.built import Product, find_or_build
+from spanprof.errors import Fault
+from spanprof.folders import builds_in
+from spanprof.recording import REGIONS, TEXT, TIMES, made_folder
+from spanprof.regions import program_of
+
+CONVERTER = Product("convert_log", "the converter of logs", "clang-19 libomp-19-dev make")
+RECORDERS = builds_in("openmp_recorder")
+LOADERS = ("LD_PRELOAD", "OMP_TOOL_LIBRARIES")  # of the recorded program alone
+STEM = "program"
+FILES = {".tasks": TEXT, ".times": TIMES, ".regions": REGIONS, ".off": "off", ".locks": "locks", ".calls": "calls",
+         ".online.json": "online.json"}
+FAILED = ("fault", "unwritten")
+DIED = {signal.SIGKILL: "it was killed, as the system does where memory is short",
+        signal.SIGXFSZ: "a file would be longer than `ulimit -f` allows"}
+
+
+def converter(tell):
+    """The path of the program: in the first of its folders that has it, or else its sources."""
+    return find_or_build(CONVERTER, RECORDERS, tell)
+
+
+def why_it_died(status):
+    if status >= 0:
+        return "its converter ended with status %d" % status
+    return "its converter died: " + DIED.get(-status, "signal %d" % -status)
+
+
+def convert(program, log, out, variables):
+    """What is told of one log, whose texts are OUT.tasks and so on."""
+    rest = {name: value for name, value in variables.items() if name not in LOADERS}
+    try:
+        done = subprocess.run([program, log, out], env=rest, stdout=subprocess.PIPE, text=True,
+                              errors="surrogateescape", check=False)
+    except OSError as wrong:
+        raise Fault("%s: %s" % (program, wrong.strerror)) from wrong
+    told = [json.loads(line) for line in done.stdout.splitlines() if line.strip().endswith("}")]
+    if done.returncode and not has_failed(told):
+        told.append({"told": "fault", "log": log, "what": why_it_died(done.returncode)})
+    return told
+
+
+def has_failed(told):
+    return any(one["told"] in FAILED for one in told)
+
+
+def in_place(told, new, folder):
+    """The same with the files where they are in the end."""
+    def moved(value):
+        ending = value[len(os.path.join(new, STEM)):] if str(value).startswith(os.path.join(new, STEM)) else None
+        return value if ending is None else os.path.join(folder, FILES.get(ending, ""))
+    return [{name: moved(value) if name in ("file", "times", "name") else value for name, value in one.items()}
+            for one in told]
+
+
+def move_in(new, folder):
+    """What was there before goes, and is there no longer where the new text has none of it."""
+    for ending, name in FILES.items():
+        made, path = os.path.join(new, STEM + ending), os.path.join(folder, name)
+        if os.path.exists(made):
+            os.replace(made, path)
+        elif os.path.exists(path):
+            os.remove(path)
+
+
+def convert_into(program, log, folder, variables):
+    """Writes the text of the whole program into a recording's folder. Where that fails nothing is changed there."""
+    new = tempfile.mkdtemp(prefix=".new-", dir=folder)
+    try:
+        told = convert(program, log, os.path.join(new, STEM), dict(variables, SPANPROF_WHOLE="1", SPANPROF_TIMES="1"))
+        if not has_failed(told):
+            move_in(new, folder)
+        return in_place(told, new, folder)
+    finally:
+        shutil.rmtree(new, ignore_errors=True)
+
+
+def of_region(variables, place):
+    """Of the regions at a place the median one."""
+    return dict(variables, SPANPROF_WHOLE="0", SPANPROF_TIMES="1", SPANPROF_REGION=place, SPANPROF_REGIONS="1")
+
+
+def made_text(out):
+    """The text of this first name; None where there is none."""
+    return out + ".tasks" if os.path.exists(out + ".tasks") else None
+
+
+def places_with_tasks(recording):
+    program = program_of(recording.text)
+    return [place.name for place in program.places if place.total("tasks")] if program else []
+
+
+def no_region(recording, place):
+    there = places_with_tasks(recording)
+    return Fault("%s: there is no region with tasks at %s; %s" % (
+        recording.name, place or "any place", "those are at " + ", ".join(there) if there else "it has none at all"))
+
+
+def region_text(recording, place="", tell=lambda words: None):
+    """The text of the median region at a place, in a file that goes with this process; without a place of that with the
+    most code in it."""
+    if not recording.log:
+        raise Fault("%s: it has no log, of which the text of a region would be made" % recording.name)
+    out = os.path.join(made_folder(), "region-" + re.sub(r"\W", "-", os.path.abspath(recording.folder) + place))
+    if not made_text(out):
+        unit = {"SPANPROF_UNIT": recording.meta["unit"].partition(" ")[0]} if "unit" in recording.meta else {}
+        convert(converter(tell), recording.log, out, of_region(dict(os.environ, **unit), place))
+    text = made_text(out)
+    if not text:
+        raise no_region(recording, place)
+    return text
+
+
+def logs_in(folder):
+    """The recordings below a folder that have a log, those of the program itself before those of its children."""
+    found = [os.path.dirname(log) for log in glob.glob(os.path.join(glob.escape(folder), "*.spanprof", "log"))]
+    return sorted(found, key=lambda path: (path.count("."), path))

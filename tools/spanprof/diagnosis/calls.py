@@ -1,0 +1,82 @@
+"""The functions that code ran, by samples of the calls on its threads' stacks."""
+from collections import Counter, defaultdict
+from typing import NamedTuple
+
+LEAST = 5           # samples, below which they say nothing
+A_SAMPLE = 4000     # microseconds
+SHARES = (0.8, 0.5, 0.3)    # of the samples that a function has to have, tried one after the other
+OF_SYSTEM = "@"     # behind a function of the system's libraries
+NO_NAME = ".so"     # in the name of a library, which stands for a function that has no symbol
+OUTERMOST = ("main", "_start")
+
+
+class Ran(NamedTuple):
+    """The innermost function in which code spent most of its time, and what called it, if it is known."""
+    function: str
+    caller: str
+    share: float
+
+
+class Sampled(NamedTuple):
+    """By place: the microseconds of each list of calls, outermost first, in which code ran, or slept."""
+    ran: dict
+    slept: dict
+
+
+def calls_of(path, names):
+    """A line of the file has a segment, what it did, how long and in which calls: `12 ran 8000 main;sort;compare`."""
+    found = Sampled(defaultdict(Counter), defaultdict(Counter))
+    if path:
+        with open(path, encoding="utf-8", errors="replace") as lines:
+            for line in lines:
+                number, did, time, calls = line.rstrip("\n").split(" ", 3)
+                if int(number) < len(names):
+                    getattr(found, did)[names[int(number)]][tuple(calls.split(";"))] += int(time)
+    return Sampled(dict(found.ran), dict(found.slept))
+
+
+def asleep_in(sampled):
+    """The function that code slept in most of the time, and what called it, each empty where it is not known."""
+    found = Counter()
+    for calls, time in sampled.items():
+        found[calls[-1].partition(OF_SYSTEM)[0], calls[-2] if len(calls) > 1 else ""] += time
+    return max(found, key=lambda pair: (found[pair], pair), default=("", ""))
+
+
+def is_of_program(function):
+    """Whether a person looks for time there: in no function of the system, nor in the outermost ones."""
+    return function not in OUTERMOST and OF_SYSTEM not in function and NO_NAME not in function
+
+
+def caller_of(calls, at):
+    """The next function outwards that has a name."""
+    return next((name for name in calls[:at][::-1] if NO_NAME not in name or OF_SYSTEM in name), "")
+
+
+def innermost(sampled):
+    """None where there are too few samples, or no function has enough of them."""
+    whole = sum(sampled.values())
+    if whole < LEAST * A_SAMPLE:
+        return None
+    having, depths, callers = Counter(), Counter(), defaultdict(Counter)
+    for calls, time in sampled.items():
+        for function in set(calls):
+            at = len(calls) - 1 - calls[::-1].index(function)
+            having[function] += time
+            depths[function] += time * (len(calls) - at)
+            callers[function][caller_of(calls, at)] += time
+    for share in SHARES:
+        enough = [name for name, time in having.items() if time >= share * whole and is_of_program(name)]
+        if enough:
+            function = min(enough, key=lambda name: (depths[name] / having[name], name))
+            caller = max(callers[function], key=lambda name: (callers[function][name], name))
+            return Ran(function, caller.partition(OF_SYSTEM)[0], having[function] / whole)
+    return None
+
+
+def together(found, places):
+    """The samples of several places."""
+    out = Counter()
+    for place in places:
+        out.update(found.get(place, {}))
+    return out

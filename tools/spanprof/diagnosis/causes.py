@@ -1,0 +1,58 @@
+"""The causes for which a run is no faster: one table of them.
+
+A cause is named where its losses are at least `least` of the threads' time. Where a cause is of the shape, changes of
+the text are tried for it; of another the gain is a bound, as if its losses were gone. Each has a row in docs/TUNING.md
+and in the manual, and programs of its name in checks/programs/causes.
+"""
+from typing import NamedTuple
+
+
+class Cause(NamedTuple):
+    kind: str
+    least: float        # of the threads' time
+    lost: str           # the sentence
+    change: str = ""    # what to do, where the gain is a bound: that of losing nothing so
+
+    @property
+    def is_bound(self):
+        return bool(self.change)
+
+    @property
+    def is_of_program(self):
+        return self.kind not in ("machine", "efficient")
+
+
+TABLE = (
+    Cause("serial", 0.05, "{where} runs alone: {alone}"),
+    Cause("too_few_tasks", 0.05, "too few tasks: threads wait while {where} runs"),
+    Cause("imbalance", 0.05, "uneven tasks at {where}: threads wait for the longest, {largest}; average {average}"),
+    Cause("dependence", 0.05, "{tasks} of {where} run one after another: {many} have depend({item})"),
+    Cause("wait", 0.05, "threads wait at {where}, where other tasks could run"),
+    Cause("small_tasks", 0.1, "{all_tasks} tasks of {average_task} each: creating and starting them costs too much",
+          "larger tasks at {at}: a cutoff or grainsize"),
+    Cause("creation", 0.1, "one thread creates all {all_tasks} tasks, {average_task} each: the others wait for it",
+          "create the tasks of {at} in several tasks: taskloop"),
+    Cause("undeferred", 0.05, "{tasks} of {where} run immediately, in the thread that creates them"),
+    Cause("loop_schedule", 0.05, "threads wait at the end of {at}: its work is shared out unevenly",
+          "schedule(dynamic) at {at}, or smaller chunks"),
+    Cause("lock", 0.1, "threads wait for {where}, entered {times} times",
+          "enter it less often and do less in it: own data, joined once"),
+    Cause("exclusion", 0.1, "tasks of {where} exclude each other: mutexinoutset",
+          "mutexinoutset on smaller parts, or only for the update"),
+    Cause("memory", 0.1, "{where} costs {dearer} times as much on {threads} threads as on one: memory is contended",
+          "own data for each task, joined once: no shared counters"),
+    Cause("system", 0.1, "{system} % of the processor time is the kernel's: {kernel}", "{less_kernel}"),
+    Cause("sleep", 0.1, "{where} sleeps {in_what}",
+          "begin what {at} waits for sooner, or use more threads"),
+    Cause("too_few_threads", 0.1, "{got} in the region at {where}: {target} can run",
+          "use {target} threads at {where}: num_threads, OMP_NUM_THREADS"),
+    Cause("too_many_threads", 0.1, "{threads} threads on {processors} processors, {in_region}",
+          "use {processors} threads: num_threads or OMP_NUM_THREADS"),
+    Cause("machine", 0.25, "other programs had the processors: record it again on a machine with less to do"),
+    Cause("efficient", 0.0, "little: threads were in code {code} % of the time; only less work helps"),
+)
+BY_KIND = {cause.kind: cause for cause in TABLE}
+EFFICIENT = 0.85        # of the threads' time in code, from which on nothing need be lost
+MOST = 0.5              # of the lost time, from which on the machine is its cause
+SECOND = 0.1            # of the run's time, from which on a second cause is told
+WORTH_A_CHANGE = 0.03   # the same of a change

@@ -1,0 +1,156 @@
+"""The changes that are tried on a recorded text, and where its greedy run ends with them."""
+import os
+import tempfile
+import time
+from dataclasses import dataclass
+from typing import Tuple
+
+from spanprof import client
+from spanprof.diagnosis.asked import numbers_at
+from spanprof.diagnosis.losses import kind_of_starved, most_shared
+from spanprof.diagnosis.places import OF_THREADS, SERIAL, SHARE
+from spanprof.errors import Fault
+from spanprof.text import BARRIER, text_lines
+from spanprof.whatif.creating import costs_for
+from spanprof.whatif.requests import Request, applied, changes
+from spanprof.whatif.survey import survey
+from spanprof.whatif.trials import best_first, seconds_for
+
+MOST = 4            # places of a kind that are tried
+LARGE = 40000       # statements, from which on changes are tried one by one, while there is time
+LEAST_HOLDERS = 3   # tasks that hold an item to write
+
+
+@dataclass(frozen=True)
+class Change:
+    """One or several requests that are made together; `kind` is that of the first."""
+    requests: Tuple[Request, ...]
+
+    @property
+    def kind(self):
+        return self.requests[0].option
+
+    @property
+    def place(self):
+        """What it changes: a place, a wait, or a name."""
+        word = self.requests[0].word
+        return word.rpartition("=")[0] if self.kind in ("split", "join") else word
+
+
+@dataclass(frozen=True)
+class Tried:
+    change: Change
+    end: int        # of the greedy run, in nanoseconds
+
+
+def single(option, word):
+    return Change((Request(option, word),))
+
+
+def splits(facts):
+    """Of the code while which threads had nothing to run, and of the code with the most cost."""
+    idle = [name for name in facts.starved_by if name in facts.places]
+    heavy = sorted(facts.places, key=lambda name: -facts.places[name].cost)
+    for name in list(dict.fromkeys(idle[:MOST] + heavy[:2])):
+        if kind_of_starved(facts, name) != "loop_schedule":
+            yield single("split", "%s=%d" % (name, max(2, facts.usable)))
+
+
+def readers(facts):
+    """Names that many tasks of a place hold to write, and may only read."""
+    found = {}
+    for place in facts.places.values():
+        shared = most_shared(place)
+        if shared and place.items[shared] >= LEAST_HOLDERS:
+            found[shared[1]] = max(found.get(shared[1], 0), place.items[shared])
+    for name in sorted(found, key=lambda name: -found[name])[:MOST]:
+        yield single("in-for-inout", name)
+
+
+def waits(facts, seen):
+    """Each wait alone, and those for tasks that depend items order too, all of a function together."""
+    found = [name for name, _ in seen.waits.most_common() if BARRIER not in name]
+    for name in found[:MOST]:
+        yield single("drop-wait", name)
+    ordered = {}
+    for name in filter(found.__contains__, +seen.ordered):
+        function = facts.functions.get(name.partition(" at ")[2], "")
+        ordered.setdefault(function, []).append(name)
+    for names in ordered.values():
+        if len(names) > 1:
+            yield Change(tuple(Request("drop-wait", name) for name in names))
+
+
+def undeferred(facts):
+    for name, place in facts.places.items():
+        if place.undeferred and place.kind not in (SHARE, OF_THREADS):
+            yield single("defer", name)
+
+
+def own_tasks(facts):
+    """Code of a task after the creation of another one, which may run beside what follows it."""
+    found = [place for place in facts.places.values() if place.name.startswith(("after taskwait", "after taskgroup"))
+             and place.kind not in (SERIAL, SHARE)]
+    for place in sorted(found, key=lambda place: -place.cost)[:2]:
+        yield single("task", place.name)
+
+
+def candidates(facts, seen):
+    """What may help, each kind where there is a reason for it."""
+    out = list(readers(facts)) + list(undeferred(facts)) + list(waits(facts, seen)) + list(splits(facts))
+    out += [single("drop-depend", name) for name, _ in (+seen.dependent).most_common(2)]
+    return out + list(own_tasks(facts))
+
+
+class Bench:
+    """A text on which changes are tried, on as many threads as the run could have had. All have these seconds, or as
+    long as the run took and no less than ten seconds; `longest` is what one of them took."""
+
+    def __init__(self, text, facts, seconds=None):
+        self.facts, self.head = facts, text.head
+        self.until, self.longest = time.monotonic() + (seconds or seconds_for(text.head)), 0
+        self.kept = list(text.statements())
+        self.seen = survey(self.kept)
+        self.costs = costs_for(text.head, self.seen)
+        self.unit = text.head.nanoseconds or 1
+
+    def candidates(self):
+        return best_first(candidates(self.facts, self.seen), lambda change: change.kind)
+
+    def has_time(self):
+        """For one more."""
+        return time.monotonic() + self.longest < self.until
+
+    def end(self, requests):
+        """Where the greedy run ends with these changes made; None where they change nothing."""
+        begun = time.monotonic()
+        end = self.greedy_end(requests)
+        self.longest = max(self.longest, time.monotonic() - begun)
+        return end
+
+    def greedy_end(self, requests):
+        made = changes(requests, self.seen, self.costs)
+        lines = "".join(text_lines(applied(self.kept, made), 1))
+        if not all(one.count for one in made):
+            return None
+        with tempfile.TemporaryDirectory(prefix="spanprof-") as folder:
+            path = os.path.join(folder, "changed.tasks")
+            with open(path, "w", encoding="utf-8", errors="replace") as file:
+                file.write(lines)
+            end = numbers_at(path, self.facts.usable).on[self.facts.usable].end
+        return end * self.unit if end is not None else None
+
+    def one(self, before, change):
+        """None where it cannot be made, or there is no time."""
+        if not self.has_time():
+            return None
+        try:
+            end = self.end(before + change.requests)
+        except (Fault, OSError):
+            return None
+        return Tried(change, end) if end is not None else None
+
+    def tries(self, found, before=()):
+        """Those of the changes that can be made, on top of others."""
+        ask = client.at_once if len(self.kept) < LARGE else map
+        return list(filter(None, ask(lambda change: self.one(tuple(before), change), found)))

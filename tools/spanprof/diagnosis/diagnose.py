@@ -1,0 +1,105 @@
+"""From the facts of a run to what is told of it: the causes, the plan, and the times."""
+from dataclasses import dataclass, field
+from typing import List
+
+from spanprof.diagnosis.causes import BY_KIND, EFFICIENT, MOST, SECOND
+from spanprof.diagnosis.losses import NO_CAUSE, OF_SHAPE, Loss, code_on_one, least_of, losses
+from spanprof.diagnosis.plan import best_of, bounds, step_of, steps_after
+
+POOL = 0.25     # of what the shape lost, that a change wins back of whose kind it is then
+
+
+@dataclass
+class Diagnosis:
+    """Times in nanoseconds. `causes` has the first, and a second one where that is much."""
+    facts: object
+    losses: List[Loss] = field(default_factory=list)
+    causes: List[Loss] = field(default_factory=list)
+    plan: list = field(default_factory=list)
+    steps: list = field(default_factory=list)       # all that were tried, the most worth first
+    code_on_one: int = 0
+
+    @property
+    def now(self):
+        return self.facts.now
+
+    @property
+    def best(self):
+        """Where all threads run its code all the time."""
+        facts = self.facts
+        least = self.now * self.code_on_one * facts.target / (facts.whole_time * facts.usable or 1)
+        return min(self.now, int(least))
+
+
+def merged(found):
+    together = {}
+    for loss in found:
+        together[loss.kind, loss.place] = together.get((loss.kind, loss.place), 0) + loss.time
+    return sorted((Loss(*key, time) for key, time in together.items()), key=lambda loss: -loss.time)
+
+
+def as_won_back(facts, found, steps):
+    """What the shape lost is of the kind of the change that wins back most of it."""
+    best = best_of([step for step in steps if step.change and step.kind in (*OF_SHAPE, "undeferred")])
+    pool = sum(loss.time for loss in found if loss.kind in OF_SHAPE)
+    if not best or facts.share(pool) * POOL > best.gain / max(facts.now, 1):
+        return found
+    return merged([Loss(best.kind, best.place, loss.time) if loss.kind in OF_SHAPE else loss for loss in found])
+
+
+def matching(step, found):
+    """The loss that a step wins back."""
+    same = [loss for loss in found if loss.kind == step.kind]
+    return next((loss for loss in same if loss.place == step.place), same[0] if same else None)
+
+
+def machine_of(facts, found):
+    """The loss to other programs, where it is most of what was lost: then the program's own losses are unsure."""
+    lost = [loss for loss in found if loss.kind not in NO_CAUSE]
+    machine = sum(loss.time for loss in lost if loss.kind == "machine")
+    is_cause = facts.share(machine) >= BY_KIND["machine"].least and machine > MOST * sum(loss.time for loss in lost)
+    return [Loss("machine", "", machine)] if is_cause else []
+
+
+def causes_of(facts, found, steps, code):
+    """A busy machine; or else the first is that of the step that is worth most, and a second one where it may bring a
+    tenth of the run's time."""
+    machine, out, seen = machine_of(facts, found), [], set()
+    if machine:
+        return machine
+    for step in steps:
+        loss = matching(step, found)
+        if not loss or step.kind in seen or loss.time < least_of(facts, found, BY_KIND[step.kind].least):
+            continue
+        if not out or step.worth >= SECOND * facts.now:
+            out.append(loss)
+            seen.add(step.kind)
+    if out:
+        return out[:2]
+    ran = facts.whole_time - sum(loss.time for loss in found if loss.kind in NO_CAUSE)
+    largest = [loss for loss in found if loss.kind in BY_KIND and facts.share(loss.time) >= BY_KIND[loss.kind].least]
+    return [Loss("efficient", "", ran - code)] if code >= EFFICIENT * ran or not largest else largest[:1]
+
+
+def diagnose(facts, bench=None):
+    """`bench` tries changes of the text; without it only bounds are told. Of a run on one thread no cause is named: it
+    says nothing of more threads."""
+    found = losses(facts)
+    code = code_on_one(facts, found)
+    if facts.target == 1:
+        return Diagnosis(facts, found, code_on_one=code)
+    if machine_of(facts, found):
+        bench = None
+    steps = bounds(facts, facts.now, found)
+    if bench:
+        before = bench.end([])
+        steps += [step_of(facts, bench.seen, facts.now, before, one) for one in bench.tries(bench.candidates())]
+    steps = sorted(steps, key=lambda step: -step.worth)
+    found = as_won_back(facts, found, steps)
+    steps = [step for step in steps if step.gain > 0]
+    causes = causes_of(facts, found, steps, code)
+    if not BY_KIND[causes[0].kind].is_of_program:
+        return Diagnosis(facts, found, causes, code_on_one=code)
+    first = best_of(steps)
+    plan = steps_after(facts, bench, found, first, steps) if first and bench else [first] if first else []
+    return Diagnosis(facts, found, causes, plan, steps, code)

@@ -1,0 +1,66 @@
+"""What the source tells of a directive that the recording does not: its line, where the compiler gave another one, and
+whether a wait stands in the loop that makes the tasks."""
+import re
+
+from spanprof.source_lines import LONGEST, STRING
+
+DIRECTIVE = re.compile(r"\s*#\s*pragma\s+omp\s+(.*)")
+CONDITION = re.compile(r"\s*#\s*(if|endif)")
+TOP_LEVEL = re.compile(r"[A-Za-z_]")
+LOOP = re.compile(r"\b(for|while|do)\b")
+# Of the names of places, waits and regions, and what their directives have.
+CONSTRUCTS = (("taskwait", "taskwait"), ("taskgroup", "taskgroup"), ("loop", "for"), ("section", "sections"),
+              ("task at", "task"), ("creating a task", "task"))
+
+
+def construct_of(name):
+    return next((construct for words, construct in CONSTRUCTS if words in name), "parallel")
+
+
+def has(line, construct):
+    """Whether a line of source begins a directive with this construct."""
+    found = DIRECTIVE.match(line)
+    return bool(found) and re.search(r"\b%s\b" % construct, found[1]) is not None
+
+
+def directive_line(lines, number, construct):
+    """That of the directive: gcc may give a construct the line of a statement before it, or of its function. The line
+    itself where none follows in the function, or only one that may not be compiled."""
+    conditions = 0
+    for here in range(number, min(len(lines), number + LONGEST) + 1):
+        if has(lines[here - 1], construct):
+            return number if conditions else here
+        condition = CONDITION.match(lines[here - 1])
+        if condition:
+            conditions = max(0, conditions + {"if": 1, "endif": -1}[condition[1]])
+        if here > number and TOP_LEVEL.match(lines[here - 1]):
+            break
+    return number
+
+
+def code_of(line):
+    return "" if line.lstrip().startswith("#") else STRING.sub("", line)
+
+
+def block_around(lines, number):
+    """The line at which the block begins that a line is in; 0 at the top level."""
+    closed = 0
+    for here in range(min(number - 1, len(lines)), 0, -1):
+        for sign in reversed(code_of(lines[here - 1])):
+            if sign == "{" and not closed:
+                return here
+            closed += (sign == "}") - (sign == "{")
+    return 0
+
+
+def makes_tasks(lines, first, last):
+    """Whether the loop that begins at the first of these lines makes tasks, and no loop inside it does."""
+    inside = lines[first:last - 1]
+    return any(has(line, "task") for line in inside) and not any(LOOP.search(code_of(line)) for line in inside)
+
+
+def is_of_some_turns(lines, number):
+    """Whether a wait is reached in some turns only of the loop that makes the tasks: in an `if` of its body."""
+    condition = block_around(lines, number)
+    loop = block_around(lines, condition) if condition and "if" in code_of(lines[condition - 1]) else 0
+    return bool(loop) and bool(LOOP.search(code_of(lines[loop - 1]))) and makes_tasks(lines, loop, condition)

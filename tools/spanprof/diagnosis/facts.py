@@ -1,0 +1,225 @@
+"""What is known of one recorded run, as plain data: everything else of a diagnosis is made of it."""
+import re
+import statistics
+from dataclasses import dataclass, field
+from types import SimpleNamespace
+from typing import Dict, List, Optional
+
+from spanprof.account import Account, completed, read_rows
+from spanprof.account_program import NoAccount, ask
+from spanprof.client import named_numbers
+from spanprof.diagnosis.asked import head_of, numbers_at, with_lines
+from spanprof.diagnosis.calls import Sampled, calls_of
+from spanprof.diagnosis.lock_times import locks_of
+from spanprof.diagnosis.places import read_program
+from spanprof.recording import document
+from spanprof.regions import program_of
+
+RUNTIMES = {"llvm": "LLVM", "gnu": "gcc"}
+EXCLUDING = "mutexinoutset"     # the remark of a text that has inoutset in its place
+OF_GCC = "lines of gcc"         # that of a text whose tasks or waits are of gcc's code
+
+
+@dataclass
+class Region:
+    """All regions that began at one place."""
+    place: str
+    threads: int
+    elapsed: int
+    asked: Optional[int] = None
+
+
+@dataclass
+class Facts:
+    """Times are in nanoseconds, and those of threads are added up. What a recording does not have is None."""
+    program: str = ""
+    whole: bool = True                  # the text is of the whole program
+    runtime: str = ""
+    threads: int = 1
+    asked: Optional[int] = None
+    processors: Optional[int] = None
+    elapsed: int = 0
+    work: int = 0
+    span: int = 0
+    greedy: int = 0                     # the end of the greedy run on the threads
+    tasks: int = 0
+    code: int = 0
+    recorder: int = 0
+    preempted: int = 0
+    asleep: int = 0
+    at_locks: int = 0
+    delayed: int = 0
+    starved: int = 0
+    outside: int = 0
+    delayed_by: Dict[str, int] = field(default_factory=dict)
+    starved_by: Dict[str, int] = field(default_factory=dict)
+    asleep_by: Dict[str, int] = field(default_factory=dict)
+    preempted_by: Dict[str, int] = field(default_factory=dict)
+    calls: Sampled = Sampled({}, {})
+    places: dict = field(default_factory=dict)
+    functions: Dict[str, str] = field(default_factory=dict)
+    locks: list = field(default_factory=list)
+    regions: List[Region] = field(default_factory=list)
+    is_of_gcc: bool = False             # some constructs have the line of a statement before them
+    waits_of_some_turns: set = field(default_factory=set)   # in an `if` of the loop that makes the tasks
+    creating: int = 0                   # what creating one task costs
+    usage: Optional[dict] = None
+    counters: Optional[dict] = None
+    coverage: Optional[float] = None
+    runs: int = 1
+    true_one: Optional[List[int]] = None        # elapsed times of unrecorded runs on one thread
+    true_many: Optional[List[int]] = None       # and on as many as the recorded run had
+    cost_on_one: Optional[Dict[str, int]] = None    # by place, of a recording on one thread
+
+    @property
+    def target(self):
+        """The threads that the run could have had."""
+        wanted = self.asked or self.processors or self.threads
+        return max(self.threads, min(wanted, self.processors or wanted))
+
+    @property
+    def usable(self):
+        """Of these, as many as run at once."""
+        return max(1, min(self.target, self.processors or self.target))
+
+    @property
+    def whole_time(self):
+        return self.target * self.elapsed
+
+    @property
+    def now(self):
+        """The elapsed time that a person sees: of unrecorded runs, where there are any."""
+        return int(statistics.median(self.true_many)) if self.true_many else self.elapsed
+
+    @property
+    def on_one(self):
+        return int(statistics.median(self.true_one)) if self.true_one else None
+
+    def share(self, time):
+        return time / self.whole_time if self.whole_time else 0.0
+
+
+def function_in(words):
+    """The name in `in sort, inlined into main at sort.c:9`, without arguments and what it is inlined into."""
+    name = re.sub(r"^in ", "", words).partition(", inlined into")[0]
+    return re.sub(r"(\.omp_outlined.*|\(.*|\.part\.\d+|\.constprop\.\d+)$", "", name)
+
+
+def breakdown(program, head, work, timed):
+    """The account of the run, whose times are in a document with the text."""
+    if not timed:
+        raise NoAccount("there are no times")
+    sums, rows = named_numbers(ask([], timed)), read_rows(ask(["--rows"], timed))
+    if len(rows) != len(program.names):
+        raise NoAccount("there are times of %d segments, and not of %d" % (len(rows), len(program.names)))
+    return completed(Account(**sums, rows=rows, places=program.names), SimpleNamespace(head=head, work=work))
+
+
+def set_breakdown(facts, found):
+    for name, part in found.parts.items():
+        setattr(facts, name.replace(" ", "_"), part)
+    facts.delayed_by, facts.starved_by = found.delayed_by, found.starved_by
+
+
+def set_by_greedy(facts):
+    """Without the times of the run: what the greedy run of the text leaves idle, and what is longer than it."""
+    whole = facts.threads * facts.elapsed
+    facts.code = min(facts.work, whole)
+    facts.starved = max(0, min(whole, facts.threads * facts.greedy) - facts.code)
+    facts.delayed = whole - facts.code - facts.starved
+
+
+def off_by_segment(path, head):
+    """Time asleep and preempted, of a file with a line for each segment, or else of the text's head."""
+    if not path:
+        return {segment: (0, time * (head.nanoseconds or 1)) for segment, time in head.preempted.items()}
+    with open(path, encoding="utf-8") as file:
+        return {segment: (slept, preempted) for segment, slept, preempted in (map(int, line.split()) for line in file)}
+
+
+def set_off(facts, off, program, head):
+    """By place. Costs by the wall clock have the time in which a thread was preempted, and lose it here."""
+    lost = {}
+    for segment, (slept, preempted) in off.items():
+        if segment < len(program.names):
+            name = program.names[segment]
+            facts.asleep_by[name] = facts.asleep_by.get(name, 0) + slept
+            facts.preempted_by[name] = facts.preempted_by.get(name, 0) + preempted
+            lost[segment] = preempted
+    if head.clock != "cpu" and any(lost.values()):
+        set_costs(facts.places, program, head.nanoseconds or 1, lost)
+
+
+def set_costs(places, program, unit, lost):
+    """In nanoseconds, without what segments lost."""
+    for place in places.values():
+        place.cost = place.largest = 0
+    for segment, (name, cost) in enumerate(zip(program.names, program.costs)):
+        place, left = places[name], max(0, cost * unit - lost.get(segment, 0))
+        place.cost += left
+        place.largest = max(place.largest, left)
+
+
+def runtime_name(runtime):
+    """Such as `LLVM 19`."""
+    return " ".join(filter(None, [RUNTIMES.get(runtime.get("name"), runtime.get("name")), runtime.get("version")]))
+
+
+def set_meta(facts, meta):
+    threads, usage = meta.get("threads") or {}, meta.get("usage")
+    facts.asked, facts.processors = threads.get("asked"), meta.get("processors")
+    facts.runtime = runtime_name(meta.get("runtime") or {})
+    facts.is_of_gcc = facts.is_of_gcc or facts.runtime.startswith(RUNTIMES["gnu"])
+    facts.runs = max(facts.runs, len(meta.get("runs") or []))
+    facts.usage, facts.counters = usage or None, meta.get("counters")
+    facts.true_one, facts.true_many = meta.get("true_one"), meta.get("true_many")
+    facts.cost_on_one = meta.get("cost_on_one")
+
+
+def regions_of(path, meta):
+    """By place; those inside others are left out, since their threads are not of the team."""
+    asked = {team["place"]: team.get("asked") for team in meta.get("teams") or []}
+    program = program_of(path)
+    places = [place for place in program.places if not place.is_inside] if program else []
+    return [Region(place.name, max(region.threads for region in place.regions), place.outermost,
+                   asked.get(place.name)) for place in places]
+
+
+def of_text(head, program, numbers):
+    """What the text alone tells: its head, its places, and where its greedy run ends."""
+    unit, threads = head.nanoseconds or 1, head.threads or 1
+    end = numbers.on[threads].end
+    facts = Facts(program=head.program, whole=bool(head.whole), threads=threads, elapsed=(head.elapsed or 0) * unit,
+                  work=numbers.work * unit, span=numbers.span * unit,
+                  greedy=(numbers.on[threads].bound if end is None else end) * unit,
+                  tasks=program.tasks - head.pieces - head.parts, places=program.places, runs=head.runs or 1,
+                  functions={at: function_in(words) for at, words in head.functions.items()})
+    facts.coverage = head.covered / head.thread_time if head.covered and head.thread_time else None
+    facts.is_of_gcc = any(remark.name == OF_GCC for remark in head.remarks)
+    mark_places(facts, head, unit)
+    return facts
+
+
+def mark_places(facts, head, unit):
+    """Costs in nanoseconds, and which tasks exclude each other: the text has inoutset for these."""
+    is_excluding = any(remark.name == EXCLUDING for remark in head.remarks)
+    for place in facts.places.values():
+        place.cost, place.largest = place.cost * unit, place.largest * unit
+        place.exclusive = place.inoutset if is_excluding else 0
+
+
+def facts_of(recording):
+    """Of a recording's folder, or of a plain text with what lies beside it."""
+    path, meta = recording.text, recording.meta
+    program, head = with_lines(path, read_program), head_of(path)
+    numbers = numbers_at(path, head.threads or 1)
+    facts = of_text(head, program, numbers)
+    set_meta(facts, meta)
+    facts.locks, facts.regions = locks_of(recording.file("locks"), head), regions_of(path, meta)
+    set_off(facts, off_by_segment(recording.file("off"), head), program, head)
+    facts.calls = calls_of(recording.file("calls"), program.names)
+    try:
+        set_breakdown(facts, breakdown(program, head, numbers.work, document(recording)))
+    except NoAccount:
+        set_by_greedy(facts)
+    return facts

@@ -1,0 +1,297 @@
+"""What the threads lost, divided among the kinds of causes, each part by place; the parts add up exactly.
+
+Threads x elapsed time = code as on one thread + the losses.
+"""
+from typing import NamedTuple
+
+from spanprof.diagnosis.places import OF_THREADS, SERIAL, SHARE
+from spanprof.text import BEGINNING
+
+SMALL = 5000            # nanoseconds of code in a task, below which creating and starting it costs much beside it
+A_CREATION = 1000       # nanoseconds: a thread with less code for each task mostly waits for the runtime to create it
+MANY = 8                # tasks for each thread, from which on to make them may cost much
+LITTLE = 0.025          # of the threads' time, below which nothing is a cause
+SEVERAL = 1.5           # of the largest piece: from which on several threads run a place at once
+UNEVEN = 1.5            # of the average piece: from which on the largest one is uneven
+A_FAULT = 4000          # nanoseconds, with the page that it clears
+MUCH_SYSTEM = 0.25      # of the processor time, from which on time in the kernel is a loss
+STARTED = 5000000       # nanoseconds that a program and its runtime take to start
+NO_CAUSE = ("recorder", "startup")
+FINE = ("small_tasks", "creation")      # of all tasks together
+IN_CODE = ("small_tasks", "system", "memory")
+OF_SHAPE = ("too_few_tasks", "imbalance", "dependence", "wait")
+
+
+class Loss(NamedTuple):
+    kind: str
+    place: str
+    time: int       # of threads, in nanoseconds
+
+
+def divided(total, weights):
+    """The total in whole numbers by weight, which add up to it."""
+    whole, out, given, seen = sum(weights.values()), {}, 0, 0
+    for name, weight in weights.items():
+        seen += weight
+        out[name] = total * seen // whole - given if whole else 0
+        given += out[name]
+    return out
+
+
+def by_place(kind, total, weights):
+    """Losses of one kind, by the weights of places, or of no place where none is known."""
+    if not sum(weights.values()):
+        return [Loss(kind, "", total)]
+    return [Loss(kind, place, time) for place, time in divided(total, weights).items()]
+
+
+def heaviest(facts):
+    """The tasks with the most code, or the code with the most where there are none."""
+    tasks = [place for place in facts.places.values() if place.tasks]
+    return max(tasks or facts.places.values(), key=lambda place: place.cost, default=None)
+
+
+def heaviest_name(facts):
+    place = heaviest(facts)
+    return place.name if place else ""
+
+
+def at_heaviest(facts):
+    return {heaviest_name(facts): 1}
+
+
+def mostly_small(facts):
+    """Whether the code of an average task is so short that creating it costs much."""
+    return facts.tasks > MANY * facts.threads and 0 < average_task(facts) < SMALL
+
+
+def average_task(facts):
+    """Nanoseconds of code in one of the tasks that the program makes."""
+    made = [place for place in facts.places.values() if place.tasks and place.kind not in (SHARE, OF_THREADS)]
+    tasks = sum(place.tasks for place in made)
+    return sum(place.cost for place in made) // tasks if tasks else 0
+
+
+def is_maker(place):
+    """Whether it is code of a thread, in no task, that makes tasks one after the other."""
+    return place.is_creating and place.kind in (SERIAL, OF_THREADS) and not place.tasks
+
+
+def keeps_waiting(facts):
+    """Whether one thread makes nearly all tasks, and its own code for each lasts as long as the others take for one."""
+    making = [place for place in facts.places.values() if place.is_creating and not place.tasks]
+    own = list(filter(is_maker, making))
+    made, all_made = (sum(place.pieces for place in some) for some in (own, making))
+    alone = sum(place.cost for place in own)
+    return made > MANY * facts.threads and 10 * made > 9 * all_made and alone > A_CREATION * made and \
+        (facts.threads - 1) * alone > average_task(facts) * made
+
+
+def fine_kind(facts):
+    """Tasks that cost little more than to make them are too small, whoever makes them."""
+    return "creation" if keeps_waiting(facts) else "small_tasks"
+
+
+def kind_of_task(facts, place):
+    """By the shape alone, where tasks of a place kept the other threads idle."""
+    if 2 * place.undeferred > place.tasks > 0:
+        return "undeferred"
+    made = facts.places.get("task at " + place.at)
+    if not place.tasks and made and 2 * made.undeferred > made.tasks > 0:
+        return "undeferred"
+    shared = most_shared(place)
+    if shared and 2 * place.items[shared] > place.tasks > facts.threads:
+        return "dependence"
+    is_uneven = place.tasks >= facts.threads and place.largest > UNEVEN * place.average
+    return "imbalance" if is_uneven else "too_few_tasks"
+
+
+def most_shared(place):
+    """The item that most tasks of a place hold to write, by type and name; None without any."""
+    written = {item: count for item, count in place.items.items() if item[0] != "in"}
+    return max(written, key=lambda item: (written[item], item), default=None)
+
+
+def kind_of_starved(facts, name):
+    """Why the other threads had nothing to run while this code ran."""
+    place = facts.places.get(name)
+    if not place:
+        return "too_few_tasks"
+    if place.kind == SHARE:
+        return "loop_schedule"
+    if is_maker(place) and (keeps_waiting(facts) or mostly_small(facts)):
+        return fine_kind(facts)
+    if place.tasks > MANY * facts.threads and keeps_waiting(facts):
+        return "creation"
+    if place.kind == OF_THREADS and place.name.startswith("code of") and place.cost > SEVERAL * place.largest:
+        return "loop_schedule"
+    return "serial" if place.kind in (SERIAL, OF_THREADS) else kind_of_task(facts, place)
+
+
+def kind_of_delayed(facts, name):
+    """Why a thread idled though this code was ready."""
+    place = facts.places.get(name)
+    if kind_of_preempted(facts) == "too_many_threads":
+        return "too_many_threads"
+    if place and place.kind == SHARE:
+        return "loop_schedule"
+    if place and place.exclusive:
+        return "exclusion"
+    return fine_kind(facts) if keeps_waiting(facts) or mostly_small(facts) else "machine"
+
+
+def preempted_share(facts, name):
+    """Of the time that code lasted."""
+    place, off = facts.places.get(name), facts.preempted_by.get(name, 0)
+    return off / (place.cost + off) if place and off else 0.0
+
+
+def off_while_waiting(facts):
+    """Of the time in which threads were delayed or at locks, the share for which others had the processor: the run's
+    processor time, without that of code, is less by so much. Threads that block by themselves have none either, but
+    those that do not are preempted no more than code is."""
+    usage, waiting = facts.usage or {}, facts.delayed + facts.at_locks
+    if not (usage and waiting and facts.preempted):
+        return 0.0
+    on = (usage.get("user_ns") or 0) + (usage.get("system_ns") or 0) - facts.code - facts.recorder
+    return min(facts.preempted / (facts.code + facts.preempted), 1 - min(max(on, 0), waiting) / waiting)
+
+
+def asleep_share(facts, name):
+    """Of the time that code lasted."""
+    place, slept = facts.places.get(name), facts.asleep_by.get(name, 0)
+    return slept / max(place.cost, slept) if place and slept else 0.0
+
+
+def collected(kinds, by, kind_of, facts, least_off=0.0, for_sleep=False):
+    """While code was preempted, the machine kept those waiting too that were idle for it; and sleep did while it
+    slept, where they had nothing else to run."""
+    off = kind_of_preempted(facts)
+    for name, time in by.items():
+        part = int(time * max(least_off, preempted_share(facts, name)))
+        slept = int((time - part) * asleep_share(facts, name)) if for_sleep else 0
+        for key, lost in (((off, name), part), (("sleep", name), slept), ((kind_of(facts, name), name),
+                                                                          time - part - slept)):
+            kinds[key] = kinds.get(key, 0) + lost
+
+
+def idle_losses(facts):
+    """Of threads that ran no code, with those that the run could have had and did not."""
+    kinds, missing = {}, missing_threads(facts)
+    short = min(sum(missing.values()), facts.starved + (facts.target - facts.threads) * facts.elapsed)
+    starved = facts.starved + (facts.target - facts.threads) * facts.elapsed - short
+    collected(kinds, divided(starved, facts.starved_by or {"": 1}), kind_of_starved, facts, for_sleep=True)
+    collected(kinds, divided(facts.delayed, facts.delayed_by or {"": 1}), kind_of_delayed, facts,
+              off_while_waiting(facts))
+    return start_of(facts, [Loss(*key, time) for key, time in kinds.items()]) + \
+        by_place("too_few_threads", short, missing)
+
+
+def missing_threads(facts):
+    """By region: the time of threads that its team did not have."""
+    return {region.place: (facts.target - region.threads) * region.elapsed for region in facts.regions
+            if region.threads < facts.target}
+
+
+def kind_of_preempted(facts):
+    """More threads than processors preempt each other."""
+    return "too_many_threads" if facts.processors and facts.threads > facts.processors else "machine"
+
+
+def off_losses(facts):
+    """In the midst of code, but not in it: at locks, asleep, off the processor."""
+    locks = {lock.place or lock.kind: lock.waited for lock in facts.locks}
+    off = int(facts.at_locks * off_while_waiting(facts))
+    return by_place("lock", facts.at_locks - off, locks) + [Loss(kind_of_preempted(facts), "", off)] + \
+        by_place("sleep", facts.asleep, facts.asleep_by or at_heaviest(facts)) + \
+        by_place(kind_of_preempted(facts), facts.preempted, facts.preempted_by)
+
+
+def system_time(facts):
+    """Of code in the kernel, other than that before all constructs. Idle threads are in the kernel too, where they
+    yield the processor: code is there for its page faults, and for what it lasted longer than all time outside."""
+    usage = facts.usage or {}
+    system, user = usage.get("system_ns") or 0, usage.get("user_ns") or 0
+    if not system or system < MUCH_SYSTEM * (system + user):
+        return 0
+    for_faults = min(fault_time(facts), facts.code * system // (system + user))
+    return max(0, min(system, max(for_faults, facts.code - user)) - begun(facts))
+
+
+def fault_time(facts):
+    return A_FAULT * ((facts.usage or {}).get("minor_faults") or 0)
+
+
+def has_many_faults(facts):
+    """Whether page faults are most of what is lost to the system."""
+    return 2 * fault_time(facts) >= system_time(facts)
+
+
+def begun(facts):
+    """What the code before all constructs took."""
+    return facts.places[BEGINNING].cost if BEGINNING in facts.places else 0
+
+
+def share_of_start(facts):
+    """Of the code before all constructs, what the program and its runtime need to start."""
+    return min(1.0, STARTED / max(begun(facts), 1)) if facts.whole else 0.0
+
+
+def start_of(facts, losses_found):
+    """Of the losses while that code ran, those of the start."""
+    share, out = share_of_start(facts), []
+    for loss in losses_found:
+        part = int(loss.time * share) if (loss.kind, loss.place) == ("serial", BEGINNING) else 0
+        out += [loss._replace(time=loss.time - part), Loss("startup", "", part)]
+    return out
+
+
+def dearer(facts):
+    """By place, what its code cost beyond what it did on one thread."""
+    one = facts.cost_on_one or {}
+    return {name: max(0, place.cost - one[name]) for name, place in facts.places.items() if name in one}
+
+
+def in_code_losses(facts):
+    """Of what counts as code: in the kernel, making small tasks, and dearer than on one thread."""
+    left, out = facts.code, []
+    is_small = mostly_small(facts) and not keeps_waiting(facts)
+    making = min(facts.creating * facts.tasks, facts.code // 2) if is_small else 0
+    for kind, time, weights in (("system", system_time(facts), at_heaviest(facts)),
+                                ("small_tasks", making, at_heaviest(facts)),
+                                ("memory", sum(dearer(facts).values()), dearer(facts))):
+        part = min(time, left)
+        left -= part
+        out += by_place(kind, part, weights)
+    return out
+
+
+def crowded_region(facts):
+    """That with the most threads; empty where it is not known."""
+    return max(facts.regions, key=lambda region: region.threads).place if facts.regions else ""
+
+
+def losses(facts):
+    """The largest first; parts of one kind and place are one."""
+    found = idle_losses(facts) + off_losses(facts) + in_code_losses(facts) + \
+        [Loss("recorder", "", facts.recorder), Loss("startup", "", facts.outside)]
+    together, one_place = {}, {"too_many_threads": crowded_region(facts), **dict.fromkeys(FINE, heaviest_name(facts))}
+    for loss in found:
+        key = (loss.kind, one_place.get(loss.kind, loss.place))
+        together[key] = together.get(key, 0) + loss.time
+    return sorted((Loss(*key, time) for key, time in together.items() if time), key=lambda loss: -loss.time)
+
+
+def useful_time(facts, found):
+    """The threads' time without what no change of the program wins back."""
+    return max(1, facts.whole_time - sum(loss.time for loss in found if loss.kind in (*NO_CAUSE, "machine")))
+
+
+def least_of(facts, found, share):
+    """The least loss that is a cause: a share of the useful time, on a busy machine no less than a little of all."""
+    return max(share * useful_time(facts, found), LITTLE * facts.whole_time)
+
+
+def code_on_one(facts, found):
+    """What is left of the threads' time: the program's code, as it is on one thread as far as that is known."""
+    return facts.whole_time - sum(loss.time for loss in found)

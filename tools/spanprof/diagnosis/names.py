@@ -1,0 +1,175 @@
+"""How places, waits and depend items are named to people: functions, lines, and items as the source spells them."""
+import re
+
+from spanprof.diagnosis.calls import innermost
+from spanprof.diagnosis.directives import construct_of, directive_line, is_of_some_turns
+from spanprof.diagnosis.places import OF_THREADS, SERIAL, lines_between
+from spanprof.source_lines import LONGEST, STRING, after_directive, code_lines, line_of, statement_end
+from spanprof.text import BEGINNING
+
+FUNCTION = re.compile(r"^[A-Za-z_][\w\s:*&<>,~]*\b%s\s*\(")
+CALL = re.compile(r"^(?:[\w.\[\]>-]+\s*[-+*/]?=\s*)?([A-Za-z_]\w*)\s*\(")
+DEPEND = re.compile(r"depend\s*\(\s*(\w+)\s*:\s*((?:[^()]|\([^()]*\))*)\)")
+LINE = re.compile(r"[^\s:/]+:\d+$")
+NO_CALLS = ("if", "for", "while", "switch", "return", "sizeof")
+WRITES = {"out": "inout"}       # as the recorder writes it
+
+
+def split_items(words):
+    """At the commas that stand in no brackets."""
+    out, depth = [""], 0
+    for sign in words:
+        depth += (sign in "[({") - (sign in "])}")
+        if sign == "," and not depth:
+            out.append("")
+        else:
+            out[-1] += sign
+    return [word.strip() for word in out]
+
+
+def items_in(directive):
+    """The items of a directive as they are spelt, by the type that the recorder writes; and the type as it is spelt."""
+    found = {}
+    for kind, words in DEPEND.findall(directive):
+        found.setdefault(WRITES.get(kind, kind), []).extend((kind, item) for item in split_items(words))
+    return found
+
+
+def block_end(lines, number):
+    """The last line of code from one on before the block closes that it is in."""
+    depth, last = 0, number
+    for here in range(number, min(len(lines), number + LONGEST) + 1):
+        code = STRING.sub("", lines[here - 1])
+        depth += code.count("{") - code.count("}")
+        if depth < 0:
+            break
+        if code.strip() and not code.lstrip().startswith("#"):
+            last = here
+    return last
+
+
+class Names:
+    """`sources` has the lines of the program's files, where they are found."""
+
+    def __init__(self, facts, sources):
+        self.facts, self.sources = facts, sources
+
+    def lines_of(self, name):
+        return self.sources.lines_of(name) if self.sources else []
+
+    def function_begin(self, name, function, number):
+        """The line at which a function begins that has a line in it; 0 where it is not found."""
+        begins, lines = re.compile(FUNCTION.pattern % re.escape(function)), self.lines_of(name)
+        return next((here for here in range(min(number, len(lines)), 0, -1) if begins.match(lines[here - 1])), 0)
+
+    def begin(self, name, at):
+        """The line of a construct, by the name of its place and where it was recorded."""
+        line, lock = line_of(at), self.lock(name)
+        if not line or not self.facts.is_of_gcc or lock and lock.kind != "critical":
+            return line
+        construct = lock.kind if lock else construct_of(name)
+        return line._replace(number=directive_line(self.lines_of(line.file), line.number, construct))
+
+    def lock(self, name):
+        return next((lock for lock in self.facts.locks if name and name in (lock.place, lock.kind)), None)
+
+    def spelt(self, name):
+        """With the line of its directive."""
+        line = self.begin(name, name)
+        return LINE.sub("%s:%d" % line, name) if line else name
+
+    def is_of_some_turns(self, wait):
+        line = self.begin(wait, wait)
+        return bool(line) and is_of_some_turns(self.lines_of(line.file), line.number)
+
+    def directive(self, name, at):
+        """The directive of a place, its lines joined."""
+        line = self.begin(name, at)
+        lines = self.lines_of(line.file) if line else []
+        if not line or not 0 < line.number <= len(lines):
+            return ""
+        end = after_directive(lines, line.number)
+        return " ".join(one.strip().rstrip("\\") for one in lines[line.number - 1:end - 1])
+
+    def stretch(self, place):
+        """File, first and last line of a place's code, as far as they are known."""
+        file, first, last = lines_between(place)
+        if place.name == BEGINNING and file:
+            function = self.function(place)
+            return file, self.function_begin(file, function, last) if function else 0, last
+        line = self.begin(place.name, place.at)
+        if line and self.lines_of(file):
+            begin, end = code_lines(place.name, line, self.lines_of(file))
+            return file, begin, last if last >= begin else max(end, block_end(self.lines_of(file), begin))
+        return file, first, last
+
+    def function(self, place):
+        """That which the place's code is in; that of the construct that ends it where it begins with none."""
+        functions = self.facts.functions
+        at = line_of(place.at) or line_of(place.last_end)
+        return functions.get("%s:%d" % at, "") if at else "main" * (place.kind == SERIAL)
+
+    def line(self, name):
+        """The same of a wait, a lock or a region."""
+        line = self.begin(name, name)
+        return (line.file, line.number, line.number) if line else ("", 0, 0)
+
+    def function_at(self, name):
+        line = line_of(name)
+        return self.facts.functions.get("%s:%d" % line, "") if line else ""
+
+    def called(self, place):
+        """The function that a task's statement calls, if it is one call alone; else that which the task is in."""
+        line = self.begin(place.name, place.at)
+        lines = self.lines_of(line.file) if line else []
+        if line and 0 < line.number < len(lines):
+            begin = after_directive(lines, line.number)
+            while begin < len(lines) and lines[begin - 1].strip() in ("", "{"):
+                begin += 1
+            call = CALL.match(lines[begin - 1].strip())
+            if call and call[1] not in NO_CALLS and statement_end(lines, begin) == begin:
+                return call[1]
+        return self.function(place)
+
+    def place(self, name):
+        """In few words, such as `sort.c:9 (merge)` for tasks, and `main (sort.c:18-25)` for other code."""
+        place = self.facts.places.get(name)
+        if not place:
+            return self.other(name)
+        if place.tasks and line_of(place.at) and not name.startswith("code of"):
+            function, line = self.called(place), self.begin(name, place.at)
+            return "%s:%d%s" % (*line, " (%s)" % function if function not in ("", "main") else "")
+        ran = self.ran(place)
+        if ran:
+            return "%s (called by %s)" % (ran.function, ran.caller) if ran.caller else ran.function
+        file, first, last = self.stretch(place)
+        function = self.function(place) or "code"
+        if not file:
+            return function if function != "code" else name
+        if first and last > first:
+            return "%s (%s:%d-%d)" % (function, file, first, last)
+        return "%s (%s%s:%d)" % (function, "" if first else "before ", file, first or last)
+
+    def at(self, name):
+        """The file and line of a place's construct; its name where it has none."""
+        line = self.begin(name, self.facts.places[name].at if name in self.facts.places else name)
+        return "%s:%d" % line if line else self.place(name).partition(" (")[0]
+
+    def ran(self, place):
+        """The function in which serial code, or that of a thread, spent most of its time; None if it is not known."""
+        return innermost(self.facts.calls.ran.get(place.name, {})) if place.kind in (SERIAL, OF_THREADS) else None
+
+    def other(self, name):
+        """A wait, a lock or a region."""
+        lock, told = self.lock(name), self.spelt(name)
+        if lock:
+            return "%s%s" % (lock.kind, " at " + told if lock.place else "")
+        return told if not name.startswith(("taskwait", "taskgroup", "barrier")) else "the " + told
+
+    def item(self, place, item):
+        """Of a place's tasks, such as `inout: tab[0]`; by its number where the source is not found. gcc's code has the
+        items of a task in reverse order."""
+        kind, name = item
+        directive = items_in(self.directive(place.name, place.at))
+        written, index = directive.get(kind, [])[::-1 if self.facts.is_of_gcc else 1], place.positions.get(item)
+        return "%s: %s" % (written[index] if index is not None and index < len(written) else (kind, name))

@@ -1,0 +1,152 @@
+"""The change that brings most, and the best one on top of it, each with the run's time before and after."""
+from dataclasses import dataclass
+from typing import Optional
+
+from spanprof.diagnosis.causes import BY_KIND, WORTH_A_CHANGE
+from spanprof.diagnosis.changes import Change
+from spanprof.diagnosis.losses import (IN_CODE, kind_of_task, least_of, losses, most_shared,
+                                       share_of_start)
+from spanprof.diagnosis.places import SERIAL, TASK
+from spanprof.text import BEGINNING
+
+STEPS = 3
+SPREAD = 0.16       # of a predicted time: nine of ten were within
+BOUND_LEAST = 0.3   # of the gain of a bound: less is rare
+# How often such a change is one that a program allows: what it brings is weighed with it.
+LIKELY = {"in-for-inout": 1.0, "defer": 1.0, "split": 0.8, "task": 0.6, "drop-depend": 0.3, "drop-wait": 0.3}
+# A wait for tasks that depend items order too may not be needed; nor one that only some turns of the loop reach that
+# makes the tasks, as if these used a few buffers in turns.
+ORDERED = 0.9
+AT_THE_ENDS = 0.4   # code before all constructs, or after them, mostly reads, fills or frees
+LATER = 0.08        # of the time before it, that a change on top of another brings at least
+FEW_HOLD = 0.4      # items that fewer than half of a place's tasks hold are seldom read alone
+
+
+@dataclass(frozen=True)
+class Step:
+    """Times are of the run, in nanoseconds. Without a change it is a bound: what is lost by its cause is gone."""
+    kind: str
+    place: str
+    before: int
+    after: int
+    low: int
+    high: int
+    likely: float = 1.0
+    change: Optional[Change] = None
+
+    @property
+    def gain(self):
+        return self.before - self.after
+
+    @property
+    def worth(self):
+        return self.gain * self.likely
+
+
+def holder(facts, name):
+    """The place with the most tasks that hold a name to write."""
+    return max(facts.places.values(), key=lambda place: place.items[("inout", name)])
+
+
+def cause_of(facts, change):
+    """The kind of the loss that a change wins back, and its place."""
+    place = change.place
+    if change.kind == "in-for-inout":
+        return "dependence", holder(facts, place).name
+    if change.kind == "split":
+        return kind_of_split(facts, place), place
+    return {"drop-depend": "dependence", "drop-wait": "wait", "defer": "undeferred",
+            "task": "too_few_tasks"}[change.kind], place
+
+
+def kind_of_split(facts, name):
+    found = facts.places[name]
+    if found.kind != TASK:
+        return "serial"
+    return kind_of_task(facts, found) if kind_of_task(facts, found) == "imbalance" else "too_few_tasks"
+
+
+def is_at_an_end(facts, name):
+    """Whether code stands before all constructs of the program, or after them."""
+    place = facts.places.get(name)
+    return bool(place) and place.kind == SERIAL and (name == BEGINNING or place.last_end == "")
+
+
+def likely(facts, seen, change):
+    if change.kind == "drop-wait":
+        free = all(seen.ordered[one.word] or one.word in facts.waits_of_some_turns for one in change.requests)
+        return ORDERED if free else LIKELY["drop-wait"]
+    if change.kind == "in-for-inout":
+        place = holder(facts, change.place)
+        return LIKELY[change.kind] if 2 * place.items[most_shared(place)] >= place.tasks else FEW_HOLD
+    return AT_THE_ENDS if is_at_an_end(facts, change.place) else LIKELY[change.kind]
+
+
+def predicted(now, before, end, kept=0.0):
+    """The run's time after a change, by how much sooner the greedy run of the text ends; `kept` is the share that a
+    busy machine took, which stays."""
+    return int(now - now * (1 - kept) * (1 - end / before)) if before else now
+
+
+def machine_share(facts):
+    """Of the threads' time, what other programs took."""
+    return facts.share(sum(loss.time for loss in losses(facts) if loss.kind == "machine"))
+
+
+def least_time(facts, now, code):
+    """All of this code on as many threads as run at once."""
+    return int(now * code / max(facts.usable * facts.elapsed, 1))
+
+
+def step_of(facts, seen, now, before, tried):
+    """Of a change that was tried; `before` is where the greedy run ended without it."""
+    after = min(now, max(predicted(now, before, tried.end, machine_share(facts)),
+                         least_time(facts, facts.now, facts.work)))
+    kind, place = cause_of(facts, tried.change)
+    if place == BEGINNING and tried.change.kind == "split":
+        after += int((now - after) * share_of_start(facts))
+    return Step(kind, place, now, after, int(after * (1 - SPREAD)), min(now, int(after * (1 + SPREAD))),
+                likely(facts, seen, tried.change), tried.change)
+
+
+def bound_of(facts, now, loss):
+    """As if what is lost by this cause were gone; all code is still to run, if it is not in code that it is lost."""
+    after = int(now * (1 - facts.share(loss.time)))
+    if loss.kind not in IN_CODE:
+        after = min(now, max(after, least_time(facts, facts.now, facts.code)))
+    return Step(loss.kind, loss.place, now, after, after, int(now - BOUND_LEAST * (now - after)))
+
+
+def bounds(facts, now, found):
+    """Of the losses for which no change of the text is tried."""
+    least = {kind: least_of(facts, found, cause.least) for kind, cause in BY_KIND.items()
+             if cause.is_bound}
+    return [bound_of(facts, now, loss) for loss in found if loss.kind in least and loss.time >= least[loss.kind]]
+
+
+def best_of(steps, least=WORTH_A_CHANGE):
+    worthy = [step for step in steps if step.gain >= least * step.before]
+    return max(worthy, key=lambda step: step.worth, default=None)
+
+
+def steps_after(facts, bench, found, first, ranked):
+    """The best steps on top of the first one."""
+    plan, made = [first], list(first.change.requests if first.change else ())
+    done = {(first.kind, first.place)}
+    while len(plan) < STEPS and bench.has_time():
+        now, before = plan[-1].after, bench.end(made) if made else facts_end(bench)
+        tried = bench.tries([step.change for step in ranked if step.change and step.change != first.change][:2 * STEPS],
+                            made)
+        steps = [step_of(facts, bench.seen, now, before, one) for one in tried] + bounds(facts, now, found)
+        step = best_of([one for one in steps if (one.kind, one.place) not in done], LATER)
+        if not step:
+            break
+        plan.append(step)
+        done.add((step.kind, step.place))
+        made += step.change.requests if step.change else ()
+    return plan
+
+
+def facts_end(bench):
+    """Where the greedy run of the text ends as it is, on as many threads as the run could have had."""
+    return bench.end([])

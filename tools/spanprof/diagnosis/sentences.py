@@ -1,0 +1,209 @@
+"""What is told of a run on a terminal: at most eight lines of at most 100 columns."""
+from spanprof.account_words import lasting
+from spanprof.diagnosis.calls import asleep_in, together
+from spanprof.diagnosis.causes import BY_KIND
+from spanprof.diagnosis.losses import average_task, has_many_faults, most_shared
+from spanprof.diagnosis.places import SERIAL
+from spanprof.diagnosis.plan import holder
+
+WIDTH, MOST_LINES = 100, 8
+LABEL = 6
+BUSY = 0.1      # of the threads' time off the processor, from which on the last line says so
+NO_FASTER = 1.1
+TRIED = {
+    "in-for-inout": "depend(in: {item}) at {at}, if the tasks only read it",
+    "drop-depend": "no depend items at {at}, if the tasks may run in any order",
+    "drop-wait": "leave out {waits}, if nothing after it needs those tasks",
+    "defer": "defer more tasks at {at}: change its if or final",
+    "task": "make {where} a task of its own"}
+SPLIT = {"serial": "divide {where} among {usable} tasks", "imbalance": "divide the longest tasks at {where}",
+         "too_few_tasks": "divide each task of {where} into {usable}"}
+
+
+def grouped(number):
+    return "{:,}".format(number)
+
+
+def several(number, what):
+    return "%s %s%s" % (grouped(number), what, "s" * (number != 1))
+
+
+def place_of(facts, name):
+    return facts.places.get(name)
+
+
+def words_of_place(facts, names, place):
+    """Those of a place of code."""
+    shared = most_shared(place)
+    count = place.items[shared] if shared else 0
+    ratio = place.cost / facts.cost_on_one[place.name] if (facts.cost_on_one or {}).get(place.name) else 1
+    return {"tasks": several(place.tasks, "task"), "largest": lasting(place.largest),
+            "average": lasting(int(place.average)), "item": names.item(place, shared) if shared else "",
+            "many": "all" if count == place.tasks else grouped(count), "dearer": "%.1f" % ratio}
+
+
+def words_of_kernel(facts, usage):
+    """Page faults only where they are most of it."""
+    if has_many_faults(facts):
+        return {"kernel": "%s page faults" % grouped(usage.get("minor_faults") or 0),
+                "less_kernel": "reuse memory: no large malloc, mmap or free in each task"}
+    return {"kernel": "system calls", "less_kernel": "fewer system calls, each for more: larger buffers"}
+
+
+def words_of_run(facts):
+    usage = facts.usage or {}
+    used = (usage.get("user_ns") or 0) + (usage.get("system_ns") or 0)
+    return {"threads": facts.threads, "processors": facts.processors, "target": facts.target, "usable": facts.usable,
+            "all_tasks": grouped(facts.tasks), "average_task": lasting(average_task(facts)),
+            "code": "%.0f" % (100 * facts.share(facts.code)), **words_of_kernel(facts, usage),
+            "system": "%.0f" % (100 * (usage.get("system_ns") or 0) / used if used else 0)}
+
+
+def words_of_alone(facts, names, place):
+    """How much of all serial code the function has that this code ran, by samples."""
+    ran = names.ran(place)
+    if not ran:
+        return "the other threads wait"
+    serial = [one for one in facts.places.values() if one.kind == SERIAL]
+    sampled = together(facts.calls.ran, [one.name for one in serial] or [place.name])
+    having = sum(time for calls, time in sampled.items() if ran.function in calls)
+    return "%.0f %% of %s of serial code" % (100 * having / max(sum(sampled.values()), 1),
+                                            lasting(sum(one.cost for one in serial)))
+
+
+def words_of_sleep(facts, name):
+    """Such as `in read, called by load`; what it may be where no sample tells."""
+    function, caller = asleep_in(facts.calls.slept.get(name, {}))
+    if not function:
+        return "or waits: for files, a network, other locks"
+    return "in %s%s" % (function, ", called by " + caller if caller else "")
+
+
+def words(facts, names, name):
+    """What a sentence may have, of a place, a wait, a lock or a region."""
+    place = place_of(facts, name)
+    out = dict(words_of_run(facts), where=names.place(name), at=names.at(name), item="",
+               in_what=words_of_sleep(facts, name), tasks="", many="", largest="", average="", dearer="", times="",
+               got="", alone="the other threads wait")
+    if place:
+        out.update(words_of_place(facts, names, place), alone=words_of_alone(facts, names, place))
+    out.update({"times": grouped(lock.times) for lock in facts.locks if name in (lock.place, lock.kind)})
+    out["in_region"] = "in the region at " + name if name else "in some region"
+    out.update({"got": several(region.threads, "thread") for region in facts.regions if region.place == name})
+    return out
+
+
+def lost_sentence(facts, names, loss):
+    if not loss.place:
+        loss = type(loss)(loss.kind, max(facts.places, key=lambda name: facts.places[name].cost, default=""), loss.time)
+    return BY_KIND[loss.kind].lost.format(**words(facts, names, loss.place))
+
+
+def waits(names, found):
+    """Several of one file by their lines."""
+    lines = [names.begin(name, name) for name in found]
+    if len(found) == 1 or None in lines or len({line.file for line in lines}) > 1:
+        return " and ".join(map(names.place, found))
+    numbers = ["%d" % line.number for line in sorted(lines)]
+    return "the waits at %s:%s and %s" % (lines[0].file, ", ".join(numbers[:-1]), numbers[-1])
+
+
+def change_sentence(facts, names, step):
+    """What to do, of a change that was tried or of a bound."""
+    if not step.change:
+        return BY_KIND[step.kind].change.format(**words(facts, names, step.place))
+    kind, place = step.change.kind, step.change.place
+    if kind == "split":
+        kind = step.kind if facts.places[place].tasks else "serial"
+        return SPLIT[kind].format(**words(facts, names, place))
+    found = words(facts, names, step.place)
+    if kind == "in-for-inout":
+        item = names.item(holder(facts, place), ("inout", place))
+        found["item"] = item.partition(": ")[2]
+    found["waits"] = waits(names, [one.word for one in step.change.requests])
+    return TRIED[kind].format(**found)
+
+
+def shortened(text, width):
+    return text if len(text) <= width else text[:width - 3].rstrip() + "..."
+
+
+def gain_words(step):
+    bound = "" if step.change else "at best "
+    return "%s -> %s%s" % (lasting(step.before), bound, lasting(step.after))
+
+
+def change_line(label, facts, names, step):
+    gain = gain_words(step)
+    room = WIDTH - LABEL - len(gain) - 2
+    return "%-*s%-*s  %s" % (LABEL, label, room, shortened(change_sentence(facts, names, step), room), gain)
+
+
+def speed_words(facts):
+    """Against one thread, where that was timed."""
+    one = facts.on_one
+    if not one:
+        return ""
+    times = one / max(facts.now, 1)
+    told = "no faster" if 1 / NO_FASTER < times < NO_FASTER else "%.1f times as fast" % times if times > 1 else \
+        "%.1f times slower" % (1 / times)
+    return ", %s on one: %s" % (lasting(one), told)
+
+
+def first_line(found):
+    facts = found.facts
+    return "%s: %s on %s%s%s. At best %s." % (
+        facts.program or "program", lasting(found.now), several(facts.threads, "thread"),
+        " of " + facts.runtime if facts.runtime else "", speed_words(facts), lasting(found.best))
+
+
+def lost_lines(found, names):
+    facts = found.facts
+    for i, loss in enumerate(found.causes):
+        share = facts.share(loss.time)
+        line = "%-*s%2.0f %%  %s" % (LABEL, "lost" * (i == 0), 100 * share, lost_sentence(facts, names, loss))
+        yield shortened(line, WIDTH)
+
+
+def unsure(facts):
+    """What one run cannot tell."""
+    if facts.target == 1:
+        return "what more threads would bring: record on more"
+    if facts.cost_on_one is None and facts.true_one is None and facts.threads > 1:
+        return "whether code costs more on %d threads: --full" % facts.threads
+    return ""
+
+
+def sure_words(found):
+    """How much of the program was seen, and how it went."""
+    facts = found.facts
+    off = sum(facts.share(loss.time) for loss in found.losses if loss.kind == "machine")
+    parts = [several(facts.runs, "run"), "recorder %.1f %%" % (100 * facts.share(facts.recorder)),
+             "%.1f %% of the program seen" % (100 * facts.coverage) if facts.coverage is not None else "",
+             "gains predicted" if any(step.change for step in found.plan) else "",
+             "machine busy: %.0f %%" % (100 * off) if off >= BUSY else ""]
+    return list(filter(None, parts))
+
+
+def sure_lines(found, more):
+    """How much of it is known, and where the rest is."""
+    facts = found.facts
+    told = "%-*s%s" % (LABEL, "sure", ", ".join(sure_words(found)))
+    return [shortened(line, WIDTH) for line in filter(None, [
+        told, "%-*s%s" % (LABEL, "", "not known: " + unsure(facts)) if unsure(facts) else "",
+        "%-*s%s" % (LABEL, "more", more) if more else ""])]
+
+
+def note_lines(news):
+    """The first of what went wrong with a recording, and how many more there are."""
+    more = " (and %d more: --all)" % (len(news) - 1) if len(news) > 1 else ""
+    return ["%-*s%s%s" % (LABEL, "note", shortened(news[0], WIDTH - LABEL - len(more)), more)] if news else []
+
+
+def short_lines(found, names, more="", news=()):
+    """`more` says where the rest stands, `news` what went wrong with the recording."""
+    plan = [change_line(label, found.facts, names, step)
+            for label, step in zip(("do", "then", "then"), found.plan)]
+    lost = list(lost_lines(found, names))
+    last = note_lines(list(news)) + sure_lines(found, more)
+    return [shortened(first_line(found), WIDTH)] + lost + plan[:MOST_LINES - 1 - len(lost) - len(last)] + last

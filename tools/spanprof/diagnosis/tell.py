@@ -1,0 +1,72 @@
+"""The diagnosis of a recording: what a terminal shows, and the JSON of it."""
+import os
+from dataclasses import dataclass
+
+from spanprof.diagnosis.changes import Bench
+from spanprof.diagnosis.diagnose import Diagnosis, diagnose
+from spanprof.diagnosis.facts import facts_of
+from spanprof.diagnosis.losses import losses
+from spanprof.diagnosis.names import Names
+from spanprof.diagnosis.plan import bounds
+from spanprof.diagnosis.schema import as_json
+from spanprof.diagnosis.sentences import short_lines
+from spanprof.errors import Fault
+from spanprof.recording import open_recording
+from spanprof.source import Sources
+from spanprof.whatif.texts import Text, version_of
+
+LONG = 50000        # pieces of code
+MOST_OF_IT = 0.4    # of the run's time
+
+
+@dataclass
+class Told:
+    found: Diagnosis
+    names: Names
+
+    def lines(self, more="", news=()):
+        return short_lines(self.found, self.names, more, news)
+
+    def json(self):
+        return as_json(self.found, self.names)
+
+
+def needs_trials(facts):
+    """Of a long text that has lost most to a cause that no change of the text tells, none is tried: each is a pass over
+    all of it."""
+    pieces = sum(place.pieces for place in facts.places.values())
+    first = next(iter(bounds(facts, facts.now, losses(facts))), None)
+    return pieces < LONG or not first or first.gain < MOST_OF_IT * first.before
+
+
+def bench_of(path, facts, seconds=None):
+    """None where no change can be tried, as on a text of version 2."""
+    if version_of(path) == 2:
+        return None
+    try:
+        return Bench(Text(path, 1), facts, seconds)
+    except (Fault, OSError):
+        return None
+
+
+def told_of(recording, folders=(), seconds=None):
+    """`folders` are where the source is; without them beside the recording, and here. Changes are tried for so many
+    seconds, or as long as a person waits."""
+    facts = facts_of(recording)
+    bench = bench_of(recording.text, facts, seconds) if needs_trials(facts) else None
+    beside = [os.path.dirname(os.path.abspath(recording.folder or recording.text)), os.getcwd()]
+    names = Names(facts, Sources(list(folders) or beside))
+    if bench:
+        facts.creating = bench.costs.creating * bench.unit
+        facts.waits_of_some_turns = set(filter(names.is_of_some_turns, bench.seen.waits))
+    return Told(diagnose(facts, bench), names)
+
+
+def diagnosis_of(answers, folders=()):
+    """Of a recorded run on several threads; None where there is none, as of a text without times."""
+    if not answers.head.elapsed or (answers.head.threads or 1) == 1:
+        return None
+    try:
+        return told_of(open_recording(answers.path), folders)
+    except (Fault, OSError):
+        return None

@@ -1,0 +1,65 @@
+"""Tests of what code ran by samples."""
+import os
+import tempfile
+import unittest
+from collections import Counter
+
+from spanprof.diagnosis.calls import Ran, Sampled, asleep_in, calls_of, innermost, together
+
+MAIN = ("main", "convert", "plasma")
+
+
+class Innermost(unittest.TestCase):
+    def test_the_innermost_function_with_most_of_the_samples(self):
+        self.assertEqual(innermost({MAIN: 95000, ("main", "other"): 5000}), Ran("plasma", "convert", 0.95))
+        deep = {MAIN + ("sin",): 60000, MAIN + ("cos",): 40000}
+        self.assertEqual(innermost(deep), Ran("plasma", "convert", 1.0))
+
+    def test_where_none_has_most_the_share_is_less(self):
+        self.assertEqual(innermost({("main", "read"): 60000, ("main", "sort"): 40000}), Ran("read", "main", 0.6))
+
+    def test_a_function_that_calls_itself_counts_once(self):
+        self.assertEqual(innermost({("main", "f", "f", "f"): 50000}), Ran("f", "f", 1.0))
+
+    def test_functions_of_the_system_count_for_their_callers(self):
+        self.assertEqual(innermost({MAIN + ("sin@libm.so.6",): 60000}), Ran("plasma", "convert", 1.0))
+        self.assertEqual(innermost({("main", "order", "qsort@libc.so.6", "less"): 60000}), Ran("less", "qsort", 1.0))
+        self.assertIsNone(innermost({("main", "memset@libc.so.6"): 60000}))
+
+    def test_functions_without_a_symbol_are_passed_over(self):
+        self.assertEqual(innermost({("gm", "ReadImage", "libGM.so.3", "PlasmaImage", "libGM.so.3"): 60000}),
+                         Ran("PlasmaImage", "ReadImage", 1.0))
+
+    def test_too_few_samples_or_no_function(self):
+        self.assertIsNone(innermost({MAIN: 12000}))
+        self.assertIsNone(innermost({}))
+        self.assertIsNone(innermost({("main",): 99000}))
+        self.assertIsNone(innermost({("main", str(i)): 9000 for i in range(9)}))
+
+    def test_an_outermost_function_has_no_caller(self):
+        self.assertEqual(innermost({("sort",): 50000}), Ran("sort", "", 1.0))
+
+
+class Asleep(unittest.TestCase):
+    def test_the_function_it_slept_in_most(self):
+        slept = {("main", "load", "read@libc.so.6"): 9, ("main", "save", "write"): 5}
+        self.assertEqual(asleep_in(slept), ("read", "load"))
+        self.assertEqual(asleep_in({("read",): 9}), ("read", ""))
+        self.assertEqual(asleep_in({}), ("", ""))
+
+
+class Files(unittest.TestCase):
+    def test_the_samples_of_segments_are_those_of_their_places(self):
+        with tempfile.TemporaryDirectory() as folder:
+            path = os.path.join(folder, "calls")
+            with open(path, "w", encoding="utf-8") as file:
+                file.write("0 ran 8000 main;operator new (unsigned long)\n2 ran 4000 main;b\n0 ran 4000 main;b\n"
+                           "7 ran 4000 main\n0 slept 900 main;load;read\n")
+            found = calls_of(path, ["serial", "task", "serial"])
+        self.assertEqual(found.slept, {"serial": Counter({("main", "load", "read"): 900})})
+        self.assertEqual(found.ran, {"serial": Counter({("main", "operator new (unsigned long)"): 8000,
+                                                    ("main", "b"): 8000})})
+        self.assertEqual(together(found.ran, ["serial", "task"]), found.ran["serial"])
+
+    def test_no_file(self):
+        self.assertEqual(calls_of("", ["serial"]), Sampled({}, {}))

@@ -1,0 +1,133 @@
+import unittest
+from collections import Counter
+from types import SimpleNamespace
+
+from spanprof.diagnosis.changes import Change, Tried, single
+from spanprof.diagnosis.diagnose import diagnose
+from spanprof.diagnosis.places import SERIAL
+from spanprof.diagnosis.plan import bound_of, is_at_an_end, likely, predicted
+from spanprof.diagnosis.losses import Loss
+from spanprof.diagnosis.tests.worked import MS, facts, place
+from spanprof.whatif.requests import Request
+
+TASKS, WAIT, BEGINS = "task at image.c:25", "taskwait at image.c:30", "the beginning"
+
+
+class Bench:
+    """Greedy ends by the requests that are made; a change that is not there cannot be made."""
+
+    def __init__(self, ends, ordered=()):
+        self.ends, self.seen = ends, SimpleNamespace(ordered=Counter(ordered))
+
+    def candidates(self):
+        return [Change(requests) for requests in self.ends if len(requests) == 1 and requests]
+
+    def end(self, requests):
+        return self.ends[tuple(requests)]
+
+    def has_time(self):
+        return True
+
+    def tries(self, found, before=()):
+        keys = [(change, tuple(before) + change.requests) for change in found]
+        return [Tried(change, self.ends[key]) for change, key in keys if key in self.ends]
+
+
+def asked(option, word):
+    return (Request(option, word),)
+
+
+def idle(name, **more):
+    one = place(name, **more)
+    return facts([one], starved=200 * MS, starved_by={name: 200 * MS})
+
+
+class Diagnoses(unittest.TestCase):
+    def test_a_needless_dependence_comes_before_a_split(self):
+        found = idle(TASKS)
+        found.places[TASKS].items[("inout", "a0")] = 8
+        told = diagnose(found, Bench({(): 90, asked("in-for-inout", "a0"): 50, asked("split", TASKS + "=4"): 48}))
+        self.assertEqual([loss.kind for loss in told.causes], ["dependence"])
+        self.assertEqual((told.plan[0].kind, told.plan[0].place), ("dependence", TASKS))
+        self.assertEqual(told.plan[0].after, 100 * MS * 50 // 90)
+
+    def test_what_is_lost_to_a_wait_is_of_that_kind(self):
+        told = diagnose(idle(TASKS), Bench({(): 90, asked("drop-wait", WAIT): 55}, ordered=[WAIT]))
+        self.assertEqual(told.causes, [Loss("wait", WAIT, 200 * MS)])
+
+    def test_a_wait_that_orders_tasks_is_mostly_needed(self):
+        ends = {(): 90, asked("drop-wait", WAIT): 55, asked("split", TASKS + "=4"): 70}
+        self.assertEqual(diagnose(idle(TASKS), Bench(ends)).plan[0].change.kind, "split")
+
+    def test_nothing_is_promised_where_little_is_lost(self):
+        found = facts([place(TASKS)], starved=10 * MS, starved_by={TASKS: 10 * MS})
+        told = diagnose(found, Bench({(): 100, asked("split", TASKS + "=4"): 96}))
+        self.assertEqual(([loss.kind for loss in told.causes], told.plan), (["efficient"], []))
+
+    def test_a_second_step_is_tried_on_top_of_the_first(self):
+        one, two = asked("in-for-inout", "a0"), asked("split", BEGINS + "=4")
+        found = idle(TASKS)
+        found.places[TASKS].items[("inout", "a0")] = 8
+        found.places[BEGINS] = place(BEGINS, SERIAL, cost=50 * MS, tasks=0)
+        told = diagnose(found, Bench({(): 90, one: 60, two: 70, one + two: 45}))
+        self.assertEqual([step.kind for step in told.plan], ["dependence", "serial"])
+        self.assertEqual(told.plan[1].before, told.plan[0].after)
+
+    def test_a_second_cause_is_told_where_it_brings_a_tenth(self):
+        found = facts([place(TASKS)], at_locks=120 * MS, asleep=80 * MS)
+        self.assertEqual([loss.kind for loss in diagnose(found).causes], ["lock", "sleep"])
+        found = facts([place(TASKS)], at_locks=120 * MS, asleep=20 * MS)
+        self.assertEqual([loss.kind for loss in diagnose(found).causes], ["lock"])
+
+    def test_a_busy_machine_does_not_hide_what_cost_more(self):
+        found = facts([place(TASKS)], preempted=110 * MS, at_locks=130 * MS)
+        self.assertEqual(diagnose(found).causes[0].kind, "lock")
+
+    def test_a_busy_machine_is_the_cause_of_most_that_is_lost_and_no_change_is_promised(self):
+        found = facts([place(TASKS)], preempted=150 * MS, starved=120 * MS, starved_by={TASKS: 120 * MS})
+        told = diagnose(found, Bench({(): 90, asked("split", TASKS + "=4"): 45}))
+        self.assertEqual(([loss.kind for loss in told.causes], told.plan), (["machine"], []))
+
+    def test_at_best_all_threads_run_its_code_all_the_time(self):
+        self.assertEqual(diagnose(facts([place(TASKS)], starved=200 * MS)).best, 50 * MS)
+
+    def test_no_run_is_shorter_than_its_work_on_all_threads(self):
+        told = diagnose(idle(TASKS), Bench({(): 90, asked("split", TASKS + "=4"): 10}))
+        self.assertEqual(told.plan[0].after, 50 * MS)
+
+
+class Steps(unittest.TestCase):
+    def test_a_time_follows_the_greedy_end(self):
+        self.assertEqual(predicted(120, 100, 50), 60)
+        self.assertEqual(predicted(120, 0, 0), 120)
+        self.assertEqual(predicted(120, 100, 50, kept=0.5), 90)     # what the machine took stays
+
+    def test_a_bound_is_that_of_losing_nothing(self):
+        step = bound_of(facts(code=200 * MS), 100 * MS, Loss("lock", "", 100 * MS))
+        self.assertEqual((step.after, step.low, step.high), (75 * MS, 75 * MS, 92500000))
+
+    def test_a_bound_leaves_the_code_unless_it_is_in_code_that_time_is_lost(self):
+        run = facts(code=320 * MS)
+        after = {kind: bound_of(run, 100 * MS, Loss(kind, "", 300 * MS)).after for kind in ("sleep", "system")}
+        self.assertEqual(after, {"sleep": 80 * MS, "system": 25 * MS})
+
+    def test_a_wait_that_some_turns_reach_is_likely_needless(self):
+        change, seen = single("drop-wait", "taskwait at a.c:9"), SimpleNamespace(ordered={"taskwait at a.c:9": 0})
+        self.assertEqual(likely(facts(), seen, change), 0.3)
+        self.assertEqual(likely(facts(waits_of_some_turns={"taskwait at a.c:9"}), seen, change), 0.9)
+
+    def test_the_ends_of_a_program(self):
+        begins = place(BEGINS, SERIAL)
+        begins.ends["image.c:20"] = 1
+        between, last = (place("after the barrier of the region at image.c:%d" % n, SERIAL) for n in (20, 40))
+        between.ends["image.c:40"], last.ends[""] = 1, 1
+        found = facts([begins, between, last])
+        self.assertEqual([is_at_an_end(found, name) for name in found.places], [True, False, True])
+
+    def test_a_change_has_a_kind_and_a_place(self):
+        self.assertEqual((single("split", "a=4").kind, single("split", "a=4").place), ("split", "a"))
+        self.assertEqual(single("defer", "a").place, "a")
+
+
+if __name__ == "__main__":
+    unittest.main()

@@ -1,0 +1,62 @@
+import unittest
+
+from spanprof.diagnosis.directives import block_around, construct_of, directive_line, is_of_some_turns
+
+BATCHES = """int main() {
+    for (int i = 0; i < 50; i++) {
+#pragma omp task shared(all)
+        shrink(all[i]);
+        if (i % 5 == 4) {
+#pragma omp taskwait
+        }
+    }
+}
+
+void steps() {
+    for (int step = 0; step < 9; step++) {
+        for (int i = 0; i < 50; i++)
+#pragma omp task
+            relax(i);
+        if (step % 2) {
+#pragma omp taskwait
+        }
+#pragma omp taskwait
+    }
+}""".split("\n")
+
+
+class Directives(unittest.TestCase):
+    def test_constructs(self):
+        self.assertEqual([construct_of(name) for name in (
+            "task at a.c:1", "after creating a task at a.c:1", "taskwait at a.c:2", "after taskwait at a.c:2", "a.c:9",
+            "turns of the loop at a.c:3")], ["task", "task", "taskwait", "taskwait", "parallel", "for"])
+
+    def test_a_line_before_the_directive(self):
+        self.assertEqual(directive_line(BATCHES, 1, "task"), 3)
+        self.assertEqual(directive_line(BATCHES, 3, "task"), 3)
+        self.assertEqual(directive_line(BATCHES, 4, "taskwait"), 6)
+
+    def test_a_directive_of_another_function_is_none(self):
+        self.assertEqual(directive_line(BATCHES, 7, "task"), 7)
+
+    def test_a_directive_that_may_not_be_compiled_is_none(self):
+        lines = ["  f();", "#ifdef FAST", "#pragma omp task", "#else", "#pragma omp task if(0)", "#endif",
+                 "#pragma omp taskwait"]
+        self.assertEqual(directive_line(lines, 1, "task"), 1)
+        self.assertEqual(directive_line(lines, 1, "taskwait"), 7)
+        self.assertEqual(directive_line(lines[3:], 1, "taskwait"), 4)
+
+    def test_blocks(self):
+        self.assertEqual([block_around(BATCHES, number) for number in (2, 4, 6, 8)], [1, 2, 5, 2])
+
+    def test_a_wait_in_some_turns_of_the_loop_that_makes_the_tasks(self):
+        self.assertTrue(is_of_some_turns(BATCHES, 6))
+
+    def test_a_wait_behind_the_loop_that_makes_the_tasks(self):
+        self.assertFalse(is_of_some_turns(BATCHES, 17))
+        self.assertFalse(is_of_some_turns(BATCHES, 19))
+        self.assertFalse(is_of_some_turns([], 19))
+
+
+if __name__ == "__main__":
+    unittest.main()

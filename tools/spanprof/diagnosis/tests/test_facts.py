@@ -1,0 +1,123 @@
+import json
+import os
+import tempfile
+import unittest
+
+from spanprof.diagnosis import facts as module
+from spanprof.diagnosis.facts import Facts, function_in, off_by_segment, regions_of, runtime_name, set_meta, set_off
+from spanprof.diagnosis.lock_times import Held, locks_of
+from spanprof.diagnosis.tests.worked import MS, TEXT, facts, program
+from spanprof.head import read_head
+from spanprof.recording import open_recording
+from spanprof.whatif.numbers import Numbers, OnThreads
+
+HEAD = """# recorded: {"program": "image", "threads": 2, "clock": "wall", "unit": "us"}
+# whole program: {"regions": 1}
+# covers: {"text": 99, "program": 100}
+# elapsed: 120
+# lock: {"kind": "critical", "at": "image.c:27", "times": 2, "inside": 1, "waiting": 3}
+# remark: {"remark": "mutexinoutset", "times": 2, "at": "image.c:25", "span": "low"}
+# place: {"at": "image.c:25", "in": "main.omp_outlined"}
+"""
+NUMBERS = Numbers("spanprof", 9, 132, 80, {2: OnThreads(80, 100, 90)})
+
+
+class OfText(unittest.TestCase):
+    def setUp(self):
+        self.found = module.of_text(read_head(HEAD), program(), NUMBERS)
+
+    def test_times_are_in_nanoseconds(self):
+        found = self.found
+        self.assertEqual((found.elapsed, found.work, found.span, found.greedy), (120000, 132000, 80000, 90000))
+        self.assertEqual(found.places["task at image.c:25"].cost, 100000)
+        self.assertEqual((found.program, found.threads, found.coverage), ("image", 2, 0.99))
+
+    def test_tasks_exclude_each_other_where_a_remark_says_so(self):
+        one = program()
+        one.places["task at image.c:25"].inoutset = 2
+        self.assertEqual(module.of_text(read_head(HEAD), one, NUMBERS).places["task at image.c:25"].exclusive, 2)
+        other = program()
+        other.places["task at image.c:25"].inoutset = 2
+        head = read_head(HEAD.replace("mutexinoutset", "detach"))
+        self.assertEqual(module.of_text(head, other, NUMBERS).places["task at image.c:25"].exclusive, 0)
+
+    def test_without_the_times_of_the_run_the_greedy_run_divides_them(self):
+        module.set_by_greedy(self.found)
+        self.assertEqual((self.found.code, self.found.starved, self.found.delayed), (132000, 48000, 60000))
+
+    def test_costs_have_no_time_in_which_a_thread_was_preempted(self):
+        one, head = program(), read_head(HEAD)
+        set_off(self.found, {4: (1000, 50000), 2: (0, 5000), 99: (1, 1)}, one, head)
+        place = self.found.places["task at image.c:25"]
+        self.assertEqual((place.cost, place.largest), (45000, 35000))
+        self.assertEqual(self.found.preempted_by, {place.name: 55000})
+        self.assertEqual(self.found.asleep_by, {place.name: 1000})
+        self.assertEqual(self.found.places["the beginning"].cost, 10000)
+
+    def test_costs_by_the_clock_of_the_processor_have_none(self):
+        one = program()
+        set_off(self.found, {4: (0, 50000)}, one, read_head(HEAD.replace('"wall"', '"cpu"')))
+        self.assertEqual(self.found.places["task at image.c:25"].cost, 100000)
+
+    def test_names_of_functions(self):
+        self.assertEqual(self.found.functions, {"image.c:25": "main"})
+        self.assertEqual(function_in("in sort(int*, int), inlined into main at sort.c:9"), "sort")
+
+
+class Recorded(unittest.TestCase):
+    def test_what_is_missing_is_none(self):
+        found = Facts()
+        set_meta(found, {})
+        self.assertEqual((found.asked, found.processors, found.usage, found.counters), (None, None, None, None))
+        set_meta(found, {"threads": {"asked": 3}, "processors": 8, "runtime": {"name": "llvm", "version": "19"}})
+        self.assertEqual((found.asked, found.processors, found.runtime, found.target), (3, 8, "LLVM 19", 3))
+        self.assertEqual(runtime_name({}), "")
+
+    def test_the_threads_that_a_run_could_have_had(self):
+        self.assertEqual(facts(threads=2).target, 4)
+        self.assertEqual(facts(threads=2, asked=2).target, 2)
+        self.assertEqual(facts(threads=2, asked=16).target, 4)
+        self.assertEqual((facts(threads=16).target, facts(threads=16).usable), (16, 4))
+
+    def test_the_time_now_is_that_of_unrecorded_runs(self):
+        self.assertEqual(facts(true_many=[3, 1, 2]).now, 2)
+        self.assertEqual(facts().now, 100 * MS)
+
+    def test_files_beside_a_text(self):
+        with tempfile.TemporaryDirectory() as folder:
+            for name, text in (("off", "0 5 7\n2 1 0\n"),
+                               ("m.regions", "number,text,begin_ns,end_ns,threads,tasks,loops,code_ns,inside,place\n"
+                                "0,0,0,100,1,0,0,5,0,\n1,1,10,60,2,3,0,5,0,image.c:20\n")):
+                with open(os.path.join(folder, name), "w", encoding="utf-8") as file:
+                    file.write(text)
+            self.assertEqual(off_by_segment(os.path.join(folder, "off"), None), {0: (5, 7), 2: (1, 0)})
+            self.assertEqual(off_by_segment("", read_head(HEAD + "# preempted: [[7, 384]]\n")), {7: (0, 384000)})
+            found = regions_of(os.path.join(folder, "m.tasks"), {"teams": [{"place": "image.c:20", "asked": 4}]})
+            self.assertEqual([(one.place, one.threads, one.elapsed, one.asked) for one in found],
+                             [("image.c:20", 2, 50, 4)])
+
+    def test_locks_of_a_head_and_of_a_file(self):
+        self.assertEqual(locks_of("", read_head(HEAD)), [Held("image.c:27", "critical", 2, 1000, 3000)])
+        with tempfile.TemporaryDirectory() as folder:
+            path = os.path.join(folder, "locks")
+            with open(path, "w", encoding="utf-8") as file:
+                for waited in (5, 9):
+                    file.write(json.dumps({"place": "a.c:1", "kind": "lock", "times": 1, "inside_ns": 2,
+                                           "waited_ns": waited}) + "\n")
+            self.assertEqual([one.waited for one in locks_of(path, read_head(""))], [9, 5])
+
+    def test_a_text_without_times(self):
+        with tempfile.TemporaryDirectory() as folder:
+            path = os.path.join(folder, "m.tasks")
+            with open(path, "w", encoding="utf-8") as file:
+                file.write(HEAD + TEXT)
+            measured, module.numbers_at = module.numbers_at, lambda *_: NUMBERS
+            try:
+                found = module.facts_of(open_recording(path))
+            finally:
+                module.numbers_at = measured
+            self.assertEqual(found.code + found.starved + found.delayed, found.whole_time)
+
+
+if __name__ == "__main__":
+    unittest.main()

@@ -1,0 +1,141 @@
+"""Each kind of cause by facts that have it; and that no kind is without a row in the documents, and a program."""
+import glob
+import os
+import unittest
+
+from spanprof.diagnosis.causes import BY_KIND, TABLE
+from spanprof.diagnosis.diagnose import diagnose
+from spanprof.diagnosis.facts import Region
+from spanprof.diagnosis.lock_times import Held
+from spanprof.diagnosis.places import OF_THREADS, SERIAL, SHARE
+from spanprof.diagnosis.tests.worked import MS, facts, place
+from spanprof.folders import TOP
+
+TASKS = "task at image.c:25"
+TUNING, MANUAL = (os.path.join(TOP, *words) for words in (("docs", "TUNING.md"), ("tools", "man", "spanprof-record.1")))
+PROGRAMS = os.path.join(TOP, "checks", "programs", "causes")
+
+
+def starved_at(one, **more):
+    return facts([one], starved=200 * MS, starved_by={one.name: 200 * MS}, **more)
+
+
+def delayed_at(one, **more):
+    return facts([one], delayed=200 * MS, delayed_by={one.name: 200 * MS}, **more)
+
+
+def small(count=4000, **more):
+    return place(TASKS, cost=count * 1000, pieces=count, tasks=count, **more)
+
+
+class Kinds(unittest.TestCase):
+    """A test for each kind, by its name."""
+
+    def first(self, found):
+        return diagnose(found).causes[0].kind
+
+    def test_serial(self):
+        self.assertEqual(self.first(starved_at(place("the beginning", SERIAL, tasks=0, pieces=1))), "serial")
+        self.assertEqual(self.first(starved_at(place("after taskwait at image.c:30", OF_THREADS, tasks=0))), "serial")
+
+    def test_too_few_tasks(self):
+        self.assertEqual(self.first(starved_at(place(TASKS, pieces=5, tasks=5))), "too_few_tasks")
+
+    def test_imbalance(self):
+        one = place(TASKS)
+        one.largest = 3 * int(one.average)
+        self.assertEqual(self.first(starved_at(one)), "imbalance")
+
+    def test_dependence(self):
+        one = place(TASKS)
+        one.items[("inout", "a0")] = 8
+        self.assertEqual(self.first(starved_at(one)), "dependence")
+
+    def test_small_tasks(self):
+        making = place("after creating a task at image.c:25", tasks=0, pieces=4000)
+        found = delayed_at(small())
+        found.places[making.name] = making
+        self.assertEqual(self.first(found), "small_tasks")
+
+    def test_creation(self):
+        for each, kind in ((2000, "creation"), (200, "small_tasks")):
+            making = place("after creating a task at image.c:25", OF_THREADS, tasks=0, pieces=4000, cost=4000 * each)
+            found = delayed_at(small())
+            found.places[making.name] = making
+            self.assertEqual(self.first(found), kind)
+
+    def test_undeferred(self):
+        self.assertEqual(self.first(starved_at(place(TASKS, undeferred=8))), "undeferred")
+
+    def test_loop_schedule(self):
+        self.assertEqual(self.first(delayed_at(place("turns of the loop at image.c:9", SHARE))), "loop_schedule")
+
+    def test_lock(self):
+        found = facts([place(TASKS)], at_locks=150 * MS, locks=[Held("image.c:27", "critical", 9, 1, 150 * MS)])
+        self.assertEqual(self.first(found), "lock")
+        self.assertEqual(diagnose(found).causes[0].place, "image.c:27")
+
+    def test_exclusion(self):
+        self.assertEqual(self.first(delayed_at(place(TASKS, exclusive=8))), "exclusion")
+
+    def test_memory(self):
+        found = facts([place(TASKS, cost=400 * MS)], cost_on_one={TASKS: 100 * MS})
+        self.assertEqual(self.first(found), "memory")
+
+    def test_system(self):
+        usage = {"user_ns": 100 * MS, "system_ns": 300 * MS, "minor_faults": 400000}
+        self.assertEqual(self.first(facts([place(TASKS)], usage=usage)), "system")
+
+    def test_many_calls_of_the_kernel(self):
+        usage = {"user_ns": 60 * MS, "system_ns": 350 * MS, "minor_faults": 600}
+        self.assertEqual(self.first(facts([place(TASKS)], starved=20 * MS, usage=usage)), "system")
+
+    def test_pages_that_serial_code_touches_first_are_no_cause(self):
+        usage = {"user_ns": 100 * MS, "system_ns": 300 * MS, "minor_faults": 400000}
+        begins = place("the beginning", SERIAL, cost=310 * MS, pieces=1, tasks=0)
+        self.assertNotEqual(self.first(facts([place(TASKS), begins], usage=usage)), "system")
+
+    def test_sleep(self):
+        self.assertEqual(self.first(facts([place(TASKS)], asleep=150 * MS)), "sleep")
+
+    def test_too_few_threads(self):
+        found = facts([place(TASKS)], threads=2, asked=4, regions=[Region("image.c:20", 2, 90 * MS)])
+        self.assertEqual(self.first(found), "too_few_threads")
+
+    def test_too_many_threads(self):
+        found = facts([place(TASKS)], threads=16, preempted=900 * MS,
+                      regions=[Region("image.c:20", 4, MS), Region("image.c:30", 16, MS)])
+        self.assertEqual(diagnose(found).causes[0].kind, "too_many_threads")
+        self.assertEqual(diagnose(found).causes[0].place, "image.c:30")
+
+    def test_machine(self):
+        self.assertEqual(self.first(facts([place(TASKS)], preempted=200 * MS)), "machine")
+
+    def test_efficient(self):
+        self.assertEqual(self.first(facts([place(TASKS)], starved=10 * MS)), "efficient")
+
+    def test_wait(self):
+        """Only a change that was tried tells it: see test_diagnose.py."""
+        self.assertFalse(BY_KIND["wait"].is_bound)
+
+
+class Table(unittest.TestCase):
+    def test_each_kind_has_a_test(self):
+        for cause in TABLE:
+            self.assertTrue(hasattr(Kinds, "test_" + cause.kind), cause.kind)
+
+    def test_each_kind_is_in_the_documents(self):
+        for path, row in ((TUNING, "\n| `%s` |"), (MANUAL, "\n.B %s\n")):
+            with open(path, encoding="utf-8") as file:
+                text = file.read()
+            for cause in TABLE:
+                self.assertTrue(row % cause.kind in text, "%s has no %s" % (path, cause.kind))
+
+    @unittest.skipUnless(os.path.isdir(PROGRAMS), "the programs are not here")
+    def test_each_kind_has_a_program(self):
+        for cause in TABLE:
+            self.assertTrue(glob.glob(os.path.join(PROGRAMS, cause.kind + "*.c*")), cause.kind)
+
+
+if __name__ == "__main__":
+    unittest.main()

@@ -1,0 +1,74 @@
+import random
+import unittest
+
+from spanprof.diagnosis.facts import Region
+from spanprof.diagnosis.losses import Loss, by_place, code_on_one, divided, losses, system_time
+from spanprof.diagnosis.places import OF_THREADS, SERIAL, SHARE, TASK
+from spanprof.diagnosis.tests.worked import MS, facts, place
+
+PARTS = ("recorder", "preempted", "asleep", "at_locks", "delayed", "starved", "outside")
+
+
+class Losses(unittest.TestCase):
+    def test_a_total_is_divided_without_a_rest(self):
+        self.assertEqual(divided(10, {"a": 1, "b": 1, "c": 1}), {"a": 3, "b": 3, "c": 4})
+        self.assertEqual(by_place("lock", 7, {}), [Loss("lock", "", 7)])
+
+    def test_they_add_up_with_the_code_on_one_thread(self):
+        chance = random.Random(7)
+        for _ in range(200):
+            found = facts([place("task at a.c:1", cost=90 * MS), place("the beginning", SERIAL, tasks=0)],
+                          threads=chance.choice((2, 4, 16)), asked=chance.choice((None, 4)),
+                          regions=[Region("a.c:2", 2, 50 * MS)], creating=chance.choice((0, 500)),
+                          cost_on_one=chance.choice((None, {"task at a.c:1": 80 * MS})),
+                          usage={"user_ns": 9, "system_ns": chance.randrange(90 * MS), "minor_faults": 9000},
+                          **{part: chance.randrange(25 * MS) for part in PARTS})
+            self.assertEqual(sum(loss.time for loss in losses(found)) + code_on_one(found, losses(found)),
+                             found.target * found.elapsed)
+            self.assertTrue(all(loss.time > 0 for loss in losses(found)))
+            self.assertGreaterEqual(code_on_one(found, losses(found)), 0)
+
+    def test_a_part_of_the_beginning_starts_the_program(self):
+        begins = place("the beginning", SERIAL, cost=20 * MS, pieces=1, tasks=0)
+        found = losses(facts([begins], starved=60 * MS, starved_by={begins.name: 60 * MS}))
+        self.assertEqual(found, [Loss("serial", begins.name, 45 * MS), Loss("startup", "", 15 * MS)])
+
+    def test_who_waits_for_preempted_code_waits_for_the_machine(self):
+        for name, kind in (("task at a.c:1", TASK), ("the beginning", SERIAL), ("turns of the loop at a.c:3", SHARE)):
+            one = place(name, kind, cost=20 * MS)       # on the processor, of the 80 ms that it lasted
+            found = facts([one], preempted=60 * MS, preempted_by={name: 60 * MS}, starved=40 * MS,
+                          starved_by={name: 40 * MS}, delayed=80 * MS, delayed_by={name: 80 * MS})
+            machine = sum(loss.time for loss in losses(found) if loss.kind == "machine")
+            self.assertGreaterEqual(machine, (60 + 30 + 60) * MS)
+            self.assertEqual(sum(loss.time for loss in losses(found)) + code_on_one(found, losses(found)),
+                             found.whole_time)
+
+    def test_who_has_nothing_to_run_while_code_sleeps_waits_for_what_it_sleeps_for(self):
+        one = place("after the region at a.c:9", SERIAL, cost=80 * MS, tasks=0)     # of these it sleeps 60
+        found = losses(facts([one], asleep=60 * MS, asleep_by={one.name: 60 * MS}, starved=120 * MS,
+                             starved_by={one.name: 120 * MS}))
+        by_kind = {kind: sum(loss.time for loss in found if loss.kind == kind) for kind in ("sleep", "serial")}
+        self.assertEqual(by_kind, {"sleep": (60 + 90) * MS, "serial": 30 * MS})
+
+    def test_who_waits_without_a_processor_waits_for_the_machine_as_code_does(self):
+        usage = {"user_ns": 50 * MS, "system_ns": 30 * MS}
+        run = {"code": 80 * MS, "delayed": 100 * MS, "at_locks": 100 * MS, "usage": usage}     # none is left for these
+        for preempted, lock in ((80, 50), (20, 80), (0, 100)):
+            found = losses(facts([place("task at a.c:1")], preempted=preempted * MS, **run))
+            self.assertEqual(sum(loss.time for loss in found if loss.kind == "lock"), lock * MS)
+
+    def test_time_in_the_kernel_is_that_of_code_and_not_of_idle_threads(self):
+        def system(**usage):
+            return system_time(facts([place("task at a.c:1")], starved=100 * MS, usage=usage))
+        self.assertEqual(system(user_ns=60 * MS, system_ns=350 * MS), 240 * MS)     # of 300 ms of code
+        self.assertEqual(system(user_ns=310 * MS, system_ns=120 * MS), 0)
+        self.assertEqual(system(user_ns=290 * MS, system_ns=110 * MS, minor_faults=10000), 40 * MS)
+
+    def test_code_of_several_threads_is_shared_out_unevenly(self):
+        parts = place("code of one of the region's threads", OF_THREADS, cost=40 * MS, pieces=4, tasks=4)
+        found = losses(facts([parts], starved=60 * MS, starved_by={parts.name: 60 * MS}))
+        self.assertEqual(found[0].kind, "loop_schedule")
+
+
+if __name__ == "__main__":
+    unittest.main()

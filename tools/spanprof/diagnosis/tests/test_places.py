@@ -1,0 +1,46 @@
+import unittest
+
+from spanprof.diagnosis.places import OF_THREADS, SERIAL, SHARE, TASK, lines_between, read_program
+from spanprof.diagnosis.tests.worked import TEXT, program
+from spanprof.text import segments_of
+
+
+class Places(unittest.TestCase):
+    def test_the_kind_of_each(self):
+        kinds = {name: place.kind for name, place in program().places.items()}
+        self.assertEqual(kinds, {
+            "the beginning": SERIAL, "code of one of the region's threads": OF_THREADS, "task at image.c:25": TASK,
+            "after creating a task at image.c:25": OF_THREADS, "after taskwait at image.c:30": OF_THREADS,
+            "task at image.c:33": TASK, "after creating a task at image.c:33": OF_THREADS,
+            "starting one of the region's threads": SERIAL,
+            "after the barrier of the region at image.c:20": SERIAL})
+
+    def test_costs_tasks_and_items(self):
+        place = program().places["task at image.c:25"]
+        self.assertEqual((place.cost, place.pieces, place.largest, place.tasks, place.average), (100, 2, 60, 2, 50))
+        self.assertEqual(place.items[("inout", "a0")], 2)
+        self.assertEqual(place.positions[("in", "a2")], 0)
+        self.assertEqual(program().places["task at image.c:33"].undeferred, 1)
+
+    def test_the_lines_between_two_constructs(self):
+        places = program().places
+        self.assertEqual(lines_between(places["the beginning"]), ("image.c", 0, 20))
+        self.assertEqual(lines_between(places["code of one of the region's threads"]), ("image.c", 20, 25))
+        self.assertEqual(lines_between(places["after taskwait at image.c:30"]), ("image.c", 30, 33))
+        self.assertEqual(lines_between(places["after the barrier of the region at image.c:20"]), ("image.c", 20, 0))
+
+    def test_turns_of_a_loop_are_a_share(self):
+        found = read_program(["omptasks 1\n", "taskgroup {  # the loop at a.c:3\n",
+                              "task {  # turns of the loop at a.c:3\n", "work 5\n", "}\n", "}\n"])
+        self.assertEqual(found.places["turns of the loop at a.c:3"].kind, SHARE)
+
+    def test_each_segment_has_a_name_and_a_cost(self):
+        found = program()
+        self.assertEqual(sum(found.costs), 132)
+        self.assertEqual(found.names, [segment.place() for segment in segments_of(TEXT)])
+        self.assertEqual(len(found.names), len(found.costs))
+        self.assertEqual(found.tasks, 4)
+
+
+if __name__ == "__main__":
+    unittest.main()

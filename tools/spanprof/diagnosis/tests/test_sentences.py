@@ -1,0 +1,234 @@
+import unittest
+from types import SimpleNamespace
+
+from spanprof.diagnosis.calls import Sampled
+from spanprof.diagnosis.causes import TABLE
+from spanprof.diagnosis.changes import single
+from spanprof.diagnosis.diagnose import Diagnosis, diagnose
+from spanprof.diagnosis.facts import Region
+from spanprof.diagnosis.lock_times import Held
+from spanprof.diagnosis.losses import Loss
+from spanprof.diagnosis.names import Names, block_end, items_in
+from spanprof.diagnosis.places import SERIAL
+from spanprof.diagnosis.plan import Step
+from spanprof.diagnosis.schema import as_json
+from spanprof.diagnosis.sentences import (WIDTH, change_sentence, lost_sentence, short_lines, shortened, speed_words,
+                                          waits)
+from spanprof.diagnosis.tests.worked import MS, facts, place
+
+SOURCE = """static void tone(float *d, int n) {
+  work(d);
+}
+int main(int count, char **words) {
+  fill();
+  #pragma omp parallel
+  #pragma omp single
+  for (;;) {
+    #pragma omp task depend(in: b[0]) \\
+        depend(inout: tab[f(0, 1)]) depend(out: d[0])
+    tone(d, n);
+    #pragma omp taskwait
+    more();
+    rest();
+  }
+}""".split("\n")
+SOURCES = SimpleNamespace(lines_of=lambda name: SOURCE if name == "image.c" else [])
+TASKS = "task at image.c:9"
+
+
+def tone():
+    one = place(TASKS)
+    one.items.update({("in", "a1"): 1, ("inout", "a0"): 8, ("inout", "a2"): 1})
+    one.positions = {("in", "a1"): 0, ("inout", "a0"): 0, ("inout", "a2"): 1}
+    return one
+
+
+def begins():
+    one = place("the beginning", SERIAL, cost=50 * MS, pieces=1, tasks=0)
+    one.ends["image.c:6"] = 1
+    return one
+
+
+def waiting():
+    one = place("after taskwait at image.c:12", SERIAL, tasks=0)
+    one.ends[""] = 1
+    return one
+
+
+FUNCTIONS = {"image.c:6": "main", "image.c:9": "main", "image.c:12": "main"}
+
+
+def found(**parts):
+    return facts([tone(), begins(), waiting()], functions=FUNCTIONS, **parts)
+
+
+class Named(unittest.TestCase):
+    def setUp(self):
+        self.facts = found(locks=[Held("image.c:13", "critical", 9, 1, 2)])
+        self.names = Names(self.facts, SOURCES)
+
+    def test_tasks_by_what_they_call(self):
+        self.assertEqual(self.names.place(TASKS), "image.c:9 (tone)")
+        self.assertEqual(Names(self.facts, None).place(TASKS), "image.c:9")
+
+    def test_serial_code_by_its_function_and_lines(self):
+        self.assertEqual(self.names.place("the beginning"), "main (image.c:4-6)")
+        self.assertEqual(Names(self.facts, None).place("the beginning"), "main (before image.c:6)")
+        self.assertEqual(self.names.place("after taskwait at image.c:12"), "main (image.c:13-14)")
+
+    def test_waits_and_locks(self):
+        self.assertEqual(self.names.place("taskwait at image.c:12"), "the taskwait at image.c:12")
+        self.assertEqual(self.names.place("image.c:13"), "critical at image.c:13")
+        self.assertEqual(self.names.place("the barrier of the region"), "the barrier of the region")
+
+    def test_items_as_the_source_spells_them(self):
+        one = self.facts.places[TASKS]
+        self.assertEqual(self.names.item(one, ("inout", "a0")), "inout: tab[f(0, 1)]")
+        self.assertEqual(self.names.item(one, ("inout", "a2")), "out: d[0]")
+        self.assertEqual(Names(self.facts, None).item(one, ("inout", "a2")), "inout: a2")
+
+    def test_items_of_a_directive(self):
+        self.assertEqual(items_in("depend(in: a[i, j], b) depend (out:c)"),
+                         {"in": [("in", "a[i, j]"), ("in", "b")], "inout": [("out", "c")]})
+
+    def test_a_block_ends_where_it_closes(self):
+        self.assertEqual(block_end(SOURCE, 13), 14)
+
+
+class Sentences(unittest.TestCase):
+    def test_the_short_form(self):
+        run = found(starved=200 * MS, starved_by={TASKS: 100 * MS, "the beginning": 100 * MS}, coverage=0.999)
+        lines = short_lines(diagnose(run), Names(run, SOURCES), "spanprof-record --all")
+        self.assertEqual(lines, [
+            "image: 100 ms on 4 threads. At best 50.0 ms.",
+            "lost  25 %  8 tasks of image.c:9 (tone) run one after another: all have depend(inout: tab[f(0, 1)])",
+            "sure  1 run, recorder 0.0 %, 99.9 % of the program seen",
+            "      not known: whether code costs more on 4 threads: --full",
+            "more  spanprof-record --all"])
+
+    def test_page_faults_are_told_where_they_are_most_of_it(self):
+        for faults, told in ((90000, "85 % of the processor time is the kernel's: 90,000 page faults"),
+                             (600, "85 % of the processor time is the kernel's: system calls")):
+            run = found(usage={"user_ns": 60 * MS, "system_ns": 340 * MS, "minor_faults": faults})
+            self.assertEqual(lost_sentence(run, Names(run, SOURCES), Loss("system", TASKS, 1)), told)
+
+    def test_nothing_is_to_be_done_about_an_efficient_program(self):
+        run = found()
+        told = diagnose(run)
+        self.assertEqual([line[:4] for line in short_lines(told, Names(run, SOURCES))][:3], ["imag", "lost", "sure"])
+        self.assertIsNone(as_json(told, Names(run, SOURCES))["diagnosis"][0]["change"])
+
+    def test_of_a_busy_machine_only_to_record_again(self):
+        run = found(preempted=200 * MS, starved=80 * MS, starved_by={TASKS: 80 * MS})
+        lines = short_lines(diagnose(run), Names(run, SOURCES))
+        self.assertEqual([line[:5] for line in lines[:3]], ["image", "lost ", "sure "])
+        self.assertIn("record it again on a machine with less to do", lines[1])
+
+    def test_what_went_wrong_has_a_line(self):
+        run = found()
+        lines = short_lines(diagnose(run), Names(run, SOURCES), news=["the log is cut", "and so on"])
+        self.assertIn("note  the log is cut (and 1 more: --all)", lines)
+
+    def test_no_cause_of_one_thread(self):
+        run = found(threads=1, asked=1)
+        lines = short_lines(diagnose(run), Names(run, SOURCES))
+        self.assertEqual(len(lines), 3)
+        self.assertEqual(lines[-1].strip(), "not known: what more threads would bring: record on more")
+
+    def test_eight_lines_of_a_hundred_columns_for_each_kind(self):
+        run = found(regions=[Region("image.c:6", 2, MS)], locks=[Held("image.c:13", "critical", 9, 1, 2)], asked=4,
+                    usage={"user_ns": 1, "system_ns": 9, "minor_faults": 5}, cost_on_one={TASKS: 10 * MS})
+        for cause in TABLE:
+            for name in (TASKS, "the beginning", "image.c:13", "image.c:6", "taskwait at image.c:12", ""):
+                loss = Loss(cause.kind, name, 50 * MS)
+                steps = [Step(cause.kind, name, 100 * MS, 50 * MS, 40 * MS, 60 * MS)] * 3
+                told = Diagnosis(run, [loss], [loss, loss], steps, steps, 1)
+                lines = short_lines(told, Names(run, SOURCES), "m" * 99)
+                self.assertLessEqual(len(lines), 8)
+                self.assertTrue(all(len(line) <= WIDTH for line in lines), lines)
+                self.assertNotIn("{", "".join(lines))
+
+    def test_each_change_that_is_tried_has_a_sentence(self):
+        run = found()
+        for option, word, kind, told in (
+                ("in-for-inout", "a0", "dependence",
+                 "depend(in: tab[f(0, 1)]) at image.c:9, if the tasks only read it"),
+                ("drop-depend", TASKS, "dependence",
+                 "no depend items at image.c:9, if the tasks may run in any order"),
+                ("drop-wait", "taskwait at image.c:12", "wait",
+                 "leave out the taskwait at image.c:12, if nothing after it needs those tasks"),
+                ("defer", TASKS, "undeferred", "defer more tasks at image.c:9: change its if or final"),
+                ("task", "after taskwait at image.c:12", "too_few_tasks",
+                 "make main (image.c:13-14) a task of its own"),
+                ("split", "the beginning=4", "serial", "divide main (image.c:4-6) among 4 tasks"),
+                ("split", TASKS + "=4", "imbalance", "divide the longest tasks at image.c:9 (tone)")):
+            change = single(option, word)
+            step = Step(kind, TASKS if option == "in-for-inout" else change.place, 2, 1, 1, 1, 1.0, change)
+            self.assertEqual(change_sentence(run, Names(run, SOURCES), step), told)
+
+    def test_several_waits_by_their_lines(self):
+        names = Names(facts(), None)
+        self.assertEqual(waits(names, ["taskwait at a.c:9", "taskwait at a.c:3", "taskwait at a.c:5"]),
+                         "the waits at a.c:3, 5 and 9")
+        self.assertEqual(waits(names, ["taskwait at a.c:9", "taskwait at b.c:3"]),
+                         "the taskwait at a.c:9 and the taskwait at b.c:3")
+
+    def test_a_line_before_the_directive_is_that_of_the_directive(self):
+        run = facts([place(TASKS)], is_of_gcc=True)
+        names = Names(run, SOURCES)
+        self.assertEqual(names.at("task at image.c:8"), "image.c:9")
+        self.assertEqual(names.item(tone(), ("inout", "a0")), "out: d[0]")
+        self.assertEqual(names.place("taskwait at image.c:11"), "the taskwait at image.c:12")
+        self.assertEqual(names.line("image.c:4"), ("image.c", 6, 6))
+
+    def test_against_one_thread(self):
+        self.assertEqual(speed_words(facts(true_one=[300 * MS], true_many=[100 * MS])),
+                         ", 300 ms on one: 3.0 times as fast")
+        self.assertEqual(speed_words(facts(true_one=[105 * MS], true_many=[100 * MS])), ", 105 ms on one: no faster")
+        self.assertEqual(speed_words(facts(true_one=[50 * MS], true_many=[100 * MS])),
+                         ", 50.0 ms on one: 2.0 times slower")
+        self.assertEqual(speed_words(facts()), "")
+
+    def test_where_the_place_is_not_known_it_is_that_of_most_code(self):
+        run = found()
+        self.assertIn("image.c:4-6", lost_sentence(run, Names(run, SOURCES), Loss("sleep", "", 1)))
+
+    def test_a_long_line_is_cut(self):
+        self.assertEqual(shortened("a b c d", 6), "a b...")
+
+
+class BySamples(unittest.TestCase):
+    def told(self, loss, **sampled):
+        run = found(calls=Sampled(sampled.get("ran", {}), sampled.get("slept", {})))
+        return lost_sentence(run, Names(run, SOURCES), loss)
+
+    def test_serial_code_is_named_by_its_function(self):
+        ran = {"the beginning": {("main", "convert", "plasma"): 95000, ("main", "read"): 5000}}
+        self.assertEqual(self.told(Loss("serial", "the beginning", 9), ran=ran).partition(": ")[0],
+                         "plasma (called by convert) runs alone")
+        self.assertRegex(self.told(Loss("serial", "the beginning", 9), ran=ran), ": 95 % of .* of serial code$")
+        self.assertRegex(self.told(Loss("serial", "the beginning", 9)), "runs alone: the other threads wait$")
+
+    def test_sleep_has_the_function_that_sleeps(self):
+        slept = {"the beginning": {("main", "load", "read"): 9000}}
+        self.assertRegex(self.told(Loss("sleep", "the beginning", 9), slept=slept), "sleeps in read, called by load$")
+        self.assertRegex(self.told(Loss("sleep", "the beginning", 9)), "sleeps or waits: for files, a network, ")
+
+
+class Json(unittest.TestCase):
+    def test_its_fields(self):
+        run = found(starved=200 * MS, starved_by={TASKS: 200 * MS}, at_locks=60 * MS, true_many=[90 * MS, 110 * MS],
+                    locks=[Held("image.c:13", "critical", 9, 1, 60 * MS)])
+        told = as_json(diagnose(run), Names(run, SOURCES))
+        self.assertEqual(set(told), {"schema", "program", "times", "diagnosis", "plan", "losses", "code_share"})
+        first = told["diagnosis"][0]
+        self.assertEqual(set(first), {"kind", "place", "lost_share", "lost_ms", "what", "change", "how"})
+        self.assertEqual(first["place"], {"name": "image.c:13", "function": None, "file": "image.c", "lines": [13, 13]})
+        self.assertEqual(set(first["change"]), {"kind", "what", "requests", "from_ms", "to_ms", "low_ms", "high_ms",
+                                                "at_best"})
+        self.assertEqual(told["times"]["spread_ms"], [90.0, 110.0])
+        self.assertAlmostEqual(sum(one["share"] for one in told["losses"]) + told["code_share"], 1, places=4)
+
+
+if __name__ == "__main__":
+    unittest.main()

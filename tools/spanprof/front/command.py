@@ -1,0 +1,56 @@
+"""spanprof: the tools and the proved programs under one name."""
+import os
+import sys
+
+from spanprof.command import Console, end_with, show
+from spanprof.errors import NO_PROGRAM
+from spanprof.front.help_texts import GENERAL, help_of
+from spanprof.front.routes import HELP, OTHER_NAMES, PROGRAM, TOOL, TOOLS, VERSION, main_of, route
+from spanprof.version import version_of
+
+CONSOLE = Console("spanprof")
+PREFIX = "spanprof-"
+WRONG = 2
+
+
+def run_tool(words):
+    """A tool ends the process itself, or has a status."""
+    sys.argv = [PREFIX + words[0]] + words[1:]
+    return main_of(words[0])(words[1:])
+
+
+def help_with(words):
+    """The help of a command, or of all of them."""
+    name = words[0] if words else ""
+    if not name:
+        print(GENERAL, end="")
+    elif help_of(name):
+        print(help_of(name), end="")
+    elif name in TOOLS or name in OTHER_NAMES:
+        return run_tool([OTHER_NAMES.get(name, name), "--help"])
+    else:
+        show(["spanprof: there is no command `%s`; `spanprof --help` lists them" % name])
+        return WRONG
+    return 0
+
+
+def answer(to):
+    if to.to == HELP:
+        return help_with(to.words)
+    if to.to == VERSION:
+        print(version_of("spanprof"))
+        return 0
+    from spanprof.front import programs     # only these need what finds and explains
+    return programs.answer(to.words) if to.to == PROGRAM else programs.answer_large(to.words)
+
+
+def main(name, words):
+    """The words behind a name: that of this script, or a link `spanprof-COMMAND` to it."""
+    if name.startswith(PREFIX):
+        sys.exit(run_tool([name[len(PREFIX):]] + words))
+    to = route(words, os.path.exists)
+    if to.to == TOOL:
+        sys.exit(run_tool(to.words))
+    statuses = []
+    end_with(CONSOLE, lambda: statuses.append(answer(to)), status=NO_PROGRAM)
+    sys.exit(statuses[0])

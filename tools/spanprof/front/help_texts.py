@@ -1,0 +1,68 @@
+"""What `spanprof --help` and `spanprof help COMMAND` print."""
+GENERAL = """\
+Usage: spanprof COMMAND [ARGUMENT ..]
+
+Record an OpenMP program and look at its recording:
+
+  record        run a program, and print where its time went and what to change first
+  report        write a page (HTML) on a recording
+  whatif        try another shape of a recorded program
+  predict       estimate its time on other numbers of threads
+  path          list the places in the source that the span comes from
+  graph         print the graph of its segments, as CSV or for Graphviz
+  convert       make the texts of a recorded log
+  test          test an OpenMP runtime
+
+Ask about a program text on standard input, of up to 4,096 tasks:
+
+  span          segments, work and span; also without a command
+  slack         each segment's earliest start and slack, and the critical path
+  greedy        a greedy schedule on some threads
+  curve         the ends of greedy schedules on 1 to some threads, with bounds
+  whatif        work and span with other costs
+  show          the canonical text
+  certify       a certificate of the span
+  check         whether a certificate holds
+  run           what a run on worker threads records
+  replay        whether a logged run was legal, and what it recorded
+
+Ask about a text of any size; spanprof_large has the commands above but `run`, too:
+
+  bounds        bounds on 1 to some threads
+  account       where the time of a run's threads went
+  graph         each segment's task, cost and predecessors
+
+spanprof help COMMAND describes one, and spanprof --version prints the version.
+"""
+FILE = " < FILE"
+USAGES = {
+    "span": ("spanprof span" + FILE, "The numbers of segments, work and span of a program text."),
+    "slack": ("spanprof slack" + FILE,
+              "A table (CSV) of the segments: task, cost, earliest start, slack, and 1 on the critical path, else 0."),
+    "greedy": ("spanprof greedy --threads P" + FILE,
+               "A table (CSV) of a greedy schedule on 1 to 1,024 threads: each segment's start, end and thread."),
+    "curve": ("spanprof curve --upto P" + FILE,
+              "A table (CSV) for 1 to P threads, at most 1,024: the end of a greedy schedule, and both bounds."),
+    "show": ("spanprof show" + FILE, "The canonical text of a program."),
+    "certify": ("spanprof certify" + FILE, "A certificate of the span, which `spanprof check` accepts."),
+    "check": ("spanprof check" + FILE, "Whether the certificate in FILE holds, whoever wrote it."),
+    "run": ("spanprof run --workers N" + FILE,
+            "Runs the segments on N worker threads, from 1 to 64, and prints the recorded graph and a digest."),
+    "replay": ("spanprof replay" + FILE, "Whether the events of a replay document are legal, and what they record."),
+    "whatif": ("spanprof whatif SEGMENT=COST .." + FILE,
+               "Work and span with other costs of segments, and the span before.\n"
+               "With a file or an option it tries other shapes: `spanprof whatif RECORDING --help` lists the options."),
+    "bounds": ("spanprof bounds --upto P" + FILE, "A table (CSV) of both bounds for 1 to P threads, at most 1,024."),
+    "account": ("spanprof account [--rows | --path]" + FILE,
+                "Of a timed document, where the time of the threads went; with an option its rows, or its path."),
+    "graph": ("spanprof graph" + FILE, "A table (CSV) of the segments: task, cost, and predecessors with blanks "
+              "between them.\n`spanprof graph --dot FILE` writes it for Graphviz."),
+}
+
+
+def help_of(name):
+    """The usage of a command of the programs; empty where there is none of this name."""
+    if name not in USAGES:
+        return ""
+    usage, words = USAGES[name]
+    return "Usage: %s\n\n%s\ndocs/FORMATS.md has the texts, what is printed, and every error.\n" % (usage, words)

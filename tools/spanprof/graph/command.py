@@ -1,0 +1,49 @@
+"""spanprof graph FILE: the graph of a program text, as CSV or for Graphviz."""
+import argparse
+
+from spanprof import client
+from spanprof.answers import Answers
+from spanprof.command import Console, check_files, end_with, naming
+from spanprof.graph.dot import lines
+from spanprof.text_file import TextFile
+from spanprof.version import Version
+
+CONSOLE = Console("spanprof graph")
+DESCRIPTION = """Prints the graph of a program text: a row for each segment with its task, its cost and its kept
+predecessors. What a segment waits for is what chains of them lead to. spanprof_large derives it."""
+AFTER = "Exit status 1: the text is refused, or spanprof_large is not found; 2: wrong arguments."
+
+
+def parse(words):
+    parser = argparse.ArgumentParser(prog="spanprof graph", description=DESCRIPTION, epilog=AFTER, allow_abbrev=False)
+    parser.add_argument("text", metavar="FILE", help="a program text")
+    parser.add_argument("--dot", action="store_true", help="for Graphviz: `| dot -Tsvg > graph.svg` draws it, with "
+                        "places in the source and the critical path in red")
+    parser.add_argument("-o", "--output", help="write to this file")
+    parser.add_argument("--version", action=Version)
+    return parser.parse_args(words)
+
+
+def table_lines(path):
+    client.measured(path)   # its fault names the line
+    for found in client.pieces(["graph"], TextFile(path)):
+        yield from (line.decode().rstrip("\n") for line in found)
+
+
+def dot_lines(path):
+    answers = Answers(path)
+    return lines(zip(answers.code.places, answers.code.cost, answers.predecessors), list(answers.path_segments))
+
+
+def answer(options):
+    check_files(options.text, options.output, "graph")
+    told = dot_lines(options.text) if options.dot else table_lines(options.text)
+    if not options.output:
+        print(*told, sep="\n")
+        return
+    with naming(options.output), open(options.output, "w", encoding="utf-8") as out:
+        print(*told, sep="\n", file=out)
+
+
+def main(words):
+    end_with(CONSOLE, lambda: answer(parse(words)))

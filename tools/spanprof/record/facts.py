@@ -1,0 +1,75 @@
+"""What is known of a recorded run beside its log: how it ended, what the system counted, and which threads it had."""
+import math
+import os
+import re
+
+CGROUP = "/sys/fs/cgroup"
+
+
+def usage_of(used):
+    """Of what wait4 tells of the program and its own children."""
+    return {"user_ns": round(used.ru_utime * 1e9), "system_ns": round(used.ru_stime * 1e9),
+            "minor_faults": used.ru_minflt, "major_faults": used.ru_majflt,
+            "voluntary_switches": used.ru_nvcsw, "involuntary_switches": used.ru_nivcsw}
+
+
+def processors_of_quota(words):
+    """How many processors a group of processes may use by its file cpu.max, `400000 100000`; None where all."""
+    found = re.fullmatch(r"(\d+) (\d+)\s*", words)
+    return math.ceil(int(found.group(1)) / int(found.group(2))) if found and int(found.group(2)) else None
+
+
+def quotas(group, top=CGROUP):
+    """Of a group such as `/user.slice/mine` and of those that it is in."""
+    while True:
+        try:
+            with open(top + group.rstrip("/") + "/cpu.max", encoding="ascii") as file:
+                yield processors_of_quota(file.read())
+        except OSError:
+            pass  # the topmost one has none, and other versions of groups neither
+        if group in ("", "/"):
+            return
+        group = os.path.dirname(group)
+
+
+def own_group():
+    try:
+        with open("/proc/self/cgroup", encoding="utf-8") as file:
+            found = re.search(r"^0::(/.*)$", file.read(), re.M)
+    except OSError:
+        return "/"
+    return found.group(1) if found else "/"
+
+
+def processors_there_are():
+    """Those that this process, and so the program, may use."""
+    return min(filter(None, [len(os.sched_getaffinity(0)), *quotas(own_group())]))
+
+
+def threads_asked(variables):
+    """What OMP_NUM_THREADS asks for outside of other regions; None where it asks for nothing."""
+    first = variables.get("OMP_NUM_THREADS", "").partition(",")[0].strip()
+    return int(first) if re.fullmatch(r"[0-9]{1,6}", first) and int(first) else None
+
+
+def asked_for(place):
+    """The most threads that were asked for at this place; None where no region tells."""
+    return max((getattr(one, "asked", 0) or 0 for one in place.regions), default=0) or None
+
+
+def teams_of(program):
+    """By place of a region, what was asked for and got; `program` is the table of its regions."""
+    return [{"place": place.name, "asked": asked_for(place), "got": max(one.threads for one in place.regions),
+             "regions": len(place.regions), "time_ns": place.total("elapsed")} for place in program.places]
+
+
+def facts_of_program(program):
+    """What the table of its regions tells, with the names of recording.json."""
+    teams = teams_of(program) if program else []
+    return {"threads": {"most": max((one["got"] for one in teams), default=None)}, "teams": teams}
+
+
+def facts_of_run(ended, variables, processors):
+    """With the names of recording.json. `ended` is how the program ended."""
+    return {"threads": {"asked": threads_asked(variables)}, "processors": processors, "elapsed_ns": ended.elapsed,
+            "usage": usage_of(ended.usage), "counters": ended.counters}

@@ -1,0 +1,67 @@
+"""recording.json: what was recorded, and the checksums of the files beside it."""
+import json
+import os
+
+from spanprof.errors import Fault
+from spanprof.head import head_text, read_head
+from spanprof.record.facts import facts_of_program
+from spanprof.record.runtime_name import runtimes_of
+from spanprof.recording import LOG, META, SCHEMA, TEXT, checksum
+from spanprof.regions import program_of
+
+
+def files_in(folder):
+    """All but recording.json, by their names in the folder."""
+    found = []
+    for place, _, names in os.walk(folder):
+        found += [os.path.relpath(os.path.join(place, name), folder) for name in names]
+    return sorted(name for name in found if name != META and not name.startswith("."))
+
+
+def runtime_of(folder):
+    """The first that ran the program, as the log lists them."""
+    return next(iter(runtimes_of(os.path.join(folder, LOG))), None)
+
+
+def of_text(text):
+    """What the head of the text and the table of regions tell."""
+    head, program = read_head(head_text(text)), program_of(text)
+    covered = head.covered / head.thread_time if head.thread_time and head.covered is not None else None
+    return {"program": head.program, "date": head.date, "clock": head.clock, "unit": head.unit, "coverage": covered,
+            **facts_of_program(program)}
+
+
+def merged(old, new):
+    """Numbers of threads come from two sides."""
+    told = [{name: value for name, value in (one.get("threads") or {}).items() if value is not None}
+            for one in (old, new)]
+    threads = {**told[0], **told[1]}
+    return {**old, **{name: value for name, value in new.items() if value is not None}, "threads": threads}
+
+
+def write_meta(folder, facts):
+    """Written last: with it the folder is whole. `facts` are those of the run."""
+    told = {"schema": SCHEMA, **facts}
+    if os.path.exists(os.path.join(folder, TEXT)):
+        told = merged(told, of_text(os.path.join(folder, TEXT)))
+    told["runtime"] = runtime_of(folder) or told.get("runtime")
+    told["files"] = {name: checksum(os.path.join(folder, name)) for name in files_in(folder)}
+    path = os.path.join(folder, META)
+    try:
+        with open(path + ".new", "w", encoding="utf-8") as file:
+            json.dump(told, file, indent=1)
+            file.write("\n")
+        os.replace(path + ".new", path)
+    except OSError as wrong:
+        raise Fault("%s: %s" % (path, wrong.strerror)) from wrong
+    return told
+
+
+def old_meta(folder):
+    """What an earlier recording.json of the folder tells of its run; nothing where it is not whole."""
+    try:
+        with open(os.path.join(folder, META), encoding="utf-8") as file:
+            told = json.load(file)
+    except (OSError, ValueError):
+        return {}
+    return told if isinstance(told, dict) else {}

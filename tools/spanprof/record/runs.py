@@ -1,0 +1,74 @@
+"""Several recorded runs of one program: the one with the median elapsed time is kept, and what all of them took."""
+import os
+import statistics
+
+from spanprof import client
+from spanprof.converting import logs_in
+from spanprof.head import head_text, read_head
+from spanprof.record.console import say, tell
+from spanprof.record.meta import old_meta, write_meta
+from spanprof.record.run import rewind
+from spanprof.record.session import Recorded, why_nothing
+from spanprof.recording import TEXT
+
+
+def work_and_span(path):
+    told = client.measured(path)
+    return told["work"], told["span"]
+
+
+def stem_of(work, number):
+    """Of one run, in a folder of its own."""
+    return os.path.join(work.part, "run%d" % number, os.path.basename(work.stem))
+
+
+def one_of_runs(session, number):
+    """The folders of one run, its numbers, and how it ended."""
+    stem = stem_of(session.work, number)
+    os.mkdir(os.path.dirname(stem))
+    rewind()
+    ended = session.run(stem)
+    folders = logs_in(os.path.dirname(stem))
+    return ended, folders, session.write_all(folders, stem, ended)
+
+
+def numbers_of(text, elapsed):
+    head, (work, span) = read_head(head_text(text)), work_and_span(text)
+    unit = head.nanoseconds or 1
+    return {"elapsed_ns": elapsed, "work_ns": work * unit, "span_ns": span * unit}
+
+
+def middle(numbers):
+    """Which run has the median elapsed time."""
+    elapsed = [one["elapsed_ns"] for one in numbers]
+    return elapsed.index(statistics.median_low(elapsed))
+
+
+def keep(session, folders, numbers):
+    """The folders of one run in the place of a single one's, with the numbers of all."""
+    for folder in folders:
+        kept = os.path.join(session.work.part, os.path.basename(folder))
+        os.rename(folder, kept)
+        if os.path.exists(os.path.join(kept, TEXT)):
+            write_meta(kept, {**old_meta(kept), "runs": numbers})
+
+
+def record_often(session):
+    """As `record_once`; at a run that fails or leaves no text they end, and nothing is kept."""
+    found, numbers, runs = [], [], session.options.runs
+    for i in range(1, runs + 1):
+        tell("run %d of %d" % (i, runs))
+        ended, folders, said = one_of_runs(session, i)
+        status = ended.status
+        texts = [path for path in (os.path.join(folder, TEXT) for folder in folders[:1]) if os.path.exists(path)]
+        if status or not texts:
+            why = why_nothing(status, said, session.out) if not texts else \
+                "the program ended with status %d" % status
+            say("run %d of %d is the last, and no recording is kept: %s" % (i, runs, why))
+            return Recorded(status, [], said)
+        found.append((folders, said))
+        numbers.append(numbers_of(texts[0], ended.elapsed))
+    folders, said = found[middle(numbers)]
+    keep(session, folders, numbers)
+    moved, said = session.publish(said.moved({os.path.dirname(folders[0]): session.work.part}))
+    return Recorded(0, moved, said)

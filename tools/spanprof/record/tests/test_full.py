@@ -1,0 +1,97 @@
+import argparse
+import contextlib
+import io
+import os
+import tempfile
+import unittest
+from unittest import mock
+
+from spanprof.record.full import costs_by_place, full_facts, true_times
+from spanprof.record.options import parse
+from spanprof.record.run import Ended
+
+TEXT = """# recorded: {"program": "mine", "threads": 1, "clock": "wall", "unit": "us"}
+omptasks 1
+work 5
+task {  # a.c:3
+work 20
+}
+task {  # a.c:3
+work 30
+}
+taskwait  # a.c:9
+work 2
+"""
+
+
+def session(costs="", status=0):
+    """Its recorded run on one thread leaves this text."""
+    def record_aside(out, others):
+        asked.append(("recorded", others["OMP_NUM_THREADS"], others["OMP_THREAD_LIMIT"]))
+        if costs:
+            with open(out + ".tasks", "w", encoding="utf-8") as file:
+                file.write(costs)
+        return status, out + ".tasks" if costs else ""
+    asked = []
+    made = argparse.Namespace(path="./mine", options=argparse.Namespace(command=["./mine"]), preload="",
+                              library="/r.so", record_aside=record_aside)
+    return made, asked
+
+
+class Full(unittest.TestCase):
+    def run_in_turns(self, made, asked, ends):
+        left = iter(ends)
+
+        def watched(_, __, variables):
+            asked.append((variables["OMP_TOOL"], variables["OMP_NUM_THREADS"], variables.get("OMP_THREAD_LIMIT")))
+            elapsed, status = next(left)
+            return Ended(status, elapsed, None, None)
+        told = io.StringIO()
+        with mock.patch("spanprof.record.full.watched", side_effect=watched), contextlib.redirect_stderr(told), \
+                mock.patch.dict(os.environ, {}, clear=True):
+            return full_facts(made, 4), told.getvalue()
+
+    def test_in_turns_and_recorded_on_one(self):
+        made, asked = session(TEXT)
+        found, _ = self.run_in_turns(made, asked, [(10, 0), (40, 0), (11, 0), (41, 0), (12, 0), (42, 0)])
+        self.assertEqual((found["true_many"], found["true_one"]), ([10, 11, 12], [40, 41, 42]))
+        self.assertEqual(found["cost_on_one"]["task at a.c:3"], 50000)
+        self.assertEqual(asked, [("disabled", "4", None), ("disabled", "1", "1")] * 3 + [("recorded", "1", "1")])
+
+    def test_a_run_that_fails(self):
+        made, asked = session(TEXT)
+        found, told = self.run_in_turns(made, asked, [(10, 0), (40, 3)])
+        self.assertEqual(found, {})
+        self.assertIn("unrecorded run 1 of 3 on one thread ended with status 3: what --full adds is not known", told)
+
+    def test_a_recorded_run_that_fails_or_leaves_nothing(self):
+        ends = [(10, 0), (40, 0)] * 3
+        found, told = self.run_in_turns(*session(TEXT, status=-9), ends)
+        self.assertEqual(found, {})
+        self.assertIn("the recorded run on one thread ended by SIGKILL", told)
+        found, _ = self.run_in_turns(*session(), ends)
+        self.assertIsNone(found["cost_on_one"])
+
+    def test_the_times_of_each_turn(self):
+        made, _ = session()
+        with mock.patch("spanprof.record.full.watched", return_value=Ended(0, 7, None, None)):
+            self.assertEqual(true_times(made, 4, 2), {"true_one": [7, 7], "true_many": [7, 7]})
+
+
+class Costs(unittest.TestCase):
+    def test_by_place_in_nanoseconds(self):
+        with tempfile.TemporaryDirectory() as folder:
+            path = os.path.join(folder, "mine.tasks")
+            with open(path, "w", encoding="utf-8") as file:
+                file.write(TEXT)
+            self.assertEqual(costs_by_place(path)["task at a.c:3"], 50000)
+            self.assertEqual(sum(costs_by_place(path).values()), 57000)
+
+
+class Options(unittest.TestCase):
+    def test_it_has_its_own_number_of_runs(self):
+        self.assertTrue(parse(["--full", "--", "./mine"]).full)
+        for other in (["--scale", "1,4"], ["--runs", "3"]):
+            with self.assertRaises(SystemExit), contextlib.redirect_stderr(io.StringIO()) as told:
+                parse(["--full", *other, "--", "./mine"])
+            self.assertIn("--full runs the program as often as it has to", told.getvalue())

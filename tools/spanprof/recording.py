@@ -1,0 +1,183 @@
+"""A recording: the folder NAME.spanprof that spanprof-record leaves, or a plain text with what lies beside it."""
+import atexit
+import functools
+import hashlib
+import json
+import os
+import re
+import shutil
+import tempfile
+from dataclasses import dataclass, field
+
+from spanprof.errors import Fault
+from spanprof.head import head_text
+
+SCHEMA = 1
+ENDING = ".spanprof"
+META, TEXT, TIMES, LOG, REGIONS = "recording.json", "program.tasks", "times", "log", "regions"
+CHECKED = (TEXT, TIMES, REGIONS, "off", "locks", "calls", "online.json")    # the log is checked by its converter
+AGAIN = "spanprof-convert %s writes it anew"
+PIECE = 1 << 20
+
+
+@dataclass
+class Recording:
+    """`times` are those of the text's segments: in a folder alone, beside a plain text a document with the text."""
+    text: str
+    times: str = ""
+    folder: str = ""
+    log: str = ""
+    meta: dict = field(default_factory=dict)
+
+    @property
+    def name(self):
+        """As people know it."""
+        return os.path.basename(self.folder or self.text)
+
+    @property
+    def stem(self):
+        """The first name of what is made of it, such as a page."""
+        return re.sub(r"(\.tasks|%s)$" % re.escape(ENDING), "", self.folder or self.text)
+
+    def file(self, name):
+        """Where a file of the folder lies; empty where there is none."""
+        path = os.path.join(self.folder, name)
+        return path if self.folder and os.path.exists(path) else ""
+
+
+def checksum(path):
+    found = hashlib.sha256()
+    with open(path, "rb") as file:
+        for piece in iter(lambda: file.read(PIECE), b""):
+            found.update(piece)
+    return found.hexdigest()
+
+
+def is_recording(path):
+    """Whether this is a recording's folder, whole or not."""
+    return os.path.isdir(path) and (os.path.exists(os.path.join(path, META)) or
+                                    os.path.exists(os.path.join(path, LOG, "head")))
+
+
+def read_meta(folder):
+    again = AGAIN % folder
+    try:
+        with open(os.path.join(folder, META), encoding="utf-8") as file:
+            meta = json.load(file)
+        schema = meta["schema"]
+        if not isinstance(schema, int) or not isinstance(meta.get("files"), dict):
+            raise ValueError("no number of a schema, or no list of files")
+    except FileNotFoundError as wrong:
+        raise Fault("%s: the recording is not complete, as it has no %s; %s" % (folder, META, again)) from wrong
+    except OSError as wrong:
+        raise Fault("%s: %s" % (os.path.join(folder, META), wrong.strerror)) from wrong
+    except (ValueError, KeyError, TypeError) as wrong:
+        raise Fault("%s: %s is damaged: %s; %s" % (folder, META, wrong, again)) from wrong
+    if schema > SCHEMA:
+        raise Fault("%s: a newer version of spanprof made this recording: its schema is %d, and this version reads %d" %
+                    (folder, schema, SCHEMA))
+    return meta
+
+
+@functools.lru_cache(maxsize=None)
+def check_file(path, folder, expected):
+    """Ends with a fault where a file is missing, or is another one than the folder was made of."""
+    name = os.path.basename(path)
+    if not os.path.exists(path):
+        raise Fault("%s: the recording is not complete: %s is missing; %s" % (folder, name, AGAIN % folder))
+    if checksum(path) != expected:
+        raise Fault("%s: %s is not the file that was recorded: its checksum differs; %s" % (
+            folder, name, AGAIN % folder))
+
+
+def check_files_of(folder, meta):
+    for name, expected in meta["files"].items():
+        if name in CHECKED:
+            check_file(os.path.join(folder, name), folder, expected)
+
+
+def log_of(folder):
+    log = os.path.join(folder, LOG)
+    return log if os.path.isdir(log) else ""
+
+
+def in_folder(folder):
+    meta = read_meta(folder)
+    check_files_of(folder, meta)
+    text = os.path.join(folder, TEXT)
+    if TEXT not in meta["files"]:
+        why = "%s: the recording has a log and no text; " % folder
+        if "online.json" in meta["files"]:
+            why = "%s: the run was measured with --online, and no text was kept; " % folder
+        raise Fault(why + "record it again" if "online.json" in meta["files"] else why + AGAIN % folder)
+    times = os.path.join(folder, TIMES) if TIMES in meta["files"] else ""
+    return Recording(text, times, folder, log_of(folder), meta)
+
+
+def recorded_line(path):
+    """That of a text's head which tells when its program was recorded."""
+    return next((line for line in head_text(path).splitlines() if line.startswith("# recorded: ")), "")
+
+
+def is_of_one_run(text, other):
+    """Whether the head of a file beside a text tells of the same run."""
+    return recorded_line(text) == recorded_line(other)
+
+
+def beside(text, ending):
+    """The file of this ending beside a plain text; empty where there is none, or where it is of another run."""
+    path = re.sub(r"\.tasks$", "", text) + ending
+    return path if os.path.exists(path) and is_of_one_run(text, path) else ""
+
+
+def folder_of(path):
+    """The recording that a path names: its folder, or the text in it; empty for a plain text."""
+    path = path.rstrip(os.sep) or path
+    if is_recording(path):
+        return path
+    inside = os.path.basename(path) in CHECKED and is_recording(os.path.dirname(path) or ".")
+    return os.path.dirname(path) or "." if inside else ""
+
+
+def open_recording(path):
+    """That of a folder or of the text in it, whole and of one run; or a plain text with the times beside it."""
+    folder = folder_of(path)
+    return in_folder(folder) if folder else Recording(path, beside(path, ".timed"))
+
+
+def text_of(path):
+    """The text that a tool reads where a recording's folder or a text is named."""
+    folder = folder_of(path)
+    return in_folder(folder).text if folder else path
+
+
+def shown_name(path):
+    """Of a text, as people know it: in a recording's folder they all have one name."""
+    folder = folder_of(path)
+    return os.path.basename(os.path.abspath(folder)) if folder else os.path.basename(path)
+
+
+@functools.lru_cache(maxsize=None)
+def made_folder():
+    """For files that live as long as this process."""
+    folder = tempfile.mkdtemp(prefix="spanprof-")
+    atexit.register(shutil.rmtree, folder, ignore_errors=True)
+    return folder
+
+
+@functools.lru_cache(maxsize=None)
+def joined(text, times):
+    """A document of both in a file of its own."""
+    handle, path = tempfile.mkstemp(suffix=".timed", dir=made_folder())
+    with os.fdopen(handle, "wb") as out:
+        for part in (text, times):
+            if part == times:
+                out.write(b"---\n")
+            with open(part, "rb") as file:
+                shutil.copyfileobj(file, out, PIECE)
+    return path
+
+
+def document(recording):
+    """The document `text --- times` that spanprof_large account reads; empty where there are no times."""
+    return joined(recording.text, recording.times) if recording.folder and recording.times else recording.times

@@ -1,0 +1,56 @@
+import re
+import unittest
+
+from spanprof.diagnosis.causes import TABLE
+from spanprof.diagnosis.changes import single
+from spanprof.diagnosis.diagnose import Diagnosis, diagnose
+from spanprof.diagnosis.losses import Loss, code_on_one, losses
+from spanprof.diagnosis.names import Names
+from spanprof.diagnosis.plan import Step
+from spanprof.diagnosis.tell import Told
+from spanprof.diagnosis.tests.test_sentences import SOURCES, TASKS, found
+from spanprof.diagnosis.tests.worked import MS
+from spanprof.report.part_diagnosis import WORDS, first_screen, parts
+
+
+def told():
+    run = found(starved=200 * MS, starved_by={TASKS: 150 * MS, "the beginning": 50 * MS})
+    steps = [Step("dependence", TASKS, 100 * MS, 60 * MS, 50 * MS, 70 * MS, 1.0, single("in-for-inout", "a0")),
+             Step("serial", "the beginning", 60 * MS, 40 * MS, 30 * MS, 50 * MS, 1.0,
+                  single("split", "the beginning=4"))]
+    lost = losses(run)
+    return Told(Diagnosis(run, lost, lost[:1], steps, steps, code_on_one(run, lost)), Names(run, SOURCES))
+
+
+def words_in(html):
+    return re.sub(r"<[^>]+>", "", html)
+
+
+class Screens(unittest.TestCase):
+    def test_the_sentence_the_times_the_change_and_the_plan(self):
+        shown = words_in(first_screen(told()))
+        for words in ("image takes 100 ms on 4 threads.", "100 msnow, on 4 threads", "60.0 msafter the first change",
+                      "50.0 msif all threads ran its code all the time", "38 % lost: 8 tasks of image.c:9 (tone)",
+                      "First: depend(in: tab[f(0, 1)]) at image.c:9, if the tasks only read it. 100 ms to 60.0 ms",
+                      "- #pragma omp task depend(in: b[0]) depend(inout: tab[f(0, 1)])",
+                      "Then, on top of it:divide main (image.c:4-6) among 4 tasks 60.0 ms to 40.0 ms",
+                      "Not known: whether code costs more on 4 threads: --full."):
+            self.assertIn(words, shown)
+
+    def test_the_bar_is_the_whole(self):
+        shares = parts(told())
+        self.assertAlmostEqual(sum(share for _, share, _ in shares), 1, delta=0.005)
+        self.assertEqual(shares[1][0], "dependences: image.c:9")
+
+    def test_each_loss_has_words(self):
+        for kind in [cause.kind for cause in TABLE if cause.kind != "efficient"] + ["recorder", "startup"]:
+            self.assertIn(kind, WORDS)
+
+    def test_without_a_change(self):
+        run = found(threads=1, asked=1)
+        self.assertIn("record on more", words_in(first_screen(Told(diagnose(run), Names(run, None)))))
+        self.assertTrue(first_screen(Told(Diagnosis(run, [Loss("lock", "", 9)]), Names(run, None))))
+
+
+if __name__ == "__main__":
+    unittest.main()

@@ -1,0 +1,17 @@
+"""Columns as answers have them, of what tests list one by one."""
+from spanprof.answers import Rows
+from spanprof.segment_table import Code
+
+
+def code_of(segments):
+    out = Code()
+    for one in segments:
+        out.add(one.task, one.task_place, one.after, one.after_place)
+        out.cost[-1] = one.cost
+    return out
+
+
+def rows_of(costs, critical=()):
+    """Segments of the root with these costs; the numbers of those on the path."""
+    none = [0] * len(costs)
+    return Rows(list(costs), none, none, none, [s in critical for s in range(len(costs))])

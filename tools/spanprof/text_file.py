@@ -1,0 +1,70 @@
+"""A text in a file, which a program reads there: of any size, and never whole in memory."""
+import re
+import tempfile
+from contextlib import contextmanager
+from itertools import islice
+
+from spanprof.command import naming
+from spanprof.text import DIVIDER, has_loops
+
+PIECE = 1 << 20         # bytes that are read at a time
+LINES_OF_A_HEAD = 1000
+
+
+class TextFile:
+    """A text in a file, which the program reads there. Of a document or certificate it is the part before the divider,
+    but where the `whole` is wanted."""
+
+    def __init__(self, path, whole=False):
+        self.path, self.whole = path, whole
+
+    def __str__(self):
+        with naming(self.path), open(self.path, encoding="utf-8", errors="replace", newline="") as file:
+            text = file.read()
+        return text if self.whole else re.split(r"(?m)^---\r?$", text)[0]
+
+    def is_cut(self):
+        """Whether the file goes on behind the text."""
+        divider, before = ("\n" + DIVIDER).encode(), b"\n"
+        with open(self.path, "rb") as file:
+            while piece := file.read(PIECE):
+                if divider in before + piece:
+                    return not self.whole
+                before = piece[-len(divider):]
+        return False
+
+    def lines(self):
+        """Of the text with its ends of lines."""
+        with open(self.path, encoding="utf-8", errors="replace", newline="\n") as file:
+            for line in file:
+                if line.startswith(DIVIDER) and line.rstrip() == DIVIDER and not self.whole:
+                    return
+                yield line
+
+    def has_loops(self):
+        """By the header, which is looked for among the first lines."""
+        return has_loops("".join(islice(self.lines(), LINES_OF_A_HEAD)))
+
+    @contextmanager
+    def opened(self):
+        with naming(self.path):
+            is_cut = self.is_cut()
+        if is_cut:
+            with in_a_file(str(self)) as file:
+                yield file
+        else:
+            with open(self.path, "rb") as file:
+                yield file
+
+
+@contextmanager
+def in_a_file(text):
+    """No pipe, which a program that reads nothing would break."""
+    with tempfile.TemporaryFile() as file:
+        file.write(text.encode("utf-8", "replace"))
+        file.seek(0)
+        yield file
+
+
+def opened(text):
+    return text.opened() if isinstance(text, TextFile) else in_a_file(text)
