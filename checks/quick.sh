@@ -101,5 +101,8 @@ for tests in checks/llvm/tests checks/real/tests checks/programs/*/tests checks/
     tested "$tests" "${tests%/tests}"
 done
 wait
-for ((number = 1; number <= count; number++)); do cat "$answers/$number"; done
-! grep -qs '^FAILED  ' "$answers"/*
+failed=()
+for ((number = 1; number <= count; number++)); do
+    if grep -qs '^FAILED  ' "$answers/$number"; then failed+=("$answers/$number"); else cat "$answers/$number"; fi
+done
+[ ${#failed[@]} -eq 0 ] || { cat "${failed[@]}"; exit 1; }

@@ -1,9 +1,11 @@
 #!/usr/bin/env python3
-"""Refuses the allocations of a program one by one: the first, the second, .., until a run meets none.
+"""Refuses the allocations of a program one by one: the first, the second, .., until a run meets none. Runs go side by
+side, one for each processor.
 
     refused_growths.py commands [PROGRAM]    the ten commands of crates/spanprof/out/spanprof, or of this program
     refused_growths.py large [PROGRAM]       crates/spanprof_large/out/spanprof_large, or this program
-    refused_growths.py library PROGRAM       the program of checks/agree/library/ask.c, which calls libspanprof
+    refused_growths.py library PROGRAM       the program of checks/agree/library/ask.c, which calls libspanprof: of
+                                             each call the first 200 allocations, and every 23rd after them
     refused_growths.py tests                 the tests of crates/refused_growths, as `rt test` there built them
     refused_growths.py gate                  counts what the same tests refuse by themselves, as in the gate
 
@@ -25,6 +27,8 @@ import re
 import subprocess
 import sys
 import tempfile
+from concurrent.futures import ThreadPoolExecutor
+from itertools import chain, count, islice
 from pathlib import Path
 
 HERE = Path(__file__).resolve().parent
@@ -56,41 +60,52 @@ def built(folder, name):
 class Refuser:
     """The library, and runs under it."""
 
-    def __init__(self, folder):
+    def __init__(self, folder, step=1):
         self.library = built(folder, "refuse")
+        self.step = step
         self.runs = self.refusals = self.wrong = 0
+
+    def numbers(self):
+        """Which allocations are refused: all, or of those after the 200th one in so many."""
+        return chain(range(1, 201), count(201, self.step))
 
     def run(self, words, text, number, later):
         """The status, standard output, and how many allocations were refused, at the allocation of this number."""
         env = {**os.environ, "LD_PRELOAD": self.library, "REFUSE": str(number)}
         if later:
             env["REFUSE_LATER"] = "yes"
-        self.runs += 1
         try:
             ran = subprocess.run(words, input=text, capture_output=True, env=env, timeout=SECONDS, check=False)
         except subprocess.TimeoutExpired:
             return "no end", b"", 1
-        refused = ran.stderr.count(b"refused\n")
-        self.refusals += refused > 0
-        return ran.returncode, ran.stdout, refused
+        return ran.returncode, ran.stdout, ran.stderr.count(b"refused\n")
+
+    def runs_until_none(self, words, text, later):
+        """Each number with its run, until a run meets no such allocation or does not end."""
+        numbers, side_by_side = self.numbers(), len(os.sched_getaffinity(0))
+        with ThreadPoolExecutor(side_by_side) as pool:
+            while True:
+                batch = list(islice(numbers, 8 * side_by_side))
+                for number, ran in zip(batch, pool.map(lambda at: self.run(words, text, at, later), batch)):
+                    self.runs += 1
+                    if ran[2] == 0:
+                        return
+                    self.refusals += 1
+                    yield number, *ran[:2]
+                    if ran[0] == "no end":
+                        return
 
     def refuse_each(self, name, words, text, is_right, ways):
-        """Refuses allocation after allocation in each way, and says how many there were."""
+        """Refuses allocation after allocation in each way, and says how many were refused."""
         counts = []
         for later in ways:
-            number = 1
-            while True:
-                status, written, refused = self.run(words, text, number, later)
-                if refused == 0:
-                    break
+            counts.append(0)
+            for number, status, written in self.runs_until_none(words, text, later):
+                counts[-1] += 1
                 if not is_right(status, written):
                     self.wrong += 1
                     what = "this allocation and all later ones" if later else "this allocation"
                     print(f"WRONG: {name}, {what} refused: {number}: status {status}: {written[:200]!r}", flush=True)
-                if status == "no end":
-                    break
-                number += 1
-            counts.append(number - 1)
         if 0 in counts:
             self.wrong += 1
             print(f"WRONG: {name}: it met no allocation", flush=True)
@@ -253,7 +268,7 @@ def room_enough(size):
     return size <= 24
 
 
-def count(library, program, name):
+def counted_of(library, program, name):
     """How many allocations of a test were refused first, how many it met, the others; None where the test failed."""
     ran = subprocess.run([program, name], capture_output=True, env={**os.environ, "LD_PRELOAD": library}, check=False)
     counted = COUNTED.search(ran.stderr.decode())
@@ -266,7 +281,7 @@ def gate(library, program):
     """Counts what the tests refuse by themselves; false where one failed, or refused nothing."""
     is_right = True
     for name in named(program, "little_memory"):
-        counted = count(library, program, name)
+        counted = counted_of(library, program, name)
         if counted is None or counted[0] == 0:
             is_right = False
             print(f"WRONG: {name}: it failed, or refused nothing", flush=True)
@@ -297,7 +312,7 @@ def main():
     with tempfile.TemporaryDirectory() as folder:
         if kind == "gate":
             raise SystemExit(not gate(built(folder, "refused_first"), str(program)))
-        refuser = Refuser(folder)
+        refuser = Refuser(folder, 23 if kind == "library" else 1)
         refuse(refuser, str(program))
         print(f"{refuser.runs} runs, {refuser.refusals} with a refused allocation, {refuser.wrong} wrong")
         raise SystemExit(refuser.wrong > 0 or refuser.refusals == 0)

@@ -67,8 +67,9 @@ def row(folder, path):
     is_right = answer.kind == one.kind and is_there(one, answer)
     place = "%s:%s" % (answer.file, "-".join(map(str, answer.lines))) if answer.file else "-"
     gain = "%.1f %%" % answer.gain if answer.gain is not None else "-"
-    return "%-6s %-12s %-17s %-17s %s, %s, %s" % ("ok" if is_right else "WRONG", os.path.basename(folder), one.name,
-                                                 answer.kind, place, change["what"], gain)
+    verdict = "ok" if is_right else "WRONG"
+    return "%-6s %-12s %-17s %-17s %s, %s, %s" % (
+        verdict, os.path.basename(folder), one.name, answer.kind, place, change["what"], gain)
 
 
 def rows():

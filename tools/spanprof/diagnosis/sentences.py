@@ -67,8 +67,8 @@ def words_of_alone(facts, names, place):
     serial = [one for one in facts.places.values() if one.kind == SERIAL]
     sampled = together(facts.calls.ran, [one.name for one in serial] or [place.name])
     having = sum(time for calls, time in sampled.items() if ran.function in calls)
-    return "%.0f %% of %s of serial code" % (100 * having / max(sum(sampled.values()), 1),
-                                            lasting(sum(one.cost for one in serial)))
+    share = 100 * having / max(sum(sampled.values()), 1)
+    return "%.0f %% of %s of serial code" % (share, lasting(sum(one.cost for one in serial)))
 
 
 def words_of_sleep(facts, name):

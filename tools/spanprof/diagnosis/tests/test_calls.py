@@ -57,8 +57,8 @@ class Files(unittest.TestCase):
                            "7 ran 4000 main\n0 slept 900 main;load;read\n")
             found = calls_of(path, ["serial", "task", "serial"])
         self.assertEqual(found.slept, {"serial": Counter({("main", "load", "read"): 900})})
-        self.assertEqual(found.ran, {"serial": Counter({("main", "operator new (unsigned long)"): 8000,
-                                                    ("main", "b"): 8000})})
+        self.assertEqual(found.ran,
+                         {"serial": Counter({("main", "operator new (unsigned long)"): 8000, ("main", "b"): 8000})})
         self.assertEqual(together(found.ran, ["serial", "task"]), found.ran["serial"])
 
     def test_no_file(self):
