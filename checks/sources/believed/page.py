@@ -6,30 +6,21 @@ SECTION = re.compile(r"^(`(\w+(?:::\w+)+)`: )[^\n]*\n\n(?:- [^\n]*\n(?:- [^\n]*\
 COLUMNS = 120
 
 
-def grouped(definitions):
-    """The definitions by file, each file where its first definition stands."""
-    files = {}
-    for definition in definitions:
-        files.setdefault(definition.module, []).append(definition)
-    return files
-
-
 def total(definitions):
     return sum(definition.lines for definition in definitions)
 
 
 def items(definitions):
-    """An item for each run of files of one crate: `- crate: File 8, Other 67`, in the order of reading."""
+    """One item: `crate`: `File`, `Other`; and so on, in the order of reading."""
     runs = []
-    for module, found in grouped(definitions).items():
+    for module in dict.fromkeys(definition.module for definition in definitions):
         crate, _, name = module.split(".")
         if not runs or runs[-1][0] != crate:
             runs.append((crate, []))
-        runs[-1][1].append(f"`{name}`\N{NO-BREAK SPACE}{total(found)}")
-    wrapped = (textwrap.wrap(f"- `{crate}`: {', '.join(files)}", COLUMNS, subsequent_indent="  ",
-                             break_on_hyphens=False) for crate, files in runs)
-    text = "".join(f"{line}\n" for lines in wrapped for line in lines)
-    return text.replace("\N{NO-BREAK SPACE}", " ") + ("\n" if text else "")
+        runs[-1][1].append(f"`{name}`")
+    told = "; ".join(f"`{crate}`: {', '.join(files)}" for crate, files in runs)
+    lines = textwrap.wrap(f"- {told}", COLUMNS, subsequent_indent="  ", break_on_hyphens=False) if runs else []
+    return "".join(f"{line}\n" for line in lines) + ("\n" if lines else "")
 
 
 def counted(definitions):
@@ -45,6 +36,6 @@ def with_lists(page, library, promises):
         fresh = [definition for definition in found if definition not in known]
         known.update(found)
         new = "none" if not fresh else "all" if len(fresh) == len(found) else counted(fresh)
-        return f"{section[1]}{counted(found)} lines, {new} of them new here.\n\n{items(fresh)}"
+        return f"{section[1]}{counted(found)} lines, {new} new.\n\n{items(fresh)}"
 
     return SECTION.sub(made, page.rstrip("\n") + "\n\n").rstrip("\n") + "\n"

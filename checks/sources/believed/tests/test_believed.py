@@ -107,11 +107,11 @@ class Walk(unittest.TestCase):
         self.assertEqual(meaning, ("low.specs.Numbers", "Side"))
 
     def test_a_page_lists_what_is_new(self):
-        page = "`high::quadruple`: 9 lines, none of them new here.\n\n- `low`: `Old` 9,\n  `Older` 3\n\nA word.\n"
-        self.assertEqual(with_lists(page, self.library, self.promises), "`high::quadruple`: 6 lines, all of them new "
-                         "here.\n\n- `low`: `Numbers` 4\n- `high`: `More` 2\n\nA word.\n")
-        again = page + "\n`high::quadruple`: 1 lines, 1 of them new here.\n"
-        self.assertTrue(with_lists(again, self.library, self.promises).endswith("6 lines, none of them new here.\n"))
+        page = "`high::quadruple`: 9 lines, none new.\n\n- `low`: `Old`,\n  `Older`\n\nA word.\n"
+        self.assertEqual(with_lists(page, self.library, self.promises),
+                         "`high::quadruple`: 6 lines, all new.\n\n- `low`: `Numbers`; `high`: `More`\n\nA word.\n")
+        again = page + "\n`high::quadruple`: 1 lines, 1 new.\n"
+        self.assertTrue(with_lists(again, self.library, self.promises).endswith("6 lines, none new.\n"))
 
 
 if __name__ == "__main__":
