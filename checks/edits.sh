@@ -1,8 +1,7 @@
 #!/usr/bin/env bash
-# Tries the edits of checks/edits, each of which the prover has to refuse. The gate leaves them out: they turn a clause of
-# a function that only its crate sees, or one that another edit turns in the gate. They are tried as in the gate, over a
-# copy of the crates, each over a second proof of its crate. What a gate on this machine has passed is kept. All of them
-# take twenty minutes on four processors.
+# Tries the edits of checks/edits, each of which the prover has to refuse. The proof check leaves them out: they turn a
+# clause of a function that only its crate sees, or one that another edit turns there. They are tried over a copy of the
+# crates. All of them take twenty minutes on four processors.
 #
 #     checks/edits.sh [CRATE..]      all crates, if none is named
 set -euo pipefail
@@ -16,4 +15,4 @@ for crate in "${crates[@]}"; do
     [ -d "checks/edits/$crate" ] || { echo "$0: there are no edits of $crate" >&2; exit 2; }
     cp -R "checks/edits/$crate" "$copy/crates/$crate/must-fail"
 done
-(cd "$copy" && rt ci "${crates[@]}")
+(cd "$copy" && rt must-fail "${crates[@]}")

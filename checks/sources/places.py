@@ -1,12 +1,13 @@
 #!/usr/bin/env python3
-"""Compares the places that a new command or statement takes with those that CONTRIBUTING.md lists.
+"""Compares the places that a new command, statement, cause or event takes with those that CONTRIBUTING.md lists.
 
     checks/sources/places.py         what does not agree; status 1 if anything does not
-    checks/sources/places.py --all   the files that name commands, and those that name statements
-A file that names all commands but one at most has a place for each, and so has a file of code that names two
-statements. Words that are plain English, such as `run` and `work`, don't count. CONTRIBUTING.md has a table for each of
-the two. Its first column names files and folders, or `FOLDER`: and then what lies there. Each of them has to hold such
-a file, or a file that names a command or a statement, and each such file has to be one of them or lie below one.
+    checks/sources/places.py --all   the files that name commands, statements, causes, and events
+A file that names all commands or causes but one at most has a place for each, and so has a file of code that names two
+statements or three quarters of the events of a log. Words that are plain English, such as `run` and `work`, don't
+count. CONTRIBUTING.md has a table for each. Its first column names files and folders, or `FOLDER`: and then what lies
+there. Each of them has to hold such a file, or one that names a word, and each such file has to be one of them or lie
+below one.
 """
 import pathlib
 import re
@@ -28,6 +29,17 @@ def commands(source):
 def statements(definitions):
     """The statements' words, by the definition of them."""
     return set(re.findall(r'codes "(\w+)"', definitions.partition("is_statement_word text =")[2].partition("\n\n")[0]))
+
+
+def causes(source):
+    """The kinds of a diagnosis' causes that are no plain English, by their table."""
+    return {kind for kind in re.findall(r'Cause\("(\w+)"', source) if "_" in kind}
+
+
+def events(source):
+    """The events of a log, as C++ names them in small letters, by their enumeration."""
+    cases = source.partition("enum class Told")[2].partition("};")[0]
+    return {"told::" + case.lower() for case in re.findall(r"^  (\w+)", cases, re.M)} - {"told::nothing"}
 
 
 def named(words, text):
@@ -79,8 +91,12 @@ def main(arguments):
     words = commands(files["crates/command_words/src/program.rt"])
     marks = statements(files["crates/program_text/specs/Words.antt"])
     code = {path: text for path, text in files.items() if not NO_CODE.search(path)}
+    kinds = causes(files["tools/spanprof/diagnosis/causes.py"])
+    told = events(files["tools/openmp_recorder/told.hpp"])
     asked = [("command", "To add a command", files, words, len(words - PLAIN_ENGLISH) - 1),
-             ("statement", "To add a statement or a clause of the text", code, marks, 2)]
+             ("statement", "To add a statement or a clause of the text", code, marks, 2),
+             ("cause", "To add a cause of the diagnosis", files, kinds, len(kinds) - 1),
+             ("event", "To add an event of the log", code, told, len(told) * 3 // 4)]
     if arguments == ["--all"]:
         for what, _, texts, among, least in asked:
             print(*(f"{what}: {path}" for path in texts if len(named(among, texts[path])) >= least), sep="\n")

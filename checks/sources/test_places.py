@@ -5,7 +5,7 @@ import sys
 import unittest
 
 sys.path.insert(0, str(pathlib.Path(__file__).resolve().parent))
-from places import NO_CODE, commands, faults, listed, named, statements
+from places import NO_CODE, causes, commands, events, faults, listed, named, statements
 
 PROGRAM = '''
     let command = with_command(command, Command::new(alloc, "span"))?;
@@ -44,6 +44,9 @@ class Places(unittest.TestCase):
     def test_words(self):
         self.assertEqual(commands(PROGRAM), {"span", "greedy", "whatif"})
         self.assertEqual(statements(WORDS), {"work", "taskwait", "taskgroup"})
+        self.assertEqual(causes('Cause("lock", 0.1)\nCause("small_tasks", 0.1)'), {"small_tasks"})
+        self.assertEqual(events("enum class Told : uint8_t {\n  Nothing,  // none\n  LockGot,\n  Cancel\n};\n  Other"),
+                         {"told::lockgot", "told::cancel"})
 
     def test_what_a_text_names(self):
         words = {"span", "greedy", "whatif", "curve"}
