@@ -12,14 +12,12 @@ def total(definitions):
 
 def items(definitions):
     """One item: `crate`: `File`, `Other`; and so on, in the order of reading."""
-    runs = []
+    crates = {}
     for module in dict.fromkeys(definition.module for definition in definitions):
         crate, _, name = module.split(".")
-        if not runs or runs[-1][0] != crate:
-            runs.append((crate, []))
-        runs[-1][1].append(f"`{name}`")
-    told = "; ".join(f"`{crate}`: {', '.join(files)}" for crate, files in runs)
-    lines = textwrap.wrap(f"- {told}", COLUMNS, subsequent_indent="  ", break_on_hyphens=False) if runs else []
+        crates.setdefault(crate, []).append(f"`{name}`")
+    told = "; ".join(f"`{crate}`: {', '.join(files)}" for crate, files in crates.items())
+    lines = textwrap.wrap(f"- {told}", COLUMNS, subsequent_indent="  ", break_on_hyphens=False) if crates else []
     return "".join(f"{line}\n" for line in lines) + ("\n" if lines else "")
 
 

@@ -1,8 +1,8 @@
 """The causes for which a run is no faster: one table of them.
 
 A cause is named where its losses are at least `least` of the threads' time. Where a cause is of the shape, changes of
-the text are tried for it; of another the gain is a bound, as if its losses were gone. Each has a row in docs/TUNING.md
-and in the manual, and programs of its name in checks/programs/causes.
+the text are tried for it; of another the gain is a bound, as if its losses were gone. Each has a row in the
+manual, and programs of its name in checks/programs/causes.
 """
 from typing import NamedTuple
 

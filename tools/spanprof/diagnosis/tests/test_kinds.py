@@ -12,7 +12,7 @@ from spanprof.diagnosis.tests.worked import MS, facts, place
 from spanprof.folders import TOP
 
 TASKS = "task at image.c:25"
-TUNING, MANUAL = (os.path.join(TOP, *words) for words in (("docs", "TUNING.md"), ("tools", "man", "spanprof-record.1")))
+MANUAL = os.path.join(TOP, "tools", "man", "spanprof-record.1")
 PROGRAMS = os.path.join(TOP, "checks", "programs", "causes")
 
 
@@ -124,12 +124,11 @@ class Table(unittest.TestCase):
         for cause in TABLE:
             self.assertTrue(hasattr(Kinds, "test_" + cause.kind), cause.kind)
 
-    def test_each_kind_is_in_the_documents(self):
-        for path, row in ((TUNING, "\n| `%s` |"), (MANUAL, "\n.B %s\n")):
-            with open(path, encoding="utf-8") as file:
-                text = file.read()
-            for cause in TABLE:
-                self.assertTrue(row % cause.kind in text, "%s has no %s" % (path, cause.kind))
+    def test_each_kind_is_in_the_manual(self):
+        with open(MANUAL, encoding="utf-8") as file:
+            text = file.read()
+        for cause in TABLE:
+            self.assertIn("\n.B %s\n" % cause.kind, text)
 
     @unittest.skipUnless(os.path.isdir(PROGRAMS), "the programs are not here")
     def test_each_kind_has_a_program(self):
