@@ -1,11 +1,11 @@
 #!/usr/bin/env python3
-"""Finds long sentences and long lines in the documents, and too many words in all of them.
+"""Finds long sentences and long lines in the documents, and too many words in all of them or some.
 
     checks/sources/sentences.py [FILE ..]
 The files are all documents (*.md) of the repository if none is named. A sentence has at most 35 words, and a line at
 most 120 columns. Blocks of code are left out, headings too; a row of a table may be of any width, and each of its
-cells is text of its own. A word is what stands between blanks, in code too; a link counts by its text. README.md,
-CONTRIBUTING.md and docs/ have at most 25,000 words, blocks of code included.
+cells is text of its own. A word is what stands between blanks, in code too; a link counts by its text. README.md
+has at most 1,000 words, with CONTRIBUTING.md and docs/ 20,000, and all documents have 40,000, blocks of code included.
 """
 import pathlib
 import re
@@ -14,7 +14,7 @@ import sys
 TOP = pathlib.Path(__file__).resolve().parents[2]
 MOST_WORDS = 35
 MOST_COLUMNS = 120
-MOST_IN_ALL = 25000
+MOST_IN_ALL = {"the front page": 1000, "readers' documents": 20000, "all documents": 40000}
 FENCE = re.compile(r"\s*(```|~~~)")
 HEADING = re.compile(r"#+ ")
 ITEM = re.compile(r"\A\s*(?:[-*+]|\d+\.) +")
@@ -99,15 +99,26 @@ def documents():
             yield path
 
 
-def words_in_all():
-    read = [TOP / "README.md", TOP / "CONTRIBUTING.md", *(TOP / "docs").glob("*.md")]
-    return sum(len(path.read_text(encoding="utf-8").split()) for path in read)
+def words_in_all(pages):
+    """Of each of MOST_IN_ALL, by the documents' texts below the top."""
+    front = len(pages["README.md"].split())
+    for_readers = [text for path, text in pages.items() if re.match(r"(README|CONTRIBUTING|docs/[^/]*)\.md$", path)]
+    return dict(zip(MOST_IN_ALL, (front, *(sum(len(text.split()) for text in texts)
+                                           for texts in (for_readers, pages.values())))))
+
+
+def too_many(pages):
+    """A line for each that has too many words."""
+    for name, count in words_in_all(pages).items():
+        if count > MOST_IN_ALL[name]:
+            yield "%s: %d words, and %d at most" % (name, count, MOST_IN_ALL[name])
 
 
 def main(names):
     wrong = 0
-    if not names and words_in_all() > MOST_IN_ALL:
-        print("README.md, CONTRIBUTING.md and docs/ have %d words, and %d at most" % (words_in_all(), MOST_IN_ALL))
+    pages = {} if names else {str(path.relative_to(TOP)): path.read_text(encoding="utf-8") for path in documents()}
+    for line in too_many(pages) if pages else ():
+        print(line)
         wrong += 1
     for path in [pathlib.Path(name).resolve() for name in names] or documents():
         shown = path.relative_to(TOP) if TOP in path.parents else path

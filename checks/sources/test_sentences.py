@@ -4,7 +4,7 @@ import sys
 import unittest
 
 sys.path.insert(0, str(pathlib.Path(__file__).resolve().parent))
-from sentences import faults, paragraphs, sentences, without_code, words
+from sentences import faults, paragraphs, sentences, too_many, without_code, words, words_in_all
 
 
 def all_sentences(text):
@@ -55,6 +55,20 @@ class Faults(unittest.TestCase):
     def test_in_order(self):
         self.assertEqual([number for number, _, _ in faults("x" * 121 + "\n\n" + long_one() + "\n\n" + "x" * 121)],
                          [1, 3, 5])
+
+
+class InAll(unittest.TestCase):
+    def test_which_count(self):
+        pages = {"README.md": "a b", "CONTRIBUTING.md": "c", "docs/A.md": "d", "docs/a/B.md": "e", "checks/C.md": "f"}
+        self.assertEqual(list(words_in_all(pages).values()), [2, 4, 6])
+        self.assertEqual(list(too_many(pages)), [])
+
+    def test_each_bound(self):
+        self.assertEqual(list(too_many({"README.md": "a " * 1001})), ["the front page: 1001 words, and 1000 at most"])
+        many = {"README.md": "a", "docs/A.md": "b " * 20000}
+        self.assertEqual(list(too_many(many)), ["readers' documents: 20001 words, and 20000 at most"])
+        self.assertEqual(list(too_many({"README.md": "a", "tools/A.md": "b " * 40000})),
+                         ["all documents: 40001 words, and 40000 at most"])
 
 
 if __name__ == "__main__":
