@@ -8,6 +8,7 @@ from spanprof.source_lines import LONGEST, STRING, after_directive, code_lines, 
 from spanprof.text import BEGINNING
 
 FUNCTION = re.compile(r"^[A-Za-z_][\w\s:*&<>,~]*\b%s\s*\(")
+COMMENT = re.compile(r"\s*//.*")
 CALL = re.compile(r"^(?:[\w.\[\]>-]+\s*[-+*/]?=\s*)?([A-Za-z_]\w*)\s*\(")
 DEPEND = re.compile(r"depend\s*\(\s*(\w+)\s*:\s*((?:[^()]|\([^()]*\))*)\)")
 LINE = re.compile(r"[^\s:/]+:\d+$")
@@ -83,13 +84,13 @@ class Names:
         return bool(line) and is_of_some_turns(self.lines_of(line.file), line.number)
 
     def directive(self, name, at):
-        """The directive of a place, its lines joined."""
+        """The directive of a place, its lines joined, without a comment behind it."""
         line = self.begin(name, at)
         lines = self.lines_of(line.file) if line else []
         if not line or not 0 < line.number <= len(lines):
             return ""
         end = after_directive(lines, line.number)
-        return " ".join(one.strip().rstrip("\\") for one in lines[line.number - 1:end - 1])
+        return " ".join(COMMENT.sub("", one).strip().rstrip("\\") for one in lines[line.number - 1:end - 1])
 
     def stretch(self, place):
         """File, first and last line of a place's code, as far as they are known."""

@@ -4,7 +4,7 @@ from spanprof.diagnosis.sentences import change_sentence, lost_sentence, speed_w
 from spanprof.diagnosis.source_change import diff
 from spanprof.report.markup import join, tag
 
-LEAST = 0.04        # of the threads' time, from which on a loss is a part of the bar
+LEAST = 0.04        # of the threads' time, from which on a loss is a part of the bar, and a part has room for words
 MOST_PARTS = 4
 WORDS = {"serial": "serial", "too_few_tasks": "too few tasks", "dependence": "dependences", "wait": "waits",
          "imbalance": "uneven tasks", "small_tasks": "small tasks", "creation": "creating tasks",
@@ -51,8 +51,9 @@ def parts(told):
 
 
 def part_bar(told):
-    pieces = [tag("i", "%s %.0f %%" % (words, 100 * share), style="flex:%d" % max(1, 1000 * share), class_=class_,
-                  title="%s: %.1f %%" % (words, 100 * share)) for words, share, class_ in parts(told)]
+    pieces = [tag("i", "%s %.0f %%" % (words, 100 * share) if share >= LEAST else "",
+                  style="flex:%d" % max(1, 1000 * share), class_=class_, title="%s: %.1f %%" % (words, 100 * share))
+              for words, share, class_ in parts(told)]
     spoken = ", ".join("%s %.0f %%" % (words, 100 * share) for words, share, _ in parts(told))
     return tag("div", *pieces, class_="where", role="img",
                aria_label="Where the time of the threads went: " + spoken)

@@ -27,7 +27,7 @@ int main(int count, char **words) {
     #pragma omp task depend(in: b[0]) \\
         depend(inout: tab[f(0, 1)]) depend(out: d[0])
     tone(d, n);
-    #pragma omp taskwait
+    #pragma omp taskwait  // all of them
     more();
     rest();
   }
