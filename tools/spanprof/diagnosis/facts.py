@@ -26,7 +26,6 @@ class Region:
     place: str
     threads: int
     elapsed: int
-    asked: Optional[int] = None
 
 
 @dataclass
@@ -64,7 +63,6 @@ class Facts:
     waits_of_some_turns: set = field(default_factory=set)   # in an `if` of the loop that makes the tasks
     creating: int = 0                   # what creating one task costs
     usage: Optional[dict] = None
-    counters: Optional[dict] = None
     coverage: Optional[float] = None
     runs: int = 1
     true_one: Optional[List[int]] = None        # elapsed times of unrecorded runs on one thread
@@ -171,18 +169,16 @@ def set_meta(facts, meta):
     facts.runtime = runtime_name(meta.get("runtime") or {})
     facts.is_of_gcc = facts.is_of_gcc or facts.runtime.startswith(RUNTIMES["gnu"])
     facts.runs = max(facts.runs, len(meta.get("runs") or []))
-    facts.usage, facts.counters = usage or None, meta.get("counters")
+    facts.usage = usage or None
     facts.true_one, facts.true_many = meta.get("true_one"), meta.get("true_many")
     facts.cost_on_one = meta.get("cost_on_one")
 
 
-def regions_of(path, meta):
+def regions_of(path):
     """By place; those inside others are left out, since their threads are not of the team."""
-    asked = {team["place"]: team.get("asked") for team in meta.get("teams") or []}
     program = program_of(path)
     places = [place for place in program.places if not place.is_inside] if program else []
-    return [Region(place.name, max(region.threads for region in place.regions), place.outermost,
-                   asked.get(place.name)) for place in places]
+    return [Region(place.name, max(region.threads for region in place.regions), place.outermost) for place in places]
 
 
 def of_text(head, program, numbers):
@@ -215,7 +211,7 @@ def facts_of(recording):
     numbers = numbers_at(path, head.threads or 1)
     facts = of_text(head, program, numbers)
     set_meta(facts, meta)
-    facts.locks, facts.regions = locks_of(recording.file("locks"), head), regions_of(path, meta)
+    facts.locks, facts.regions = locks_of(recording.file("locks"), head), regions_of(path)
     set_off(facts, off_by_segment(recording.file("off"), head), program, head)
     facts.calls = calls_of(recording.file("calls"), program.names)
     try:

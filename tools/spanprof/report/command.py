@@ -10,10 +10,8 @@ from spanprof.diagnosis.tell import told_of
 from spanprof.errors import Fault
 from spanprof.head import head_text, said
 from spanprof.recording import open_recording, text_of
-from spanprof.regions import program_of, table_beside
 from spanprof.report.live import module
 from spanprof.report.page import page
-from spanprof.report.program_page import program_page, texts
 from spanprof.report.speedscope import speedscope_text
 from spanprof.report.summary_json import summary_json
 from spanprof.report.trace_events import trace_text
@@ -28,7 +26,6 @@ SLOWER = 3
 ANSWER = ("work", "span", "was")
 LONGEST_WORDS = 100
 MOST_THREADS = 1024
-OF_ONE_TEXT = ("other", "trace", "speedscope", "factor", "json", "replay", "live")
 NOT_OF_A_LONG_TEXT = ("trace", "replay", "live")
 
 
@@ -163,19 +160,6 @@ def write_the_rest(chosen, progress):
     progress.end(write_all(chosen, views, factors))
 
 
-def write_program_page(chosen, progress):
-    """Where the first text of a recording of several is named, and its page alone is asked for. Says whether it is."""
-    if any(getattr(chosen, option) for option in OF_ONE_TEXT) or (table_beside(chosen.program) or ("", 0))[1] != 1:
-        return False
-    program = program_of(chosen.program)
-    found = texts(program, chosen.program)
-    if not found or len(program.texts) == 1:
-        return False
-    write(chosen.output, program_page(program, found, chosen, progress))
-    progress.end([chosen.output])
-    return True
-
-
 def check(chosen):
     """Whether all files and folders are there, and none of the files would be lost."""
     for path in (chosen.program, chosen.replay, chosen.other):
@@ -203,9 +187,7 @@ def answer(chosen):
     chosen.program = text_of(chosen.program)
     chosen.other = chosen.other and text_of(chosen.other)
     check(chosen)
-    progress = Progress(sys.stderr)
-    if not write_program_page(chosen, progress):
-        write_the_rest(chosen, progress)
+    write_the_rest(chosen, Progress(sys.stderr))
 
 
 def main(words):

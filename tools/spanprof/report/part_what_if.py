@@ -61,18 +61,17 @@ def line_to_run(name, file):
     return tag("pre", tag("code", id=name, data_file=file), copy)
 
 
-def lines_to_run(view, program):
-    """The script fills them in; `program` is the number of the program on the page."""
+def lines_to_run(view):
+    """The script fills them in."""
     return tag("div", tag("p", "Set factors in the last column: the lines that ask for the exact span come here.",
                           class_="hint"),
                tag("p", "For the exact span run:"), line_to_run("factors-line", view.name),
                tag("p", "Or, with spanprof alone, the same with each segment's changed cost:"),
-               line_to_run("changes-line", view.name), class_="to-run", data_program=program)
+               line_to_run("changes-line", view.name), class_="to-run")
 
 
-def what_if_part(view, trials, factors, of="", live=None, program=0):
-    """`of` names the program where the page has two; `program` is its number there. `live` is what answers at once.
-    Nothing of a long text."""
+def what_if_part(view, trials, factors, of="", live=None):
+    """`of` names the program where the page has two. `live` is what answers at once. Nothing of a long text."""
     if view.is_long:
         return ""
     trials.ask_all(is_on_threads(view))
@@ -88,4 +87,4 @@ def what_if_part(view, trials, factors, of="", live=None, program=0):
         ". Odd costs are rounded to the nearest whole number, halves to even ones."),
         asked_for(view, factors), table(heads, rows, numeric=range(1, len(heads)), is_sortable=True),
         note(more, " more places are left out.") if with_cost > len(rows) else "", live_line(live) if live else "",
-        lines_to_run(view, program))
+        lines_to_run(view))

@@ -35,7 +35,7 @@ def covered(view):
     only = "only " if is_partial(head) and not head.covers_at_most else ""
     words = "The text has %s%s in code%s." % (only, share_covered(head), "; the rest is " + rest if rest else "")
     return tag("p", tag("span", words, class_="given"), " ", badge(MEASURED),
-               class_="recording" + " partial" * (is_partial(head) and not view.is_chapter))
+               class_="recording" + " partial" * is_partial(head))
 
 
 def on_the_threads(view):

@@ -48,7 +48,6 @@ class Reached:
 class View:
     """Of a long text the run is shown in bins of time, and what would need a row or a picture of each segment is left
     out."""
-    is_chapter = False      # of a page on the whole program, which tells how much of it the text is
 
     def __init__(self, path, replay=None, threads=None, source=None, prefix="", tell=None):
         self.answers = Answers(path, threads, tell)

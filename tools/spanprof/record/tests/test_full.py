@@ -45,7 +45,7 @@ class Full(unittest.TestCase):
         def watched(_, __, variables):
             asked.append((variables["OMP_TOOL"], variables["OMP_NUM_THREADS"], variables.get("OMP_THREAD_LIMIT")))
             elapsed, status = next(left)
-            return Ended(status, elapsed, None, None)
+            return Ended(status, elapsed, None)
         told = io.StringIO()
         with mock.patch("spanprof.record.full.watched", side_effect=watched), contextlib.redirect_stderr(told), \
                 mock.patch.dict(os.environ, {}, clear=True):
@@ -74,7 +74,7 @@ class Full(unittest.TestCase):
 
     def test_the_times_of_each_turn(self):
         made, _ = session()
-        with mock.patch("spanprof.record.full.watched", return_value=Ended(0, 7, None, None)):
+        with mock.patch("spanprof.record.full.watched", return_value=Ended(0, 7, None)):
             self.assertEqual(true_times(made, 4, 2), {"true_one": [7, 7], "true_many": [7, 7]})
 
 

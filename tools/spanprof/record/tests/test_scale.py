@@ -82,7 +82,7 @@ class Unrecorded(unittest.TestCase):
             self.assertEqual(failed.exception.status, status)
 
     def test_the_clock(self):
-        with mock.patch("spanprof.record.scale.watched", return_value=Ended(7, 250, None, None)):
+        with mock.patch("spanprof.record.scale.watched", return_value=Ended(7, 250, None)):
             made = argparse.Namespace(path="./mine", options=argparse.Namespace(command=["./mine"]))
             self.assertEqual(scale.timed_run(made, {}), (250, 7))
 
