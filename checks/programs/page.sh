@@ -159,7 +159,7 @@ for pair in kept_merge_sort:kept_merge_sort_split kept_wavefront:kept_wavefront_
         merge_sort-wall:merge_sort_split-wall wavefront-cpu:wavefront_overlapped-cpu; do
     first=${pair%:*} second=${pair#*:}
     [ -e "$folder/$first.tasks" ] || continue
-    for ending in tasks replay times timed; do
+    for ending in tasks timed; do
         [ ! -e "$folder/$first.$ending" ] || cp "$folder/$first.$ending" "$folder/${first}_and_other.$ending"
     done
     make_page "${first}_and_other" --with "$folder/$second.tasks"

@@ -114,7 +114,6 @@ _spanprof_report() {
     local current=${COMP_WORDS[COMP_CWORD]} before=${COMP_WORDS[COMP_CWORD - 1]}
     case $before in
         -o | --output) _spanprof_files "$current" .html ;;
-        --replay) _spanprof_files "$current" .replay ;;
         --trace | --speedscope) _spanprof_files "$current" .json ;;
         --source) _spanprof_folders "$current" ;;
         --threads | --factor) ;;

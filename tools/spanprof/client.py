@@ -12,7 +12,7 @@ from contextlib import contextmanager
 
 from spanprof.errors import Fault
 from spanprof.folders import found_at, places_of, words_in
-from spanprof.refusal import explained, of_event, of_whole
+from spanprof.refusal import explained, of_whole
 from spanprof.text import has_loops, segments_of
 from spanprof.text_file import PIECE, TextFile, opened
 
@@ -44,12 +44,6 @@ class Refused(Fault):
     def is_of_memory(self):
         """Whether there was too little memory for the table and the graph of the whole text."""
         return self.answer.startswith(("error: out of memory", "it ended with status -"))
-
-    def brief(self):
-        """On one line, with the event that is refused."""
-        lines = self.text.lines() if isinstance(self.text, TextFile) else self.text.split("\n")
-        event = of_event(lines, self.answer)
-        return "%s; %s" % (self, event) if event else str(self)
 
     def of(self, name):
         """The same for people, with the name of the text's file."""

@@ -26,7 +26,7 @@ SLOWER = 3
 ANSWER = ("work", "span", "was")
 LONGEST_WORDS = 100
 MOST_THREADS = 1024
-NOT_OF_A_LONG_TEXT = ("trace", "replay", "live")
+NOT_OF_A_LONG_TEXT = ("trace", "live")
 
 
 def beside(text):
@@ -51,7 +51,6 @@ def arguments(words):
     add("--fail-above", type=percent, metavar="5%", help="exit with status 3 where AFTER is slower by more than that")
     add("-o", "--output", metavar="MINE.html",
         help="the page; without it, and where nothing else is asked for, it is MINE.html")
-    add("--replay", metavar="MINE.replay", help="the recorded run; without it the one next to the text, if any")
     add("--with", dest="other", metavar="OTHER.spanprof", help="a second recording or text, compared with the first")
     add("--threads", type=count(1, MOST_THREADS), metavar="P",
         help="of the greedy schedule; without it as many as were recorded")
@@ -121,9 +120,9 @@ def print_factors(view, factors):
 
 
 def views_of(chosen, tell):
-    views = [View(chosen.program, chosen.replay, chosen.threads, chosen.source, tell=tell)]
+    views = [View(chosen.program, chosen.threads, chosen.source, tell=tell)]
     if chosen.other:
-        views.append(View(chosen.other, None, chosen.threads, chosen.source, "other ", tell))
+        views.append(View(chosen.other, chosen.threads, chosen.source, "other ", tell))
     return views
 
 
@@ -162,7 +161,7 @@ def write_the_rest(chosen, progress):
 
 def check(chosen):
     """Whether all files and folders are there, and none of the files would be lost."""
-    for path in (chosen.program, chosen.replay, chosen.other):
+    for path in (chosen.program, chosen.other):
         for output, what in outputs(chosen) or [(None, "")]:
             if path is not None:
                 check_files(path, output, what)

@@ -9,6 +9,7 @@ from spanprof.report.true_times import keys as true_keys, marks as true_marks, s
 WIDTH, HEIGHT = 720, 380
 COLUMNS = (("end", "the greedy schedule ends at"), ("least", "no run before"), ("bound", "no greedy schedule after"))
 LEFT, RIGHT, TOP, BOTTOM = 60, 16, 16, 56
+REACHED = "work / elapsed of the recorded run"
 
 
 class Axes:
@@ -111,10 +112,9 @@ def reached_mark(axes, view, colour):
     if not reached or reached.threads > axes.most_threads:
         return ""
     x, y = axes.x(reached.threads), axes.y(reached.speed_up)
-    words = "%d threads: %.2f, %s" % (reached.threads, reached.speed_up, reached.words)
-    title = view.figures.told("title", words, ["threads", "span work / " + reached.source])
-    hollow = "" if reached.is_elapsed else " hollow"
-    return tag("path", title, d="M%g %gl7 7l-7 7l-7 -7z" % (x, y - 7), class_="reached " + colour + hollow)
+    words = "%d threads: %.2f, %s" % (reached.threads, reached.speed_up, REACHED)
+    title = view.figures.told("title", words, ["threads", "span work / elapsed"])
+    return tag("path", title, d="M%g %gl7 7l-7 7l-7 -7z" % (x, y - 7), class_="reached " + colour)
 
 
 def most_shown(views):
@@ -147,8 +147,7 @@ def keys(view, colour, name):
     if lock_limit(view.answers):
         items.append(tag("span", tag("i", class_="key limit"), name, "work / time inside the most held lock"))
     if view.reached:
-        hollow = "" if view.reached.is_elapsed else " hollow"
-        items.append(tag("span", tag("i", class_="key diamond " + colour + hollow), name, view.reached.words))
+        items.append(tag("span", tag("i", class_="key diamond " + colour), name, REACHED))
     return items + true_keys(view, name)
 
 

@@ -68,7 +68,7 @@ def is_recorded(program, run):
     lengths = unpacked(run["lengths"]) if "lengths" in run else program.cost
     drawn = [(lane, start / per, (start + length) / per) for lane, start, length in
              zip(unpacked(run["lanes"]), unpacked(run["starts"]), lengths) if lane is not None]
-    expected = [(int(worker), start, end) for start, end, worker in program.bars()]
+    expected = [(int(worker), start, end) for start, end, worker in program.bars]
     near = 0.51 / per
     return len(drawn) == len(expected) and all(
         a[0] == b[0] and abs(a[1] - b[1]) <= near and abs(a[2] - b[2]) <= near

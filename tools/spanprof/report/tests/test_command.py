@@ -57,8 +57,7 @@ class Command(unittest.TestCase):
                          "1 segment changed\nwork 35\nspan 25\nwas 31\n")
 
     def copied(self, name="mesh"):
-        for ending in (".tasks", ".replay"):
-            shutil.copy(worked.path(name + ending), self.folder.name)
+        shutil.copy(worked.path(name + ".tasks"), self.folder.name)
         return self.out(name + ".tasks")
 
     def test_a_page_is_written_beside_the_text_and_named(self):

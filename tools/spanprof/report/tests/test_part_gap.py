@@ -1,6 +1,5 @@
 """What threads times elapsed time are the sum of: as it is read, and as it stands below the curve."""
 import json
-import os
 import re
 import unittest
 
@@ -42,7 +41,7 @@ class Read(unittest.TestCase):
 
     def test_what_the_page_is_judged_by(self):
         program = Program.__new__(Program)
-        program.base = os.path.splitext(worked.path("split.tasks"))[0]
+        program.file = worked.path("split.tasks")
         self.assertEqual([program.gap(name) for name in ("work-on-one-thread", "whole", "elapsed")],
                          [34500, 60000, 30000])
         self.assertEqual(program.value("gap-place 1 inflation + gap-place 1 starved"), 3610)

@@ -146,26 +146,15 @@ class OfOneProgram(unittest.TestCase):
         mark = re.search(r'd="M\S+ (\S+)l7 7l-7 7l-7 -7z"', curve_part([worked.view("odd")]))
         self.assertGreater(float(mark[1]), 0)
 
-    def test_a_run_without_times_is_not_called_as_it_was(self):
-        words = seen(timeline_part(self.view, 0, "timeline", "Timeline"))
-        self.assertIn("The recorded run, in the order of the replay , 2 threads , 31 µs", words)
-        self.assertNotIn("The run as it was", words)
-
     def test_a_run_with_times_is(self):
         words = seen(timeline_part(worked.view("split"), 0, "timeline", "Timeline"))
         self.assertIn("The run as it was , 2 threads , 28 µs", words)
         self.assertIn("From the region's beginning to its end 30 µs elapsed measured , 2 µs of it after the last",
                       words)
 
-    def test_what_elapsed_beyond_the_costs(self):
-        words = seen(timeline_part(self.view, 0, "timeline", "Timeline"))
-        self.assertIn("40 µs elapsed measured , 9 µs more than the costs in this order need", words)
-        self.view.answers.head.elapsed = 31
-        self.assertNotIn("elapsed", seen(timeline_part(self.view, 0, "timeline", "Timeline")))
-
     def test_no_run(self):
         words = seen(timeline_part(worked.view("plain"), 0, "timeline", "Timeline"))
-        self.assertIn("There is no replay document next to plain.tasks. So there is only the greedy schedule to show.",
+        self.assertIn("There are no recorded times of its segments. So there is only the greedy schedule to show.",
                       words)
 
     def test_path(self):

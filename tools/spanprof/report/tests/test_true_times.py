@@ -43,7 +43,7 @@ class Files(unittest.TestCase):
     def test_what_the_page_is_judged_by(self):
         self.points(TOLD)
         program = Program.__new__(Program)
-        program.base = self.base
+        program.file = self.base + ".tasks"
         self.assertEqual([program.scale("4", name) for name in ("threads", "speedup", "speedup-from", "speedup-to")],
                          [4, 2.5, 2.0, 3.0])
 
