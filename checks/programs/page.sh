@@ -77,6 +77,7 @@ record_scale() { # a small program on several numbers of threads; it is one of t
     tools/spanprof-record --scale 1,2,4 --runs 2 --out "$folder/scaled" --unit us -- "$folder/cholesky" 4 \
         > "$folder/said" 2>&1 || fail "no scale is recorded: $(tail -1 "$folder/said")"
     page_of_recording scaled "$folder/scaled.spanprof"
+    visit "$folder" scaled
 }
 
 page_of_recording() { # NAME RECORDING [OPTION ..]: its page, and its numbers

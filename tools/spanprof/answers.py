@@ -9,7 +9,7 @@ from spanprof import client
 from spanprof.c_calls import MOST_THREADS
 from spanprof.changed_text import with_costs, without_costs
 from spanprof.client import named_numbers
-from spanprof.head import head_text, read_head
+from spanprof.head import head_of
 from spanprof.limits import is_long
 from spanprof.recording import shown_name
 from spanprof.segment_table import read_code
@@ -67,7 +67,7 @@ class Answers:
         self.asked, self.wanted_threads, self.seconds_to_read = [], threads, 0
         self.file = TextFile(self.path)
         self.numbers = client.measured(self.path)
-        self.head = read_head(head_text(self.path))
+        self.head = head_of(self.path)
 
     @property
     def text(self):

@@ -13,7 +13,6 @@ from contextlib import contextmanager
 from spanprof.errors import Fault
 from spanprof.folders import found_at, places_of, words_in
 from spanprof.refusal import explained, of_whole
-from spanprof.text import has_loops, segments_of
 from spanprof.text_file import PIECE, TextFile, opened
 
 PLACES = {name: places_of(name) for name in ("spanprof_large", "spanprof")}
@@ -128,12 +127,6 @@ def columns(words, text, wanted):
     return out
 
 
-def replayed(document):
-    """Ends with a fault where the run of a replay document is refused; what else is told of it is not kept."""
-    for _ in pieces(["replay"], document):
-        pass
-
-
 def named_numbers(lines):
     """`work 11` and the like."""
     pairs = (line.split() for line in lines.split("\n") if line)
@@ -164,11 +157,6 @@ def rows(table):
     lines = table.split("\n")
     heads = lines[0].split(",")
     return [dict(zip(heads, line.split(","))) for line in lines[1:] if line]
-
-
-def segments(text):
-    """The segments in the order of their numbers; of a text with loops by its canonical text, which has none."""
-    return segments_of(ask(["show"], text) if has_loops(text) else text)
 
 
 def graph(text):

@@ -99,6 +99,10 @@ def head_text(path):
         return "".join(takewhile(lambda line: line.startswith("#"), file))
 
 
+def head_of(path):
+    return read_head(head_text(path))
+
+
 def number(told):
     """A count, or a time in the text's unit."""
     if isinstance(told, bool) or not isinstance(told, int) or not 0 <= told < 2 ** 63:

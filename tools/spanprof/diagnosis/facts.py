@@ -2,18 +2,18 @@
 import re
 import statistics
 from dataclasses import dataclass, field
-from types import SimpleNamespace
 from typing import Dict, List, Optional
 
-from spanprof.account import Account, completed, read_rows
-from spanprof.account_program import NoAccount, ask
-from spanprof.client import named_numbers
-from spanprof.diagnosis.asked import head_of, numbers_at, with_lines
+from spanprof.account import account_of
+from spanprof.account_program import NoAccount
 from spanprof.diagnosis.calls import Sampled, calls_of
 from spanprof.diagnosis.lock_times import locks_of
 from spanprof.diagnosis.places import read_program
+from spanprof.head import head_of
 from spanprof.recording import document
 from spanprof.regions import program_of
+from spanprof.text_file import TextFile
+from spanprof.whatif.numbers import numbers_of
 
 RUNTIMES = {"llvm": "LLVM", "gnu": "gcc"}
 EXCLUDING = "mutexinoutset"     # the remark of a text that has inoutset in its place
@@ -101,16 +101,6 @@ def function_in(words):
     """The name in `in sort, inlined into main at sort.c:9`, without arguments and what it is inlined into."""
     name = re.sub(r"^in ", "", words).partition(", inlined into")[0]
     return re.sub(r"(\.omp_outlined.*|\(.*|\.part\.\d+|\.constprop\.\d+)$", "", name)
-
-
-def breakdown(program, head, work, timed):
-    """The account of the run, whose times are in a document with the text."""
-    if not timed:
-        raise NoAccount("there are no times")
-    sums, rows = named_numbers(ask([], timed)), read_rows(ask(["--rows"], timed))
-    if len(rows) != len(program.names):
-        raise NoAccount("there are times of %d segments, and not of %d" % (len(rows), len(program.names)))
-    return completed(Account(**sums, rows=rows, places=program.names), SimpleNamespace(head=head, work=work))
 
 
 def set_breakdown(facts, found):
@@ -207,15 +197,15 @@ def mark_places(facts, head, unit):
 def facts_of(recording):
     """Of a recording's folder, or of a plain text with what lies beside it."""
     path, meta = recording.text, recording.meta
-    program, head = with_lines(path, read_program), head_of(path)
-    numbers = numbers_at(path, head.threads or 1)
+    program, head = read_program(TextFile(path).lines()), head_of(path)
+    numbers = numbers_of(TextFile(path), [head.threads or 1])
     facts = of_text(head, program, numbers)
     set_meta(facts, meta)
     facts.locks, facts.regions = locks_of(recording.file("locks"), head), regions_of(path)
     set_off(facts, off_by_segment(recording.file("off"), head), program, head)
     facts.calls = calls_of(recording.file("calls"), program.names)
     try:
-        set_breakdown(facts, breakdown(program, head, numbers.work, document(recording)))
+        set_breakdown(facts, account_of(head, numbers.work, document(recording), program.names))
     except NoAccount:
         set_by_greedy(facts)
     return facts

@@ -113,11 +113,6 @@ def watched(path, words, variables):
         return Ended(process.returncode, elapsed, usage)
 
 
-def run(path, words, variables):
-    """How the program ended: its exit status, or less than 0 the signal."""
-    return watched(path, words, variables).status
-
-
 def signal_name(status):
     try:
         return signal.Signals(-status).name

@@ -11,7 +11,7 @@ from spanprof.command import show
 from spanprof.diagnosis.compare import compared, lines as comparison_lines
 from spanprof.diagnosis.tell import told_of
 from spanprof.errors import Fault
-from spanprof.head import Head, head_text, read_head
+from spanprof.head import Head, head_of
 from spanprof.predict.machine import machine_file
 from spanprof.predict import predictions as predicting
 from spanprof.predict.scaled import texts
@@ -70,7 +70,7 @@ class Unmeasured(NamedTuple):
 
 def print_unmeasured(recording, news):
     """Of a text that only spanprof_large takes, where that is not found."""
-    told = Unmeasured(recording.name, read_head(head_text(recording.text)))
+    told = Unmeasured(recording.name, head_of(recording.text))
     show([title(told)] + named("remarks", remark_lines(told, [client.HOW] + list(news))))
 
 

@@ -2,6 +2,7 @@
 import json
 import os
 
+from spanprof.predict.scaled import SCALE
 from spanprof.proof import proved
 from spanprof.report.colours import colour_rules
 from spanprof.report.live import Live
@@ -20,7 +21,6 @@ from spanprof.report.part_tasks import tasks_part
 from spanprof.report.part_timeline import timeline_part
 from spanprof.report.part_what_if import what_if_part
 from spanprof.report.timeline_data import timeline_data
-from spanprof.report.true_times import scale_name
 from spanprof.report.what_if import Trials
 
 HERE = os.path.dirname(os.path.abspath(__file__))
@@ -38,8 +38,7 @@ def asked_part(views):
     shown = [line for line in words if not line.startswith("spanprof whatif")]
     if changed:
         shown.append("spanprof whatif SEGMENT=COST .., %d times" % changed)
-    shown += ["spanprof-record --scale, in " + scale_name(view.answers)
-              for view in views if view.scale]
+    shown += ["spanprof-record --scale, in %s/%s" % (view.name, SCALE) for view in views if view.scale]
     return section("sources", "Where the numbers come from",
                    tag("p", "Every number is what one of these commands printed, or a sum, difference or quotient of "
                             "such numbers, or it stands in the head of the text or in the table of times; its tooltip "

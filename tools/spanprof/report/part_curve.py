@@ -2,7 +2,6 @@
 from spanprof.claims import gain_may_be_less, gain_may_be_more, least_end, why_not_of_more_threads
 from spanprof.report.figures import MEASURED, PROVED, badges
 from spanprof.report.markup import details, join, note, section, tag
-from spanprof.report.part_gap import gap_part
 from spanprof.report.tables import table
 from spanprof.report.true_times import keys as true_keys, marks as true_marks, shown_points
 
@@ -208,5 +207,4 @@ def curve_part(views):
                         badges(PROVED), ". A run of the text that leaves no thread idle while a segment is ready lies "
                         "in the band, whatever its order; tied tasks can force a thread to idle. The diamond is how "
                         "many threads were busy in this code on average ", badges(MEASURED), "."),
-                   *[limits(view) for view in views], *tables,
-                   *[gap_part(view, view.name + ", " if len(views) > 1 else "") for view in views])
+                   *[limits(view) for view in views], *tables)

@@ -11,7 +11,6 @@ from spanprof.recording import folder_of, open_recording
 from spanprof.regions import place_name, program_of
 from spanprof.report.colours import BARS
 from spanprof.report.figures import DECLARED, MEASURED, RECORDED, Figures
-from spanprof.report.gap import gap_in
 from spanprof.report.level_runs import NoTimes, levels_in, levels_of_greedy
 from spanprof.report.markup import tag
 from spanprof.report.places import places, task_places
@@ -91,11 +90,6 @@ class View:
         return points_in(self.scale)
 
     @cached_property
-    def gap(self):
-        """What the threads did in all; None where that was not measured."""
-        return gap_in(self.scale)
-
-    @cached_property
     def reached(self):
         work, head = self.answers.work, self.answers.head
         return Reached(head.threads, work / head.elapsed) if head.elapsed and head.threads else None
@@ -125,7 +119,7 @@ class View:
 
     @cached_property
     def predicted(self):
-        found = predicted(self.answers, self.scale)
+        found = predicted(self.answers)
         if found.found:
             threads = ",".join(str(one.threads) for one, _ in found.found)
             self.answers.noted("spanprof-predict %s --threads %s" % (self.name, threads))

@@ -7,7 +7,7 @@ from unittest import mock
 from spanprof import client
 from spanprof.errors import Fault
 from spanprof.head import OLDER, UNREAD, Head, read_head, said, with_function
-from spanprof.text import has_loops
+from spanprof.text import has_loops, segments_of
 
 TEXT = """\
 # recorded: {"program": "sort", "date": "2026-11-24T00:31:07Z", "threads": 4, "clock": "cpu", "unit": "250 ns"}
@@ -158,7 +158,7 @@ class Heads(unittest.TestCase):
 
 class Segments(unittest.TestCase):
     def test_costs_and_places(self):
-        found = client.segments(TASKS)
+        found = segments_of(TASKS)
         self.assertEqual([s.cost for s in found], [5, 3, 2, 1, 0, 0, 1])
         self.assertEqual([s.place() for s in found], [
             "the beginning", "task at a.c:2", "after creating a task at a.c:2", "a task", "after creating a task",

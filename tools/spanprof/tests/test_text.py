@@ -3,8 +3,9 @@ import os
 import unittest
 from collections import Counter
 
-from spanprof import client, folders
-from spanprof.text import LONGEST_KNOWN, Statement, is_programs, marks, statements, text_lines, where
+from spanprof import folders
+from spanprof.text import (LONGEST_KNOWN, Statement, is_programs, marks, segments_of, statements, text_lines,
+                           where)
 from spanprof.whatif.tests.made_up import ROW, SORT, changed, read
 
 LOOP = "taskgroup {  # the loop at a.c:5\n task {  # turns of the loop at a.c:5\n  work 1\n }\n work 2\n}\nwork 3\n"
@@ -111,7 +112,7 @@ class Reading(unittest.TestCase):
             costs, expected = Counter(), Counter()
             for one in read(text):
                 costs[one.name] += one.cost
-            for segment in client.segments(text):
+            for segment in segments_of(text):
                 expected[segment.place()] += segment.cost
             self.assertEqual(+costs, +expected, path)
 

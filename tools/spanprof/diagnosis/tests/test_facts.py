@@ -110,11 +110,11 @@ class Recorded(unittest.TestCase):
             path = os.path.join(folder, "m.tasks")
             with open(path, "w", encoding="utf-8") as file:
                 file.write(HEAD + TEXT)
-            measured, module.numbers_at = module.numbers_at, lambda *_: NUMBERS
+            measured, module.numbers_of = module.numbers_of, lambda *_: NUMBERS
             try:
                 found = module.facts_of(open_recording(path))
             finally:
-                module.numbers_at = measured
+                module.numbers_of = measured
             self.assertEqual(found.code + found.starved + found.delayed, found.whole_time)
 
 

@@ -78,7 +78,8 @@ class Runs(InFolder):
         told = io.StringIO()
         with contextlib.redirect_stderr(told), made.begun(), \
                 mock.patch("spanprof.record.session.convert_into", side_effect=convert or self.convert), \
-                mock.patch("spanprof.record.runs.work_and_span", side_effect=[(9, 4), (7, 5), (8, 3)]):
+                mock.patch("spanprof.client.measured",
+                           side_effect=[{"work": work, "span": span} for work, span in ((9, 4), (7, 5), (8, 3))]):
             recorded = record_often(made) if made.options.runs > 1 else made.record_once()
         return recorded, told.getvalue()
 

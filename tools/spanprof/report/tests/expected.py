@@ -1,22 +1,18 @@
 """What each number of a page has to be, worked out again from the answers of spanprof alone."""
 import json
-import os
 import re
 from functools import cached_property
-from types import SimpleNamespace
 
 from spanprof.account import account_of
 from spanprof.changed_text import with_costs, without_costs
-from spanprof.client import segments
-from spanprof.tests.columns import code_of
 from spanprof.head import read_head
 from spanprof.predict.machine import machine_file, read_machine
 from spanprof.predict.predictions import by_the_model, of_changed
 from spanprof.predict.recorded import recorded
-from spanprof.predict.scaled import together
+from spanprof.predict.scaled import texts, together
 from spanprof.recording import document, open_recording
-from spanprof.report.predicted import change_of, recordings
-from spanprof.text import has_loops, statements, text_lines
+from spanprof.report.predicted import change_of
+from spanprof.text import has_loops, segments_of, statements, text_lines
 from spanprof.whatif.creating import costs_for
 from spanprof.whatif.requests import Request, applied, changes
 from spanprof.whatif.survey import survey
@@ -185,9 +181,9 @@ class Program(Sums):
     @cached_property
     def found(self):
         """The account of the run beside the text, asked anew."""
-        answers = SimpleNamespace(head=read_head(self.text), code=code_of(segments(self.text)), is_long=False,
-                                  work=self.line("work", "span"))
-        return account_of(answers, self.timed)
+        text = self.answer("show") if has_loops(self.text) else self.text
+        return account_of(read_head(self.text), self.line("work", "span"), self.timed,
+                          [segment.place() for segment in segments_of(text)])
 
     def account(self, what, number=None):
         if number is None:
@@ -247,31 +243,18 @@ class Program(Sums):
     @cached_property
     def measured(self):
         """What `spanprof-record --scale` wrote beside the text."""
-        with open(self.scale_file, encoding="utf-8") as file:
+        recorded = open_recording(self.file).file("scale.json")
+        with open(recorded or self.file.replace(".tasks", ".scale.json"), encoding="utf-8") as file:
             return json.load(file)
-
-    @property
-    def scale_file(self):
-        return open_recording(self.file).file("scale.json") or self.file.replace(".tasks", ".scale.json")
 
     def scale(self, threads, name):
         rows = {row["threads"]: row for row in self.measured["threads"]}
         return rows[int(threads)][name.replace("speedup-", "speedup ")]
 
-    def gap(self, what):
-        """The whole is the sum of its parts."""
-        found = self.measured["gap"]
-        parts = {name.replace(" ", "-"): time for name, time in found["parts"].items()}
-        return {**parts, "elapsed": found["elapsed"], "whole": sum(parts.values())}[what]
-
-    def gap_place(self, number, what):
-        return self.measured["gap"]["places"][int(number)][what]
-
     def predicted(self, threads, what):
         """By the model of the machine."""
         if ("predicted", threads) not in self.kept:
-            told = self.measured if os.path.exists(self.scale_file) else None
-            found = by_the_model(recordings(self.file, told), [int(threads)])[2]
+            found = by_the_model(texts(self.file).paths, [int(threads)])[2]
             self.kept["predicted", threads] = self.as_told(*found[0])
         return self.kept["predicted", threads][what]
 

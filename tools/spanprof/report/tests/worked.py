@@ -61,6 +61,12 @@ def with_a_machine():
     return mock.patch.dict(os.environ, SPANPROF_MACHINE=path("machine.json"))
 
 
+def scale_beside(answers):
+    """A worked text is no recording: its scale stands beside it."""
+    file = answers.path.replace(".tasks", ".scale.json")
+    return json.loads(document(file)) if os.path.exists(file) else None
+
+
 class Patched:
     """The kept answers in place of both programs; a diagnosis, which asks much more, is none of them."""
 
@@ -68,6 +74,7 @@ class Patched:
         kept = Kept()
         self.patches = [mock.patch("spanprof.client.ask", kept), mock.patch("spanprof.client.pieces", pieces_of(kept)),
                         mock.patch("spanprof.account.ask", kept.of_times), with_a_machine(),
+                        mock.patch("spanprof.report.view.scale_beside", scale_beside),
                         mock.patch("spanprof.report.view.diagnosis_of", return_value=None)]
 
     def start(self):
