@@ -53,14 +53,12 @@ class Head:
     not_covered: Dict[str, int] = field(default_factory=dict)  # the rest, by where it passed
     divided: List[str] = field(default_factory=list)  # loops and sections, among as many threads as the run had
     beside: Optional[int] = None       # what the region's parts cost, but for the longest of each phase
-    clock_reading: Optional[int] = None  # in nanoseconds
     clocks_differ: Dict[str, int] = field(default_factory=dict)  # affected, work, by, times
     slept: Dict[str, int] = field(default_factory=dict)          # the same of code that slept, by the wall clock
     preempted: Dict[int, int] = field(default_factory=dict)      # by segment, what other programs took in it
     untimed: int = 0                   # of segments, before they were left in their midst
     most_held: Optional[int] = None    # inside one lock, one thread at a time
-    runs: Optional[int] = None         # where the program was recorded several times
-    is_median: bool = False            # each cost is the median of those runs; else it is one of them
+    runs: Optional[int] = None         # where the program was recorded several times, of which this is one
     spread: Dict[str, Tuple[int, int, int]] = field(default_factory=dict)  # of work, span: least, median, most
     functions: Dict[str, str] = field(default_factory=dict)  # by a place: `in merge, inlined into sort at sort.c:9`
     remarks: List[Remark] = field(default_factory=list)
@@ -165,10 +163,6 @@ def read_divided(head, told):
         head.divided.append("%s, %s" % (told["what"], seen(told)))
 
 
-def read_runs(head, told):
-    head.runs, head.is_median = number(told["runs"]), truth(told["median"])
-
-
 def read_place(head, told):
     function = "in " + words(told["in"]) + "".join(", inlined into %s at %s" % (words(one["in"]), words(one["at"]))
                                                    for one in told.get("inlined", []))
@@ -195,11 +189,6 @@ def read_preempted(head, told):
     head.preempted = {number(segment): number(off) for segment, off in told}
 
 
-def spread_of(what):
-    return lambda head, told: head.spread.update(
-        {what: tuple(number(told[part]) for part in ("least", "median", "most"))})
-
-
 def part_of_program(head):
     """What the text is of, in words; empty where it does not say."""
     return "the whole program" if head.whole else "region at %s" % head.region if head.region else ""
@@ -218,12 +207,11 @@ DIFFER = ("affected", "work", "by", "times")
 
 LINES = {
     "recorded": read_recorded, "region": read_region, "whole program": read_whole, "covers": read_coverage,
-    "not covered": read_not_covered, "divided": read_divided, "clock reading": kept("clock_reading"),
+    "not covered": read_not_covered, "divided": read_divided,
     "clocks differ": kept_numbers("clocks_differ", DIFFER), "slept": kept_numbers("slept", DIFFER),
     "untimed": kept("untimed"), "preempted": read_preempted,
     "elapsed": kept("elapsed"), "most held lock": kept("most_held"),
     "lock": read_lock, "place": read_place,
-    "runs": read_runs, "work of the runs": spread_of("work"), "span of the runs": spread_of("span"),
     **{name: part_of_time(name) for name in DIVISION},
 }
 

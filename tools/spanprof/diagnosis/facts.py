@@ -158,7 +158,7 @@ def set_meta(facts, meta):
     facts.asked, facts.processors = threads.get("asked"), meta.get("processors")
     facts.runtime = runtime_name(meta.get("runtime") or {})
     facts.is_of_gcc = facts.is_of_gcc or facts.runtime.startswith(RUNTIMES["gnu"])
-    facts.runs = max(facts.runs, len(meta.get("runs") or []))
+    facts.runs = len(meta.get("runs") or [1])
     facts.usage = usage or None
     facts.true_one, facts.true_many = meta.get("true_one"), meta.get("true_many")
     facts.cost_on_one = meta.get("cost_on_one")
@@ -178,7 +178,7 @@ def of_text(head, program, numbers):
     facts = Facts(program=head.program, whole=bool(head.whole), threads=threads, elapsed=(head.elapsed or 0) * unit,
                   work=numbers.work * unit, span=numbers.span * unit,
                   greedy=(numbers.on[threads].bound if end is None else end) * unit,
-                  tasks=program.tasks - head.pieces - head.parts, places=program.places, runs=head.runs or 1,
+                  tasks=program.tasks - head.pieces - head.parts, places=program.places,
                   functions={at: function_in(words) for at, words in head.functions.items()})
     facts.coverage = head.covered / head.thread_time if head.covered and head.thread_time else None
     facts.is_of_gcc = any(remark.name == OF_GCC for remark in head.remarks)

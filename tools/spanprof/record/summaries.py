@@ -27,30 +27,15 @@ MORE = "spanprof-report %s, spanprof-record --all"
 BEYOND = ("TooLong", "TooDeep", "TooMany", "input too long")
 
 
-def spread_of(numbers, unit):
-    ordered = sorted(number // unit for number in numbers)
-    return ordered[0], ordered[(len(ordered) - 1) // 2], ordered[-1]
-
-
-def take_runs(head, runs):
-    """What all runs took, of which this one is kept, in the unit of its text."""
-    unit = head.nanoseconds or 1
-    head.runs = len(runs)
-    head.spread = {name: spread_of([one[name + "_ns"] for one in runs], unit) for name in ("work", "span")}
-
-
 def answered(recording):
     """None where the text is too long for the program that is there."""
     tell("reading " + recording.name)
     try:
-        answers = Answers(recording)
+        return Answers(recording)
     except Fault as refused:
         if client.takes_any_size() or not any(limit in str(refused) for limit in BEYOND):
             raise
         return None
-    if recording.meta.get("runs"):
-        take_runs(answers.head, recording.meta["runs"])
-    return answers
 
 
 def predicted(recording, answers):

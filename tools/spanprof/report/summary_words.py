@@ -12,8 +12,8 @@ def recorded_words(view):
     clock = {"cpu": "processor time", "wall": "wall time"}.get(head.clock, head.clock)
     unit = "costs in %s of %s" % (view.unit.replace("× ", ""), clock) if head.unit else \
         "costs as the text declares them: nothing says that they were measured"
-    runs = ("the median of %d runs" if head.is_median else "one of %d runs, which have no median") % head.runs \
-        if head.runs else "one run" if head.is_measured else ""
+    runs = "the one of %d runs with the median elapsed time" % head.runs if head.runs else \
+        "one run" if head.is_measured else ""
     parts = ["recorded from %s" % head.program if head.program else "",
              "the whole program: %s" % head.whole if head.whole else "",
              "the parallel region at %s" % head.region if head.region else "", head.date,

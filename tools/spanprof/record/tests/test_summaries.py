@@ -7,6 +7,7 @@ import os
 import unittest
 from unittest import mock
 
+from spanprof.answers import take_runs
 from spanprof.client import HOW
 from spanprof.errors import Fault
 from spanprof.record import summaries
@@ -70,15 +71,10 @@ class Printed(InFolder):
         self.assertEqual(told[-1], "warnings      a note")
 
     def test_several_runs(self):
-        folder, path = recording(self.folder), os.path.join(self.folder, "mine.spanprof", "recording.json")
-        with open(path, encoding="utf-8") as file:
-            meta = json.load(file)
-        meta["runs"] = [{"elapsed_ns": 9, "work_ns": work * 1000, "span_ns": 70000} for work in (90, 120, 100)]
-        with open(path, "w", encoding="utf-8") as file:
-            json.dump(meta, file)
-        told = self.told(folder)
-        self.assertIn("runs          3, and each cost is that of the run with the median elapsed time (measured)", told)
-        self.assertIn("work          100 us (90 us to 120 us in 3 runs): code on 4 threads, added up (measured)", told)
+        """By recording.json, in the unit of the text."""
+        head = Head()
+        take_runs(head, [{"elapsed_ns": 9, "work_ns": work * 1000, "span_ns": 70000} for work in (90, 120, 100)])
+        self.assertEqual((head.runs, head.spread), (3, {"work": (90, 100, 120), "span": (70, 70, 70)}))
 
     def test_ranks(self):
         folders = [recording(self.folder, "mine.rank%d" % rank) for rank in (0, 1)]

@@ -106,13 +106,10 @@ class OfOneProgram(unittest.TestCase):
         self.assertNotIn("greedy schedule at half", seen(what_if_part(self.view, self.trials, [])))
 
     def test_the_spread_of_several_runs(self):
-        words = self.told(runs=7, is_median=True, spread={"work": (39, 41, 1044), "span": (30, 31, 36)})
-        self.assertIn("the median of 7 runs", words)
+        words = self.told(runs=7, spread={"work": (39, 41, 1044), "span": (30, 31, 36)})
+        self.assertIn("the one of 7 runs with the median elapsed time", words)
         self.assertIn("code on 2 threads, added up 39 µs to 1.04 ms in 7 runs", words)
         self.assertIn("30 µs to 36 µs in 7 runs", words)
-
-    def test_several_runs_without_a_median(self):
-        self.assertIn("one of 7 runs, which have no median", self.told(runs=7))
 
     def test_one_thread(self):
         words = self.told(threads=1)
