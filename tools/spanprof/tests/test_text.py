@@ -4,8 +4,8 @@ import unittest
 from collections import Counter
 
 from spanprof import folders
-from spanprof.text import (LONGEST_KNOWN, Statement, is_programs, marks, segments_of, statements, text_lines,
-                           where)
+from spanprof.tests.columns import segments_of
+from spanprof.text import LONGEST_KNOWN, Statement, is_programs, marks, statements, text_lines, where
 from spanprof.whatif.tests.made_up import ROW, SORT, changed, read
 
 LOOP = "taskgroup {  # the loop at a.c:5\n task {  # turns of the loop at a.c:5\n  work 1\n }\n work 2\n}\nwork 3\n"

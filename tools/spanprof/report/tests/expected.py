@@ -11,8 +11,9 @@ from spanprof.predict.predictions import by_the_model, of_changed
 from spanprof.predict.recorded import recorded
 from spanprof.predict.scaled import texts, together
 from spanprof.recording import document, open_recording
+from spanprof.segment_table import read_code
 from spanprof.report.predicted import change_of
-from spanprof.text import has_loops, segments_of, statements, text_lines
+from spanprof.text import has_loops, statements, text_lines
 from spanprof.whatif.creating import costs_for
 from spanprof.whatif.requests import Request, applied, changes
 from spanprof.whatif.survey import survey
@@ -183,7 +184,7 @@ class Program(Sums):
         """The account of the run beside the text, asked anew."""
         text = self.answer("show") if has_loops(self.text) else self.text
         return account_of(read_head(self.text), self.line("work", "span"), self.timed,
-                          [segment.place() for segment in segments_of(text)])
+                          list(read_code(text.split("\n"), "the text").places))
 
     def account(self, what, number=None):
         if number is None:
