@@ -116,7 +116,7 @@ _spanprof_report() {
         -o | --output) _spanprof_files "$current" .html ;;
         --trace | --speedscope) _spanprof_files "$current" .json ;;
         --source) _spanprof_folders "$current" ;;
-        --threads | --factor) ;;
+        --threads) ;;
         *) case $current in
             -*) _spanprof_among "$current" "$(_spanprof_options "${COMP_WORDS[0]}")" ;;
             *) _spanprof_files "$current" .tasks ;;

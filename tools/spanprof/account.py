@@ -48,7 +48,6 @@ class Account:
     recorder: int = 0       # of the time in code, by the wall clock
     by_processor: bool = False      # costs are read on that clock: then it is among what was preempted
     of_whole: bool = False  # the program, and not of a region
-    of_runs: bool = False   # of the one of several runs that has the median work
     left_out: int = 0       # code of the region that has no times here, and is idle
     rows: List[Row] = field(default_factory=list)
     places: List[str] = field(default_factory=list)     # of the segments
@@ -130,7 +129,6 @@ def account_of(head, work, path, places=()):
     found.held_up, found.recorder = divide_busy(found, head, max(work, head.covered or 0))
     found.by_processor = head.clock == "cpu"
     found.of_whole = bool(head.whole)
-    found.of_runs = (head.runs or 1) > 1
     found.left_out = (head.not_covered.get("of this region", 0) + head.untimed) * head.nanoseconds
     return found
 

@@ -15,6 +15,10 @@ UNREAD = "line of the head that is not read, as it is damaged: "
 OLDER = "the head is that of an older version of the recorder, and is not read: convert the log again, or record again"
 
 
+def grouped(number):
+    return "{:,}".format(number)
+
+
 def counted(number, what):
     return "%d %s%s" % (number, what, "s" * (number != 1))
 

@@ -5,6 +5,7 @@ from spanprof.diagnosis.causes import BY_KIND
 from spanprof.diagnosis.losses import average_task, has_many_faults, most_shared
 from spanprof.diagnosis.places import SERIAL
 from spanprof.diagnosis.plan import holder
+from spanprof.head import grouped
 
 WIDTH, MOST_LINES = 100, 8
 LABEL = 6
@@ -18,10 +19,6 @@ TRIED = {
     "task": "make {where} a task of its own"}
 SPLIT = {"serial": "divide {where} among {usable} tasks", "imbalance": "divide the longest tasks at {where}",
          "too_few_tasks": "divide each task of {where} into {usable}"}
-
-
-def grouped(number):
-    return "{:,}".format(number)
 
 
 def several(number, what):

@@ -7,7 +7,7 @@ from spanprof.claims import (OTHERWISE, against_parallelism, against_span, gain_
                              is_divided, is_of_one_thread, is_partial, least_end, lock_binds, pieces_words,
                              share_covered, tasks_made, tenths, why_not_of_more_threads)
 from spanprof.client import Refused
-from spanprof.head import part_of_program, with_function
+from spanprof.head import grouped, part_of_program, with_function
 from spanprof.proof import proved
 from spanprof.record.program_lines import program_line
 from spanprof.report.figures import rounded_down, rounded_up
@@ -18,10 +18,6 @@ THREADS = (2, 4, 8, 16)
 CLOCKS = {"wall": " of wall time", "cpu": " of processor time"}
 MOST_PLACES = 3
 LESS_HELD = "another run may hold it for less (warnings)"
-
-
-def grouped(number):
-    return "{:,}".format(number)
 
 
 def threads_of(head):

@@ -8,7 +8,6 @@ from spanprof.command import Console, check_files, count, end_with, naming, perc
 from spanprof.diagnosis.compare import as_json as comparison_json, compared, is_slower, lines as comparison_lines
 from spanprof.diagnosis.tell import told_of
 from spanprof.errors import Fault
-from spanprof.head import head_text, said
 from spanprof.recording import open_recording, text_of
 from spanprof.report.live import module
 from spanprof.report.page import page
@@ -16,14 +15,12 @@ from spanprof.report.speedscope import speedscope_text
 from spanprof.report.summary_json import summary_json
 from spanprof.report.trace_events import trace_text
 from spanprof.report.view import View
-from spanprof.report.what_if import all_at_once, read_factors
 from spanprof.version import Version
 
 DESCRIPTION = "Writes one page (HTML that needs no other file and no network) on a program text of spanprof."
 AFTER = """Exit status 1: a file or a place is missing, a file cannot be written, or a text is refused; 2: wrong arguments;
 3: slower by more than --fail-above."""
 SLOWER = 3
-ANSWER = ("work", "span", "was")
 LONGEST_WORDS = 100
 MOST_THREADS = 1024
 NOT_OF_A_LONG_TEXT = ("trace", "live")
@@ -56,8 +53,6 @@ def arguments(words):
         help="of the greedy schedule; without it as many as were recorded")
     add("--source", action="append", metavar="FOLDER",
         help="where the source is; without it next to the text, and here")
-    add("--factor", action="append", default=[], metavar="PLACE=F",
-        help="what if the costs at PLACE were F times as much; may be given several times")
     add("--live", action="store_true",
         help="the page carries spanprof as a WebAssembly module, which answers factors, threads, dropped waits at once")
     add("--trace", metavar="FILE.json", help="the runs as a trace for ui.perfetto.dev")
@@ -75,9 +70,7 @@ def check_words(parser, chosen):
         parser.error("--fail-above compares two recordings: name a second one")
     if chosen.after:
         return
-    if chosen.json and chosen.factor and not chosen.output:
-        parser.error("--json prints the summary, and --factor without -o its answer: ask for one of them")
-    if not (chosen.output or chosen.trace or chosen.speedscope or chosen.factor or chosen.json):
+    if not (chosen.output or chosen.trace or chosen.speedscope or chosen.json):
         chosen.output = beside(chosen.program)
     if chosen.live and not chosen.output:
         parser.error("--live is for the page (-o)")
@@ -110,15 +103,6 @@ class Progress:
         show(["spanprof-report: written: %s" % path for path in written], self.stream)
 
 
-def print_factors(view, factors):
-    """Remarks first, then how many segments change, and spanprof's answer."""
-    remarks = said(head_text(view.answers.path))
-    changed = sum(1 for place, _ in factors for s in place.segments if view.answers.rows.cost[s])
-    after = all_at_once(view, factors)
-    count = "%d segment%s changed" % (changed, "" if changed == 1 else "s")
-    print("\n".join([*remarks, count, *("%s %d" % (name, after[name]) for name in ANSWER)]))
-
-
 def views_of(chosen, tell):
     views = [View(chosen.program, chosen.threads, chosen.source, tell=tell)]
     if chosen.other:
@@ -126,10 +110,10 @@ def views_of(chosen, tell):
     return views
 
 
-def write_all(chosen, views, factors):
+def write_all(chosen, views):
     """What was asked for; what was written is told."""
     wasm = module() if chosen.live else None
-    written = [(chosen.output, lambda: page(views, factors, wasm)), (chosen.trace, lambda: trace_text(views[0])),
+    written = [(chosen.output, lambda: page(views, wasm)), (chosen.trace, lambda: trace_text(views[0])),
                (chosen.speedscope, lambda: speedscope_text(views[0]))]
     for path, make in written:
         if path:
@@ -148,15 +132,9 @@ def refuse_of_a_long_text(chosen, view):
 def write_the_rest(chosen, progress):
     views = views_of(chosen, progress)
     refuse_of_a_long_text(chosen, views[0])
-    try:
-        factors = read_factors(chosen.factor, views[0].places)
-    except Fault as wrong:
-        raise Fault("--factor %s" % wrong) from wrong
-    if factors and not chosen.output:
-        print_factors(views[0], factors)
     if chosen.json:
         print(json.dumps(summary_json(views[0]), indent=2))
-    progress.end(write_all(chosen, views, factors))
+    progress.end(write_all(chosen, views))
 
 
 def check(chosen):

@@ -68,7 +68,7 @@ def timelines(views):
     return out
 
 
-def parts(views, factors, trials, live=None):
+def parts(views, trials, live=None):
     """Of each part the name, the words that lead to it, and the part. Some texts have not all of them."""
     view = views[0]
     of = " of " + view.name if len(views) > 1 else ""
@@ -78,7 +78,7 @@ def parts(views, factors, trials, live=None):
             ("idle", "Idle time", idle_part(view, of)),
             ("speedup", "Speedup", curve_part(views)), *timelines(views),
             ("path", "Critical path", path_part(view, of)), ("changes", "Changes", changes_part(view, of)),
-            ("what-if", "What if", what_if_part(view, trials, factors, of, live)),
+            ("what-if", "What if", what_if_part(view, trials, of, live)),
             ("tasks", "Tasks", tasks_part(view, of)),
             ("nesting", "Nesting", nesting_part(view, of)), ("source", "Source", source_part(view, of)),
             ("graph", "Graph", graph_part(view, of)), ("sources", "Sources", asked_part(views))]
@@ -130,8 +130,8 @@ def whole(title, made, found, live=None):
         "script": "\n".join(map(kept, SCRIPTS + (LIVE_SCRIPTS if live else ())))})
 
 
-def page(views, factors=(), module=None):
+def page(views, module=None):
     """The whole page as text. With the module it answers what its boxes ask."""
     trials, live = Trials(views[0]), Live(views[0], module) if module else None
-    made = parts(views, list(factors), trials, live)
+    made = parts(views, trials, live)
     return whole(" and ".join(view.name for view in views), made, data(views), live and live.data(trials))

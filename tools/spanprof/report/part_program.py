@@ -1,10 +1,8 @@
 """The whole program: where its time went from its beginning to its end, in which regions and outside of them."""
-from spanprof.head import Head
 from spanprof.regions import place_name
-from spanprof.report.figures import MEASURED, RECORDED, Figures, badge, percent
+from spanprof.report.figures import MEASURED, RECORDED, badge, in_nanoseconds, percent
 from spanprof.report.markup import breakable, join, note, section, tag
 from spanprof.report.tables import bar, table
-from spanprof.report.units import Units
 from spanprof.report.view import COLOURS
 
 BINS, HIGH = 600, 34
@@ -14,11 +12,6 @@ HOW = "From left to right in the order of time. A column is as high as the share
       "and has their colours; what is blank passed outside of them."
 HEADS = ("part of the program", "times", "elapsed in all", "of the program's time", "the median one", "threads",
          "in code", "tasks", "loops")
-
-
-def figures_of():
-    """The table's times are in nanoseconds, whatever the unit of the texts."""
-    return Figures("program ", Units(Head(unit="ns")))
 
 
 def colour_of(number):
@@ -117,7 +110,7 @@ def program_part(program):
     """Nothing without a table of its regions."""
     if not program or not program.regions:
         return ""
-    show = figures_of()
+    show = in_nanoseconds("program ")
     rows = [outside_row(program, show)] + [place_row(program, place, show) for place in program.places]
     return section("program", "The whole program", lead_words(program, show), picture(program), note(HOW),
                    table(HEADS, rows, numeric=range(1, len(HEADS)), is_sortable=True),

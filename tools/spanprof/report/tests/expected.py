@@ -276,10 +276,6 @@ class Program(Sums):
         """Of threads, as the page names them."""
         return int(number)
 
-    def factors(self, *words):
-        pairs = [word.split("=") for word in words[:-1]]
-        return self.line(words[-1], *self.changed([(int(place), float(factor)) for place, factor in pairs]))
-
     def greedy(self, _):
         threads = self.data["runs"]["greedy"]["count"]
         return threads * self.curve(str(threads), "end")

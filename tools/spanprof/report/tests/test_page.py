@@ -21,8 +21,8 @@ class Pages(unittest.TestCase):
         self.addCleanup(patch.stop)
 
     def test_every_number_is_an_answer_or_a_sum(self):
-        for names, factors in worked.pages():
-            wrong, count = compared(worked.page_text(names, factors), names)
+        for names in worked.pages():
+            wrong, count = compared(worked.page_text(names), names)
             self.assertEqual(wrong, [])
             self.assertGreater(count, 100)
 

@@ -103,7 +103,7 @@ class OfOneProgram(unittest.TestCase):
         words = self.told()
         self.assertIn("The text says nothing of 4 threads : on another number of threads its code", words)
         self.assertNotRegex(words, "pays most|What bounds|4 threads: up to")
-        self.assertNotIn("greedy schedule at half", seen(what_if_part(self.view, self.trials, [])))
+        self.assertNotIn("greedy schedule at half", seen(what_if_part(self.view, self.trials)))
 
     def test_the_spread_of_several_runs(self):
         words = self.told(runs=7, spread={"work": (39, 41, 1044), "span": (30, 31, 36)})
@@ -160,7 +160,7 @@ class OfOneProgram(unittest.TestCase):
         self.assertIn("#pragma omp task depend(in: x) cell(i);", words)
 
     def test_what_if(self):
-        part = what_if_part(self.view, self.trials, [])
+        part = what_if_part(self.view, self.trials)
         self.assertEqual(part.count('class="factor"'), sum(place.cost > 0 for place in self.view.places))
         self.assertIn('id="factors-line" data-file="mesh.tasks"', part)
         self.assertIn('id="changes-line" data-file="mesh.tasks"', part)

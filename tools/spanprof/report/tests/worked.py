@@ -110,18 +110,16 @@ def view(name="mesh", **more):
 
 
 def pages():
-    """Each page that the tests make, as names of texts and factors."""
-    return [(["mesh"], []), (["split"], []), (["plain"], []), (["odd"], []), (["mesh", "split"], []),
-            (["mesh"], ["task at mesh.c:8=0.5", "after taskwait at mesh.c:14=3"])]
+    """Each page that the tests make, as names of texts."""
+    return [["mesh"], ["split"], ["plain"], ["odd"], ["mesh", "split"]]
 
 
-def page_text(names, factors=()):
+def page_text(names):
     from spanprof.report.page import page
     from spanprof.report.view import View
-    from spanprof.report.what_if import read_factors
     views = [View(path(name + ".tasks"), source=[FOLDER], prefix="other " if i else "")
              for i, name in enumerate(names)]
-    return page(views, read_factors(factors, views[0].places))
+    return page(views)
 
 
 def noting(out, ask, key_of):
@@ -146,8 +144,8 @@ def asked_now():
     times = noting(out, of_times, lambda words, file: key(["account", *words], document(file)))
     with mock.patch("spanprof.client.ask", asked), mock.patch("spanprof.client.pieces", pieces_of(asked)), \
             mock.patch("spanprof.account.ask", times), with_a_machine():
-        for names, factors in pages():
-            wrong, _ = differences(page_text(names, factors), [path(name + ".tasks") for name in names], asked)
+        for names in pages():
+            wrong, _ = differences(page_text(names), [path(name + ".tasks") for name in names], asked)
             if wrong:
                 sys.exit("\n".join(wrong))
     return out
