@@ -57,6 +57,7 @@ class Head:
     not_covered: Dict[str, int] = field(default_factory=dict)  # the rest, by where it passed
     divided: List[str] = field(default_factory=list)  # loops and sections, among as many threads as the run had
     beside: Optional[int] = None       # what the region's parts cost, but for the longest of each phase
+    clock_reading: Optional[int] = None  # in nanoseconds
     clocks_differ: Dict[str, int] = field(default_factory=dict)  # affected, work, by, times
     slept: Dict[str, int] = field(default_factory=dict)          # the same of code that slept, by the wall clock
     preempted: Dict[int, int] = field(default_factory=dict)      # by segment, what other programs took in it
@@ -211,7 +212,7 @@ DIFFER = ("affected", "work", "by", "times")
 
 LINES = {
     "recorded": read_recorded, "region": read_region, "whole program": read_whole, "covers": read_coverage,
-    "not covered": read_not_covered, "divided": read_divided,
+    "not covered": read_not_covered, "divided": read_divided, "clock reading": kept("clock_reading"),
     "clocks differ": kept_numbers("clocks_differ", DIFFER), "slept": kept_numbers("slept", DIFFER),
     "untimed": kept("untimed"), "preempted": read_preempted,
     "elapsed": kept("elapsed"), "most held lock": kept("most_held"),

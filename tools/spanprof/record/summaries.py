@@ -93,7 +93,7 @@ def print_summary(session, recording, answers, others, news, scale):
     if options.all or not diagnosis:
         show(summary(answers, news + [why] * bool(why), others, lines_of(account, no_account),
                      program_of(recording.text)))
-        show(named("predicted", times))
+        show(named("losses", diagnosis.sum_lines() if diagnosis else []) + named("predicted", times))
     if options.json:
         write_json(options.json, summary_json(diagnosis and diagnosis.json(), run_json(answers, account, no_account),
                                               scale, predictions))

@@ -29,7 +29,8 @@ def line(view, show, one, least):
 
 def predicted_words(view):
     """Nothing without a model of the machine."""
-    told, show, title = view.predicted, in_nanoseconds(view.figures.prefix), tag("h3", "How long it would take ", badges(PREDICTED))
+    told, show = view.predicted, in_nanoseconds(view.figures.prefix)
+    title = tag("h3", "How long it would take ", badges(PREDICTED))
     if told.why_not:
         return join([title, tag("p", "Not told: ", tag("span", told.why_not, class_="given"), ".", class_="predicted")])
     if not told.found:

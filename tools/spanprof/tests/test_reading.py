@@ -70,7 +70,7 @@ class Heads(unittest.TestCase):
         self.assertEqual((head.covered, head.thread_time, head.covers_at_most), (931, 1000, False))
         self.assertEqual(head.not_covered, {"outside regions": 50, "in other regions": 19, "of this region": 0})
         self.assertEqual(head.divided, ["loops, 120 times at spmd.c:6"])
-        self.assertEqual((head.beside, head.most_held), (715, 64482))
+        self.assertEqual((head.beside, head.clock_reading, head.most_held), (715, 217, 64482))
         self.assertEqual(head.clocks_differ, {"affected": 424000, "work": 424576, "by": 384500, "times": 85})
         self.assertEqual((head.slept["by"], head.slept["times"], head.untimed), (200, 2, 77))
         self.assertEqual(head.preempted, {7: 384000, 2: 500})

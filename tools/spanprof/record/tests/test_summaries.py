@@ -53,10 +53,11 @@ class Printed(InFolder):
         self.assertEqual(told[-1], "warnings      a note")
 
     def test_the_diagnosis_alone_where_there_is_one(self):
-        self.diagnosed.return_value = mock.Mock(lines=lambda more, news: ["now: " + more, *news]), ""
+        self.diagnosed.return_value = mock.Mock(lines=lambda more, news: ["now: " + more, *news],
+                                                sum_lines=lambda: ["9 % code"]), ""
         self.assertEqual(self.told(recording(self.folder), all=False),
                          ["now: spanprof-report mine.spanprof, spanprof-record --all", "a note"])
-        self.assertEqual(len(self.told(recording(self.folder))[2:]), len(self.told(recording(self.folder))) - 2)
+        self.assertEqual(self.told(recording(self.folder))[-1], "losses        9 % code")
         self.diagnosed.return_value = None, "no diagnosis: no program"
         self.assertEqual(self.told(recording(self.folder), all=False)[-1], "              no diagnosis: no program")
 
@@ -93,7 +94,7 @@ class Printed(InFolder):
 
     def test_json(self):
         path = os.path.join(self.folder, "told.json")
-        self.diagnosed.return_value = mock.Mock(lines=lambda *_: [], json=lambda: {"diagnosis": []}), ""
+        self.diagnosed.return_value = mock.Mock(lines=lambda *_: [], sum_lines=list, json=lambda: {"diagnosis": []}), ""
         self.told(recording(self.folder), json=path)
         with open(path, encoding="utf-8") as file:
             told = json.load(file)
