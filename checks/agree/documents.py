@@ -35,8 +35,7 @@ def commands(path):
 
 
 def can_run(command, folder):
-    writes_a_page = command.startswith("spanprof-report") and "--factor" not in command
-    if writes_a_page or re.match(r"(make|export|mkdir|for|clang|gcc|spanprof-record|[A-Z_]+=)", command):
+    if re.match(r"(make|export|mkdir|for|clang|gcc|spanprof-record|spanprof-report|[A-Z_]+=)", command):
         return False
     words = re.split(r"[\s|]+", command.partition("-T")[0])
     texts = [word for word in words if word.endswith((".tasks", ".replay"))]

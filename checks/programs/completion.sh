@@ -15,7 +15,7 @@ trap 'rm -rf "$folder"' EXIT
 cp "$zsh_folder/_spanprof" "$folder"
 cd "$folder"
 mkdir sources
-touch mine.tasks mine.replay mine.html
+touch mine.tasks mine.html
 wrong=0
 expect() { # SHELL GOT WANTED LINE
     [ "$2" = "$3" ] || { echo "  $1: '$4' becomes '$2', and not '$3'"; wrong=$((wrong + 1)); }
@@ -57,8 +57,6 @@ spanprof-record --uni|--unit
 spanprof-record --clock c|cpu
 spanprof-record --html mi|mine.html
 spanprof-report mi|mine.tasks
-spanprof-report mine.tasks --rep|--replay
-spanprof-report --replay mi|mine.replay
 spanprof-report mine.tasks --source so|sources
 spanprof-path mi|mine.tasks
 spanprof-path mine.tasks --cs|--csv

@@ -77,6 +77,7 @@ record_scale() { # a small program on several numbers of threads; it is one of t
     tools/spanprof-record --scale 1,2,4 --runs 2 --out "$folder/scaled" --unit us -- "$folder/cholesky" 4 \
         > "$folder/said" 2>&1 || fail "no scale is recorded: $(tail -1 "$folder/said")"
     page_of_recording scaled "$folder/scaled.spanprof"
+    visit "$folder" scaled
 }
 
 page_of_recording() { # NAME RECORDING [OPTION ..]: its page, and its numbers
@@ -159,7 +160,7 @@ for pair in kept_merge_sort:kept_merge_sort_split kept_wavefront:kept_wavefront_
         merge_sort-wall:merge_sort_split-wall wavefront-cpu:wavefront_overlapped-cpu; do
     first=${pair%:*} second=${pair#*:}
     [ -e "$folder/$first.tasks" ] || continue
-    for ending in tasks replay times timed; do
+    for ending in tasks timed; do
         [ ! -e "$folder/$first.$ending" ] || cp "$folder/$first.$ending" "$folder/${first}_and_other.$ending"
     done
     make_page "${first}_and_other" --with "$folder/$second.tasks"

@@ -190,7 +190,7 @@ done
 expect_summary "a scale"
 expect_word "a scale" '3 unrecorded runs on each number, in turns: elapsed time of the whole program'
 grep -q '^true times *threads .*speedup' err || fail "a scale: no table"
-grep -q '^gap  *' err || fail "a scale: no gap"
+grep -q '"true_one"' scaled.spanprof/recording.json || fail "a scale: no true times for the diagnosis"
 for file in scale.json scaled.spanprof/scale.json; do grep -q '"speedup"' $file || fail "a scale: no $file"; done
 expect "a failing scale" 3 spanprof-record --all --scale 1,2 --out failing -- ./llvm 3
 expect_word "a failing scale" 'unrecorded run 1 of 5 on 1 thread ended with status 3: no speedup'

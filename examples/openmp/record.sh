@@ -2,8 +2,7 @@
 # Records the programs of docs/TUNING.md on four threads by the processor's clock, with the newest LLVM that is here: of
 # several recordings of each the one whose region ended soonest, or with the least work where these are compared; those
 # with a remark are taken only where there are no others.
-# Texts go to FOLDER as NAME.tasks, runs as NAME.replay, and what spanprof-record printed, where the page shows it, as
-# NAME.said.
+# Texts go to FOLDER as NAME.tasks, and what spanprof-record printed, where the page shows it, as NAME.said.
 #
 #     examples/openmp/record.sh FOLDER [NAME ..]      all of them, if none is named; then checks/agree/documents.py --write
 # SPANPROF and SPANPROF_LARGE name the programs.
@@ -51,7 +50,6 @@ keep() { # NAME WHAT: the recording, if it weighs less than the one that is kept
     if [ "$weight" -lt "$least" ]; then
         least=$weight
         cp "$text" "$kept/$1${text#out}"
-        [ ! -e out.replay ] || cp out.replay "$kept/$1.replay"
         [ ! -e out.said ] || sed "s/\bout\.spanprof/$1.spanprof/" out.said > "$kept/$1.said"
     fi
     rm -rf out.*

@@ -114,10 +114,9 @@ _spanprof_report() {
     local current=${COMP_WORDS[COMP_CWORD]} before=${COMP_WORDS[COMP_CWORD - 1]}
     case $before in
         -o | --output) _spanprof_files "$current" .html ;;
-        --replay) _spanprof_files "$current" .replay ;;
         --trace | --speedscope) _spanprof_files "$current" .json ;;
         --source) _spanprof_folders "$current" ;;
-        --threads | --factor) ;;
+        --threads) ;;
         *) case $current in
             -*) _spanprof_among "$current" "$(_spanprof_options "${COMP_WORDS[0]}")" ;;
             *) _spanprof_files "$current" .tasks ;;

@@ -48,7 +48,6 @@ class Account:
     recorder: int = 0       # of the time in code, by the wall clock
     by_processor: bool = False      # costs are read on that clock: then it is among what was preempted
     of_whole: bool = False  # the program, and not of a region
-    of_runs: bool = False   # of the one of several runs that has the median work
     left_out: int = 0       # code of the region that has no times here, and is idle
     rows: List[Row] = field(default_factory=list)
     places: List[str] = field(default_factory=list)     # of the segments
@@ -118,27 +117,18 @@ def divide_busy(found, head, work):
     return HeldUp(*parts), recorder
 
 
-def account_of(answers, path):
-    """That of the timed document in a file, which is a run of the text."""
-    sums, rows = client.named_numbers(ask([], path)), read_rows(ask(["--rows"], path))
-    if len(rows) != len(answers.code):
-        raise NoAccount("there are times of %d segments, and not of %d" % (len(rows), len(answers.code)))
-    return completed(Account(**sums, rows=rows, places=list(answers.code.places)), answers)
-
-
-def sums_of(answers, path):
-    """The same of a long text, whose rows are not asked for: idle time has no places."""
-    return completed(Account(**client.named_numbers(ask([], path))), answers)
-
-
-def completed(found, answers):
-    """With what the text's head tells beside the sums."""
-    head = answers.head
+def account_of(head, work, path, places=()):
+    """That of the timed document in a file, which is a run of the text. Without the places of its segments, as of a
+    long text, the rows are not asked for, and idle time has no places."""
+    found = Account(**client.named_numbers(ask([], path)), places=list(places))
+    if places:
+        found.rows = read_rows(ask(["--rows"], path))
+        if len(found.rows) != len(places):
+            raise NoAccount("there are times of %d segments, and not of %d" % (len(found.rows), len(places)))
     # lines that are rounded to whole units may have less than the text covers
-    found.held_up, found.recorder = divide_busy(found, head, max(answers.work, head.covered or 0))
+    found.held_up, found.recorder = divide_busy(found, head, max(work, head.covered or 0))
     found.by_processor = head.clock == "cpu"
     found.of_whole = bool(head.whole)
-    found.of_runs = (head.runs or 1) > 1
     found.left_out = (head.not_covered.get("of this region", 0) + head.untimed) * head.nanoseconds
     return found
 
@@ -166,6 +156,7 @@ def account_beside(answers):
     if not recording.times or not answers.head.nanoseconds:
         return None, why_none(answers.head)
     try:
-        return (sums_of if answers.is_long else account_of)(answers, document(recording)), ""
+        places = () if answers.is_long else list(answers.code.places)
+        return account_of(answers.head, answers.work, document(recording), places), ""
     except NoAccount as fault:
         return None, str(fault)

@@ -42,9 +42,8 @@ def account_lines(found):
         return share(part), of_places(by, words) if part >= LEAST * found.whole else ""
 
     recorder = ", %s the recorder's" % share(found.recorder) if found.recorder >= LEAST * found.whole > 0 else ""
-    run = ", in the run with the median work" if found.of_runs else ""
-    lines = ["of %d x %s%s: %s in your code%s%s (measured)" % (
-                 found.threads, lasting(found.elapsed), run, share(found.code), recorder, held_up_words(found, share)),
+    lines = ["of %d x %s: %s in your code%s%s (measured)" % (
+                 found.threads, lasting(found.elapsed), share(found.code), recorder, held_up_words(found, share)),
              "%s scheduling delay%s (measured)" % idle(found.delayed, found.delayed_by, "; ready: "),
              "%s idle%s (measured)" % idle(found.starved, found.starved_by, "; running: "),
              "%s startup and shutdown of the %s (measured); %s" % (

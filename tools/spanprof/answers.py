@@ -9,9 +9,9 @@ from spanprof import client
 from spanprof.c_calls import MOST_THREADS
 from spanprof.changed_text import with_costs, without_costs
 from spanprof.client import named_numbers
-from spanprof.head import head_text, read_head
+from spanprof.head import head_of
 from spanprof.limits import is_long
-from spanprof.recording import shown_name
+from spanprof.recording import open_recording, shown_name
 from spanprof.segment_table import read_code
 from spanprof.text_file import TextFile
 
@@ -58,6 +58,14 @@ class Greedy:
         return max(self.ends, default=0)
 
 
+def take_runs(head, runs):
+    """What all runs took, of which this one is kept, in the unit of its text."""
+    head.runs, unit = len(runs) or None, head.nanoseconds or 1
+    for name in ("work", "span") if runs else ():
+        ordered = sorted(one[name + "_ns"] // unit for one in runs)
+        head.spread[name] = ordered[0], ordered[(len(ordered) - 1) // 2], ordered[-1]
+
+
 class Answers:
     """Of a text, by its path or that of a recording."""
 
@@ -67,7 +75,8 @@ class Answers:
         self.asked, self.wanted_threads, self.seconds_to_read = [], threads, 0
         self.file = TextFile(self.path)
         self.numbers = client.measured(self.path)
-        self.head = read_head(head_text(self.path))
+        self.head = head_of(self.path)
+        take_runs(self.head, open_recording(self.path).meta.get("runs") or [])
 
     @property
     def text(self):

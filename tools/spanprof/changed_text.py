@@ -1,7 +1,8 @@
 """A program's text with other costs of its segments."""
 from itertools import islice
 
-from spanprof.text import Cutter, line, statements, words_of
+from spanprof.segment_table import Cutter
+from spanprof.text import line, statements, words_of
 
 
 def without_costs(text):

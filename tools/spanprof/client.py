@@ -12,8 +12,7 @@ from contextlib import contextmanager
 
 from spanprof.errors import Fault
 from spanprof.folders import found_at, places_of, words_in
-from spanprof.refusal import explained, of_event, of_whole
-from spanprof.text import has_loops, segments_of
+from spanprof.refusal import explained, of_whole
 from spanprof.text_file import PIECE, TextFile, opened
 
 PLACES = {name: places_of(name) for name in ("spanprof_large", "spanprof")}
@@ -44,12 +43,6 @@ class Refused(Fault):
     def is_of_memory(self):
         """Whether there was too little memory for the table and the graph of the whole text."""
         return self.answer.startswith(("error: out of memory", "it ended with status -"))
-
-    def brief(self):
-        """On one line, with the event that is refused."""
-        lines = self.text.lines() if isinstance(self.text, TextFile) else self.text.split("\n")
-        event = of_event(lines, self.answer)
-        return "%s; %s" % (self, event) if event else str(self)
 
     def of(self, name):
         """The same for people, with the name of the text's file."""
@@ -134,12 +127,6 @@ def columns(words, text, wanted):
     return out
 
 
-def replayed(document):
-    """Ends with a fault where the run of a replay document is refused; what else is told of it is not kept."""
-    for _ in pieces(["replay"], document):
-        pass
-
-
 def named_numbers(lines):
     """`work 11` and the like."""
     pairs = (line.split() for line in lines.split("\n") if line)
@@ -170,11 +157,6 @@ def rows(table):
     lines = table.split("\n")
     heads = lines[0].split(",")
     return [dict(zip(heads, line.split(","))) for line in lines[1:] if line]
-
-
-def segments(text):
-    """The segments in the order of their numbers; of a text with loops by its canonical text, which has none."""
-    return segments_of(ask(["show"], text) if has_loops(text) else text)
 
 
 def graph(text):

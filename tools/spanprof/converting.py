@@ -15,6 +15,7 @@ from spanprof.recording import REGIONS, TEXT, TIMES, made_folder
 from spanprof.regions import program_of
 
 CONVERTER = Product("convert_log", "the converter of logs", "clang-19 libomp-19-dev make")
+LIBRARY = Product("librecorder.so", "the recorder", "clang-19 libomp-19-dev make")
 RECORDERS = builds_in("openmp_recorder")
 LOADERS = ("LD_PRELOAD", "OMP_TOOL_LIBRARIES")  # of the recorded program alone
 STEM = "program"
@@ -28,6 +29,11 @@ DIED = {signal.SIGKILL: "it was killed, as the system does where memory is short
 def converter(tell):
     """The path of the program: in the first of its folders that has it, or else its sources."""
     return find_or_build(CONVERTER, RECORDERS, tell)
+
+
+def recorder_library(tell):
+    """That of the recorder's library."""
+    return find_or_build(LIBRARY, RECORDERS, tell)
 
 
 def why_it_died(status):

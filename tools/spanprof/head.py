@@ -15,6 +15,10 @@ UNREAD = "line of the head that is not read, as it is damaged: "
 OLDER = "the head is that of an older version of the recorder, and is not read: convert the log again, or record again"
 
 
+def grouped(number):
+    return "{:,}".format(number)
+
+
 def counted(number, what):
     return "%d %s%s" % (number, what, "s" * (number != 1))
 
@@ -59,8 +63,7 @@ class Head:
     preempted: Dict[int, int] = field(default_factory=dict)      # by segment, what other programs took in it
     untimed: int = 0                   # of segments, before they were left in their midst
     most_held: Optional[int] = None    # inside one lock, one thread at a time
-    runs: Optional[int] = None         # where the program was recorded several times
-    is_median: bool = False            # each cost is the median of those runs; else it is one of them
+    runs: Optional[int] = None         # where the program was recorded several times, of which this is one
     spread: Dict[str, Tuple[int, int, int]] = field(default_factory=dict)  # of work, span: least, median, most
     functions: Dict[str, str] = field(default_factory=dict)  # by a place: `in merge, inlined into sort at sort.c:9`
     remarks: List[Remark] = field(default_factory=list)
@@ -97,6 +100,10 @@ def head_text(path):
     """The comments at the top of a file, without the rest of it, which may be as long as memory."""
     with open(path, encoding="utf-8", errors="replace") as file:
         return "".join(takewhile(lambda line: line.startswith("#"), file))
+
+
+def head_of(path):
+    return read_head(head_text(path))
 
 
 def number(told):
@@ -161,10 +168,6 @@ def read_divided(head, told):
         head.divided.append("%s, %s" % (told["what"], seen(told)))
 
 
-def read_runs(head, told):
-    head.runs, head.is_median = number(told["runs"]), truth(told["median"])
-
-
 def read_place(head, told):
     function = "in " + words(told["in"]) + "".join(", inlined into %s at %s" % (words(one["in"]), words(one["at"]))
                                                    for one in told.get("inlined", []))
@@ -191,11 +194,6 @@ def read_preempted(head, told):
     head.preempted = {number(segment): number(off) for segment, off in told}
 
 
-def spread_of(what):
-    return lambda head, told: head.spread.update(
-        {what: tuple(number(told[part]) for part in ("least", "median", "most"))})
-
-
 def part_of_program(head):
     """What the text is of, in words; empty where it does not say."""
     return "the whole program" if head.whole else "region at %s" % head.region if head.region else ""
@@ -219,7 +217,6 @@ LINES = {
     "untimed": kept("untimed"), "preempted": read_preempted,
     "elapsed": kept("elapsed"), "most held lock": kept("most_held"),
     "lock": read_lock, "place": read_place,
-    "runs": read_runs, "work of the runs": spread_of("work"), "span of the runs": spread_of("span"),
     **{name: part_of_time(name) for name in DIVISION},
 }
 

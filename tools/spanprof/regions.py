@@ -1,7 +1,6 @@
 """The regions of a recorded program in the order of time, by the table that the converter writes: those without tasks
 too, and those of which no text is written."""
 import os
-import re
 from dataclasses import dataclass, field
 from statistics import median_low
 from typing import List, NamedTuple
@@ -25,7 +24,6 @@ class Region(NamedTuple):
     code: int
     inside: int     # whether it was met inside another one
     place: str
-    asked: int = 0  # threads; 0 where that is not known
 
     @property
     def elapsed(self):
@@ -77,14 +75,6 @@ class Place:
     def longest(self):
         return max(region.elapsed for region in self.regions)
 
-    @property
-    def shown(self):
-        """Of those with a text the one nearest to the median in code; None where none has one."""
-        ranked = sorted(self.regions, key=lambda region: (region.code, region.number))
-        middle = (len(ranked) - 1) / 2
-        found = [(abs(rank - middle), rank, region) for rank, region in enumerate(ranked) if region.text]
-        return min(found)[2] if found else None
-
 
 @dataclass
 class Program:
@@ -114,35 +104,13 @@ class Program:
         return out + [(now, self.elapsed, None)] * (self.elapsed > now)
 
     @property
-    def texts(self):
-        """Of each text, by its number, the place of its region."""
-        return {region.text: region.place for region in self.regions if region.text}
-
-    @property
     def outside(self):
         return sum(end - begin for begin, end, place in self.stretches if place is None)
 
 
-def table_beside(text):
-    """Where the table of a recording lies, by the name of one of its texts, and that text's number; or None."""
-    folder = folder_of(text)
-    if folder:
-        path = os.path.join(folder, REGIONS)
-        return (path, 1) if os.path.exists(path) else None
-    words = re.fullmatch(r"(?s)(.*?)(?:\.(\d+))?\.tasks", text)
-    if not words:
-        return None
-    stem, number = words.groups()
-    named = [(stem + ".regions", int(number or 1))]
-    if number:      # a process's own name may end with a number
-        named.insert(0, ("%s.%s.regions" % (stem, number), 1))
-    return next((pair for pair in named if os.path.exists(pair[0])), None)
-
-
 def row_of(heads, line):
-    """A table of an older version does not say how many threads were asked for."""
     row = dict(zip(heads, line.split(",", len(heads) - 1)))
-    return Region(*(int(row[name]) for name in COLUMNS[:-1]), row["place"], int(row.get("asked", 0)))
+    return Region(*(int(row[name]) for name in COLUMNS[:-1]), row["place"])
 
 
 def read_regions(path):
@@ -160,6 +128,6 @@ def read_regions(path):
 
 
 def program_of(text):
-    """The program of which the text is a part; None without a table of its regions."""
-    found = table_beside(text)
-    return read_regions(found[0]) if found else None
+    """That of a recording, by its text; None of a plain text."""
+    path = os.path.join(folder_of(text), REGIONS)
+    return read_regions(path) if folder_of(text) and os.path.exists(path) else None

@@ -51,14 +51,19 @@ class Code:
         return sum(number in of_threads for number in self.of) if of_threads else 0
 
 
-class Reader:
-    """Goes over the marks of a text. The segment that runs is always the one that began last."""
+class Cutter:
+    """Cuts a program into segments. The one that runs is always the one that began last."""
 
     def __init__(self):
         self.code, self.tasks = Code(), 0
         self.running = [(0, "")]    # of each open task: its number and place
         self.blocks = []            # of each open block: what it is, and its comment
         self.code.add(0, "", "", "")
+
+    @property
+    def current(self):
+        """The number of the segment that runs."""
+        return len(self.code) - 1
 
     def go_on(self, after, comment):
         self.code.add(*self.running[-1], after, comment)
@@ -84,6 +89,15 @@ class Reader:
         else:
             raise ValueError(word)
 
+    def take(self, one):
+        """A statement."""
+        if one.kind == "work":
+            self.code.cost[-1] += one.cost
+        elif one.kind == "end":
+            self.end()
+        else:
+            self.construct(one.kind, one.comment)
+
     def read(self, found):
         """Of marks."""
         costs = self.code.cost
@@ -100,6 +114,6 @@ class Reader:
 def read_code(lines, name):
     """Of the lines of a text of version 1 that the program has taken."""
     try:
-        return Reader().read(marks(lines))
+        return Cutter().read(marks(lines))
     except (IndexError, ValueError) as wrong:
         raise Fault("%s is no text of version 1" % name) from wrong

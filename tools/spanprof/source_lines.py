@@ -37,13 +37,14 @@ def line_of(words) -> Optional[Line]:
     return Line(found[1], int(found[2])) if found else None
 
 
-def ends_by_segment(code):
-    """Of each segment where the construct stands that ends it; nothing for the last of a task."""
+def ends_by_segment(code, at=None):
+    """Of each segment where the construct stands that ends it; nothing for the last of a task. `at` may say otherwise
+    of each segment where the construct stands that it follows."""
     out, running = [""] * len(code), {}
     for s, (number, task) in enumerate(zip(code.of, code.task)):
         _, _, after, after_place = code.kinds[number]
         if after:
-            out[running[task]] = after_place
+            out[running[task]] = at[s] if at else after_place
         running[task] = s
     return out
 

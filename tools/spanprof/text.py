@@ -244,58 +244,6 @@ def statements(lines: Iterable[str]) -> Iterator[Statement]:
             yield construct(word, code, comment)
 
 
-class Cutter:
-    """Cuts a program into segments, statement by statement."""
-
-    def __init__(self):
-        self.out = [Segment(0, "", "", "")]
-        self.running = [(0, "", 0)]     # of each open task: its number, its place, its open segment
-        self.blocks = []                # of each open block: what it is, and its place
-        self.tasks = 0
-
-    @property
-    def current(self):
-        """The number of the open segment of the running task."""
-        return self.running[-1][2]
-
-    def take(self, one):
-        if one.kind == "work":
-            self.out[self.current].cost += one.cost
-        elif one.kind == "taskwait":
-            self.go_on(one.kind, one.comment)
-        elif one.kind == "end":
-            self.end()
-        else:
-            self.begin(one.kind, one.comment)
-
-    def begin(self, kind, place):
-        self.blocks.append((kind, place))
-        if kind == "task":
-            self.tasks += 1
-            self.running.append((self.tasks, place, len(self.out)))
-            self.out.append(Segment(self.tasks, place, "", ""))
-
-    def end(self):
-        kind, place = self.blocks.pop()
-        if kind == "task":
-            self.running.pop()
-        self.go_on("creating a task" if kind == "task" else kind, place)
-
-    def go_on(self, after, place):
-        """The running task's next segment."""
-        task, task_place, _ = self.running[-1]
-        self.running[-1] = (task, task_place, len(self.out))
-        self.out.append(Segment(task, task_place, after, place))
-
-
-def segments_of(text):
-    """The segments of a text without loops, in the order of their numbers."""
-    cutter = Cutter()
-    for one in statements(text.split("\n")):
-        cutter.take(one)
-    return cutter.out
-
-
 def clauses(task):
     """Neighbouring items of one type share a clause."""
     out, last = ["if(0)"] if task.is_undeferred else [], ""

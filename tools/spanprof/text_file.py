@@ -12,16 +12,15 @@ LINES_OF_A_HEAD = 1000
 
 
 class TextFile:
-    """A text in a file, which the program reads there. Of a document or certificate it is the part before the divider,
-    but where the `whole` is wanted."""
+    """A text in a file, which the program reads there. Of a document or certificate it is the part before the
+    divider."""
 
-    def __init__(self, path, whole=False):
-        self.path, self.whole = path, whole
+    def __init__(self, path):
+        self.path = path
 
     def __str__(self):
         with naming(self.path), open(self.path, encoding="utf-8", errors="replace", newline="") as file:
-            text = file.read()
-        return text if self.whole else re.split(r"(?m)^---\r?$", text)[0]
+            return re.split(r"(?m)^---\r?$", file.read())[0]
 
     def is_cut(self):
         """Whether the file goes on behind the text."""
@@ -29,7 +28,7 @@ class TextFile:
         with open(self.path, "rb") as file:
             while piece := file.read(PIECE):
                 if divider in before + piece:
-                    return not self.whole
+                    return True
                 before = piece[-len(divider):]
         return False
 
@@ -37,7 +36,7 @@ class TextFile:
         """Of the text with its ends of lines."""
         with open(self.path, encoding="utf-8", errors="replace", newline="\n") as file:
             for line in file:
-                if line.startswith(DIVIDER) and line.rstrip() == DIVIDER and not self.whole:
+                if line.startswith(DIVIDER) and line.rstrip() == DIVIDER:
                     return
                 yield line
 

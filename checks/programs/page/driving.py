@@ -4,7 +4,6 @@ import os
 import shlex
 import subprocess
 
-from chapters import chapters_are_shown
 from measured import what_was_measured_is_told
 from timelines import (fingers_are_told, fingers_zoom, names_stand_in_bars, runs_zoom_by_themselves, search_finds,
                        segments_are_chosen, stretches_are_marked)
@@ -222,7 +221,7 @@ def focus_goes_through(page):
 
 def drive(page, text, program):
     """All trials. Those of the timelines are left out where nothing takes time."""
-    trials = [the_lead_is_seen_first, tables_sort, colours_change, chapters_are_shown]
+    trials = [the_lead_is_seen_first, tables_sort, colours_change]
     if has_timeline(page):
         trials += [focus_goes_through, keys_zoom_and_move, letters_zoom_and_move, keys_go_from_segment_to_segment,
                    mouse_tells, mouse_zooms_and_moves, names_stand_in_bars, segments_are_chosen, search_finds,

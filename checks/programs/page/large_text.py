@@ -1,6 +1,6 @@
 #!/usr/bin/env python3
 """A text at the limits of tasks and segments, with as many places, and its run on four workers: large_text.py FOLDER
-writes large.tasks, large.replay and large.times. The tasks are 64 rows; each has an item of its row, and one of its
+writes large.tasks and large.timed. The tasks are 64 rows; each has an item of its row, and one of its
 column."""
 import os
 import sys
@@ -37,10 +37,8 @@ def run():
 
 def main(folder):
     program, rows = text(), list(run())
-    events = "".join("start %d %d\nfinish %d %d\n" % (worker, s, worker, s) for s, worker, _, _ in rows)
-    times = "".join("%d,%d,%d,%d\n" % row for row in rows)
-    files = {"tasks": program, "replay": program + "---\n" + events,
-             "times": "segment,thread,start_ns,end_ns\n" + times}
+    times = "times %d 0 %d\n" % (WORKERS, rows[-1][3]) + "".join("%d %d %d %d\n" % row for row in rows)
+    files = {"tasks": program, "timed": program + "---\n" + times}
     for ending, words in files.items():
         with open(os.path.join(folder, "large." + ending), "w", encoding="utf-8") as file:
             file.write(words)

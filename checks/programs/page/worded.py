@@ -22,7 +22,7 @@ RIGHT = {
     ],
 }
 WRONG = {
-    "callers": [r"the one that is the median", r"There is no replay document", r"the region's own code", r"the root",
+    "callers": [r"the one that is the median", r"There are no recorded times", r"the region's own code", r"the root",
                 r"−0\.0 %", r"\b1 waits", r"cost of after ", r"\d,\d{3}\.\d %"],
 }
 LONGEST = 44    # letters of a line in a box of the graph, but for a name that is a place alone

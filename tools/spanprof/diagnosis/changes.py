@@ -1,17 +1,15 @@
 """The changes that are tried on a recorded text, and where its greedy run ends with them."""
-import os
-import tempfile
 import time
 from dataclasses import dataclass
 from typing import Tuple
 
 from spanprof import client
-from spanprof.diagnosis.asked import numbers_at
 from spanprof.diagnosis.losses import kind_of_starved, most_shared
 from spanprof.diagnosis.places import OF_THREADS, SERIAL, SHARE
 from spanprof.errors import Fault
 from spanprof.text import BARRIER, text_lines
 from spanprof.whatif.creating import costs_for
+from spanprof.whatif.numbers import numbers_of
 from spanprof.whatif.requests import Request, applied, changes
 from spanprof.whatif.survey import survey
 from spanprof.whatif.trials import best_first, seconds_for
@@ -133,11 +131,7 @@ class Bench:
         lines = "".join(text_lines(applied(self.kept, made), 1))
         if not all(one.count for one in made):
             return None
-        with tempfile.TemporaryDirectory(prefix="spanprof-") as folder:
-            path = os.path.join(folder, "changed.tasks")
-            with open(path, "w", encoding="utf-8", errors="replace") as file:
-                file.write(lines)
-            end = numbers_at(path, self.facts.usable).on[self.facts.usable].end
+        end = numbers_of(lines, [self.facts.usable]).on[self.facts.usable].end
         return end * self.unit if end is not None else None
 
     def one(self, before, change):

@@ -2,18 +2,18 @@
 import re
 import statistics
 from dataclasses import dataclass, field
-from types import SimpleNamespace
 from typing import Dict, List, Optional
 
-from spanprof.account import Account, completed, read_rows
-from spanprof.account_program import NoAccount, ask
-from spanprof.client import named_numbers
-from spanprof.diagnosis.asked import head_of, numbers_at, with_lines
+from spanprof.account import account_of
+from spanprof.account_program import NoAccount
 from spanprof.diagnosis.calls import Sampled, calls_of
 from spanprof.diagnosis.lock_times import locks_of
 from spanprof.diagnosis.places import read_program
+from spanprof.head import head_of
 from spanprof.recording import document
 from spanprof.regions import program_of
+from spanprof.text_file import TextFile
+from spanprof.whatif.numbers import numbers_of
 
 RUNTIMES = {"llvm": "LLVM", "gnu": "gcc"}
 EXCLUDING = "mutexinoutset"     # the remark of a text that has inoutset in its place
@@ -26,7 +26,6 @@ class Region:
     place: str
     threads: int
     elapsed: int
-    asked: Optional[int] = None
 
 
 @dataclass
@@ -64,7 +63,6 @@ class Facts:
     waits_of_some_turns: set = field(default_factory=set)   # in an `if` of the loop that makes the tasks
     creating: int = 0                   # what creating one task costs
     usage: Optional[dict] = None
-    counters: Optional[dict] = None
     coverage: Optional[float] = None
     runs: int = 1
     true_one: Optional[List[int]] = None        # elapsed times of unrecorded runs on one thread
@@ -103,16 +101,6 @@ def function_in(words):
     """The name in `in sort, inlined into main at sort.c:9`, without arguments and what it is inlined into."""
     name = re.sub(r"^in ", "", words).partition(", inlined into")[0]
     return re.sub(r"(\.omp_outlined.*|\(.*|\.part\.\d+|\.constprop\.\d+)$", "", name)
-
-
-def breakdown(program, head, work, timed):
-    """The account of the run, whose times are in a document with the text."""
-    if not timed:
-        raise NoAccount("there are no times")
-    sums, rows = named_numbers(ask([], timed)), read_rows(ask(["--rows"], timed))
-    if len(rows) != len(program.names):
-        raise NoAccount("there are times of %d segments, and not of %d" % (len(rows), len(program.names)))
-    return completed(Account(**sums, rows=rows, places=program.names), SimpleNamespace(head=head, work=work))
 
 
 def set_breakdown(facts, found):
@@ -170,19 +158,17 @@ def set_meta(facts, meta):
     facts.asked, facts.processors = threads.get("asked"), meta.get("processors")
     facts.runtime = runtime_name(meta.get("runtime") or {})
     facts.is_of_gcc = facts.is_of_gcc or facts.runtime.startswith(RUNTIMES["gnu"])
-    facts.runs = max(facts.runs, len(meta.get("runs") or []))
-    facts.usage, facts.counters = usage or None, meta.get("counters")
+    facts.runs = len(meta.get("runs") or [1])
+    facts.usage = usage or None
     facts.true_one, facts.true_many = meta.get("true_one"), meta.get("true_many")
     facts.cost_on_one = meta.get("cost_on_one")
 
 
-def regions_of(path, meta):
+def regions_of(path):
     """By place; those inside others are left out, since their threads are not of the team."""
-    asked = {team["place"]: team.get("asked") for team in meta.get("teams") or []}
     program = program_of(path)
     places = [place for place in program.places if not place.is_inside] if program else []
-    return [Region(place.name, max(region.threads for region in place.regions), place.outermost,
-                   asked.get(place.name)) for place in places]
+    return [Region(place.name, max(region.threads for region in place.regions), place.outermost) for place in places]
 
 
 def of_text(head, program, numbers):
@@ -192,7 +178,7 @@ def of_text(head, program, numbers):
     facts = Facts(program=head.program, whole=bool(head.whole), threads=threads, elapsed=(head.elapsed or 0) * unit,
                   work=numbers.work * unit, span=numbers.span * unit,
                   greedy=(numbers.on[threads].bound if end is None else end) * unit,
-                  tasks=program.tasks - head.pieces - head.parts, places=program.places, runs=head.runs or 1,
+                  tasks=program.tasks - head.pieces - head.parts, places=program.places,
                   functions={at: function_in(words) for at, words in head.functions.items()})
     facts.coverage = head.covered / head.thread_time if head.covered and head.thread_time else None
     facts.is_of_gcc = any(remark.name == OF_GCC for remark in head.remarks)
@@ -211,15 +197,15 @@ def mark_places(facts, head, unit):
 def facts_of(recording):
     """Of a recording's folder, or of a plain text with what lies beside it."""
     path, meta = recording.text, recording.meta
-    program, head = with_lines(path, read_program), head_of(path)
-    numbers = numbers_at(path, head.threads or 1)
+    program, head = read_program(TextFile(path).lines()), head_of(path)
+    numbers = numbers_of(TextFile(path), [head.threads or 1])
     facts = of_text(head, program, numbers)
     set_meta(facts, meta)
-    facts.locks, facts.regions = locks_of(recording.file("locks"), head), regions_of(path, meta)
+    facts.locks, facts.regions = locks_of(recording.file("locks"), head), regions_of(path)
     set_off(facts, off_by_segment(recording.file("off"), head), program, head)
     facts.calls = calls_of(recording.file("calls"), program.names)
     try:
-        set_breakdown(facts, breakdown(program, head, numbers.work, document(recording)))
+        set_breakdown(facts, account_of(head, numbers.work, document(recording), program.names))
     except NoAccount:
         set_by_greedy(facts)
     return facts

@@ -3,8 +3,9 @@ from collections import Counter
 from dataclasses import dataclass, field
 from typing import List, Tuple
 
-from spanprof.source_lines import line_of
-from spanprof.text import BARRIER, OF_A_THREAD, Cutter, is_share, statements, where
+from spanprof.segment_table import Cutter
+from spanprof.source_lines import ends_by_segment, line_of
+from spanprof.text import BARRIER, OF_A_THREAD, is_share, statements, where
 
 SERIAL, OF_THREADS, TASK, SHARE = "serial", "of threads", "task", "share"
 
@@ -70,32 +71,21 @@ class Walker(Cutter):
             self.groups.append(where(one.name))
         super().take(one)
 
-    def begin(self, kind, place):
-        super().begin(kind, place)
+    def begin(self, kind, comment):
+        super().begin(kind, comment)
         if kind == "task":
             self.of_task[self.tasks] = self.last
-            self.kinds.append(self.kind())
-            self.at.append(self.region() if place.startswith(OF_A_THREAD) else place)
 
     def end(self):
         if self.blocks[-1][0] == "taskgroup":
             self.closed = self.groups.pop()
         super().end()
 
-    def go_on(self, after, place):
-        super().go_on(after, place)
+    def go_on(self, after, comment):
+        super().go_on(after, comment)
+        at = comment if after else self.running[-1][1]
         self.kinds.append(self.kind())
-        self.at.append(self.region() if place.startswith((OF_A_THREAD, BARRIER)) else place)
-
-
-def ends_of(code, at):
-    """Of each segment the construct that ends it; empty for the last of a task."""
-    out, running = [""] * len(code), {}
-    for number, segment in enumerate(code):
-        if segment.after:
-            out[running[segment.task]] = at[number]
-        running[segment.task] = number
-    return out
+        self.at.append(self.region() if at.startswith((OF_A_THREAD, BARRIER)) else at)
 
 
 @dataclass
@@ -121,7 +111,7 @@ def add_task(place, task):
 
 
 def add_segment(place, walker, number, end):
-    segment = walker.out[number]
+    segment = walker.code[number]
     place.cost += segment.cost
     place.pieces += 1
     if segment.cost >= place.largest:
@@ -131,28 +121,16 @@ def add_segment(place, walker, number, end):
         add_task(place, walker.of_task[segment.task])
 
 
-def names_of(code):
-    """Of the segments' places; most have the same few."""
-    known, out = {}, []
-    for segment in code:
-        key = not segment.task, segment.task_place, segment.after, segment.after_place
-        if key not in known:
-            known[key] = segment.place()
-        out.append(known[key])
-    return out
-
-
 def read_program(lines):
     """Of the lines of a text of version 1."""
     walker = Walker()
     for one in statements(lines):
         walker.take(one)
-    names = names_of(walker.out)
-    ends, places = ends_of(walker.out, walker.at), {}
+    names, ends, places = list(walker.code.places), ends_by_segment(walker.code, walker.at), {}
     for number, name in enumerate(names):
         place = places.setdefault(name, Place(name, walker.kinds[number]))
         add_segment(place, walker, number, ends[number])
-    return Program(names, [segment.cost for segment in walker.out], walker.tasks, places)
+    return Program(names, list(walker.code.cost), walker.tasks, places)
 
 
 def lines_between(place) -> Tuple[str, int, int]:

@@ -1,15 +1,17 @@
 """What is told of a run on a terminal: at most eight lines of at most 100 columns."""
 from spanprof.account_words import lasting
 from spanprof.diagnosis.calls import asleep_in, together
-from spanprof.diagnosis.causes import BY_KIND
+from spanprof.diagnosis.causes import BY_KIND, NAMES
 from spanprof.diagnosis.losses import average_task, has_many_faults, most_shared
 from spanprof.diagnosis.places import SERIAL
 from spanprof.diagnosis.plan import holder
+from spanprof.head import grouped
 
 WIDTH, MOST_LINES = 100, 8
 LABEL = 6
 BUSY = 0.1      # of the threads' time off the processor, from which on the last line says so
 NO_FASTER = 1.1
+LEAST_TOLD = 0.005     # of the threads' time, from which on a part of it is told
 TRIED = {
     "in-for-inout": "depend(in: {item}) at {at}, if the tasks only read it",
     "drop-depend": "no depend items at {at}, if the tasks may run in any order",
@@ -18,10 +20,6 @@ TRIED = {
     "task": "make {where} a task of its own"}
 SPLIT = {"serial": "divide {where} among {usable} tasks", "imbalance": "divide the longest tasks at {where}",
          "too_few_tasks": "divide each task of {where} into {usable}"}
-
-
-def grouped(number):
-    return "{:,}".format(number)
 
 
 def several(number, what):
@@ -163,6 +161,21 @@ def lost_lines(found, names):
         share = facts.share(loss.time)
         line = "%-*s%2.0f %%  %s" % (LABEL, "lost" * (i == 0), 100 * share, lost_sentence(facts, names, loss))
         yield shortened(line, WIDTH)
+
+
+def loss_name(names, loss):
+    return ": ".join(filter(None, [NAMES[loss.kind], names.place(loss.place) if loss.place else ""]))
+
+
+def sum_lines(found, names):
+    """The threads' time as a sum: code, what was lost by cause and place, and the rest."""
+    facts = found.facts
+    on_one = " as on one thread" if facts.cost_on_one else ""
+    parts = [("code" + on_one, facts.share(found.code_on_one))] + \
+        [(loss_name(names, loss), facts.share(loss.time)) for loss in found.losses]
+    shown = [part for part in parts if abs(part[1]) >= LEAST_TOLD]
+    rest = 1 - sum(share for _, share in shown)
+    return ["%.1f %% %s (measured)" % (100 * share, name) for name, share in shown + [("the rest", rest)]]
 
 
 def unsure(facts):

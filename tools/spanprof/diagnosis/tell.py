@@ -9,7 +9,7 @@ from spanprof.diagnosis.losses import losses
 from spanprof.diagnosis.names import Names
 from spanprof.diagnosis.plan import bounds
 from spanprof.diagnosis.schema import as_json
-from spanprof.diagnosis.sentences import short_lines
+from spanprof.diagnosis.sentences import short_lines, sum_lines
 from spanprof.errors import Fault
 from spanprof.recording import open_recording
 from spanprof.source import Sources
@@ -26,6 +26,9 @@ class Told:
 
     def lines(self, more="", news=()):
         return short_lines(self.found, self.names, more, news)
+
+    def sum_lines(self):
+        return sum_lines(self.found, self.names)
 
     def json(self):
         return as_json(self.found, self.names)

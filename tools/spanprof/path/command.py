@@ -5,8 +5,7 @@ import sys
 from spanprof.answers import Answers
 from spanprof.command import Console, check_files, end_with
 from spanprof.head import head_text, said
-from spanprof.path.found import find_path
-from spanprof.path.table import lines, write_csv
+from spanprof.path.table import find_path, lines, write_csv
 from spanprof.proof import proved
 from spanprof.recording import text_of
 from spanprof.version import Version
@@ -29,26 +28,25 @@ def parse(words):
     return parser.parse_args(words)
 
 
-def title(path):
-    work, span = path.numbers["work"], path.numbers["span"]
+def title(numbers, found):
+    work, span = numbers["work"], numbers["span"]
     return "work %d, span %d, parallelism %.1f, %d of %d segments on a critical path" % (
-        work, span, work / span if span else 1, path.segments, path.numbers["segments"])
+        work, span, work / span if span else 1, sum(place.critical_segments for place in found), numbers["segments"])
 
 
-def show(options, path):
+def show(options, numbers, found):
     if options.csv:
-        write_csv(path.places, sys.stdout)
+        write_csv(found, sys.stdout)
         return
-    for line in said(head_text(options.text)) + [title(path), proved(VERDICT)]:
-        print(line)
-    for line in lines(path.places, path.numbers["work"], path.numbers["span"]):
-        print(line)
+    told = said(head_text(options.text)) + [title(numbers, found), proved(VERDICT)]
+    print(*told, *lines(found, numbers["work"], numbers["span"]), sep="\n")
 
 
 def answer(options):
     options.text = text_of(options.text)
     check_files(options.text)
-    show(options, find_path(Answers(options.text)))
+    answers = Answers(options.text)
+    show(options, answers.span_numbers, find_path(answers))
 
 
 def main(words):

@@ -1,17 +1,24 @@
 """The table of places: what of the span and of the work each is."""
 import csv
-from typing import NamedTuple
+
+from spanprof.errors import Fault
+from spanprof.report.places import Place, places
 
 MOST_ROWS = 100
 HEADS = "%8s %8s %9s  %s" % ("of span", "of work", "segments", "place")
+COLUMNS = (("span", "critical_cost"), ("work", "cost"), ("segments", "critical_segments"), ("place", "name"))
 
 
-class Place(NamedTuple):
-    """The costs of a place on the path, all its costs, and its segments on the path."""
-    span: int
-    work: int
-    segments: int
-    name: str
+def find_path(answers):
+    """The places by their part of the span, then of the work; a fault where they do not add up to what is told of the
+    text."""
+    found = places(answers)
+    sums = [(name, sum(getattr(place, own) for place in found), answers.span_numbers[name])
+            for name, own in COLUMNS[:2]]
+    faults = ["the places' %s is %d, and the text's %d" % one for one in sums if one[1] != one[2]]
+    if faults:
+        raise Fault("; ".join(faults))
+    return found
 
 
 def share(part, whole):
@@ -19,32 +26,23 @@ def share(part, whole):
 
 
 def row(found, work, span):
-    return "%7.1f%% %7.1f%% %9d  %s" % (share(found.span, span), share(found.work, work), found.segments, found.name)
+    return "%7.1f%% %7.1f%% %9d  %s" % (
+        share(found.critical_cost, span), share(found.cost, work), found.critical_segments, found.name)
 
 
-def is_shown(found, work):
-    """A place on the path, or one with a hundredth of the work."""
-    return found.span > 0 or found.work * 100 >= work
-
-
-def lines(places, work, span):
-    """Of more than MOST_ROWS rows the rest is one."""
-    shown, rest = 0, []
+def lines(every, work, span):
+    """Of each place on the path, or with a hundredth of the work; of more than MOST_ROWS the rest is one."""
+    shown = [found for found in every if found.critical_cost > 0 or found.cost * 100 >= work]
     yield HEADS
-    for found in places:
-        if not is_shown(found, work):
-            continue
-        shown += 1
-        if shown <= MOST_ROWS:
-            yield row(found, work, span)
-        else:
-            rest = [sum(pair) for pair in zip(rest or (0, 0, 0), found[:3])]
+    yield from (row(found, work, span) for found in shown[:MOST_ROWS])
+    rest = shown[MOST_ROWS:]
     if rest:
-        yield row(Place(*rest, "%d more places" % (shown - MOST_ROWS)), work, span)
+        sums = {own: sum(getattr(found, own) for found in rest) for _, own in COLUMNS[:3]}
+        yield row(Place("%d more places" % len(rest), **sums), work, span)
 
 
-def write_csv(places, file):
+def write_csv(every, file):
     """All places; a name is quoted where it has a comma, a quote or the end of a line in it."""
     writer = csv.writer(file, lineterminator="\n")
-    writer.writerow(Place._fields[:3] + ("place",))
-    writer.writerows(places)
+    writer.writerow([name for name, _ in COLUMNS])
+    writer.writerows([getattr(found, own) for _, own in COLUMNS] for found in every)

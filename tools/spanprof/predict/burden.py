@@ -6,7 +6,8 @@ recorded. A steal hangs on the schedule and stands in no text.
 import json
 
 from spanprof.head import comments
-from spanprof.text import Cutter, Statement, statements, text_lines
+from spanprof.segment_table import Cutter
+from spanprof.text import Statement, statements, text_lines
 
 KEPT = ("recorded: {", "region: ", "place: ")  # lines of the head
 

@@ -2,7 +2,8 @@
 from dataclasses import dataclass, field
 from typing import List, Tuple
 
-from spanprof.text import Cutter, statements
+from spanprof.segment_table import Cutter
+from spanprof.text import statements
 
 WORK, CREATE, WAIT, BEGIN, END = range(5)
 
@@ -109,9 +110,8 @@ class Builder:
             self.step(END, self.open_groups.pop())
 
     def built(self):
-        code = self.cutter.out
-        return Program(self.tasks, [one.cost for one in code], [one.place() for one in code],
-                       [one.task for one in code], self.groups)
+        code = self.cutter.code
+        return Program(self.tasks, list(code.cost), list(code.places), list(code.task), self.groups)
 
 
 def read_program(text):

@@ -11,7 +11,8 @@ from spanprof.predict.burden import with_costs
 from spanprof.predict.program import Program, read_program
 from spanprof.recording import beside
 from spanprof.predict.times import rows_of, times_of
-from spanprof.text import DIVIDER, has_loops, segments_of, statements, text_lines
+from spanprof.segment_table import read_code
+from spanprof.text import DIVIDER, has_loops, statements, text_lines
 
 
 @dataclass
@@ -65,7 +66,7 @@ def why_not(head, text):
 
 def without_preempted(text, head):
     """The text without what other programs took of its segments, and how much that was."""
-    costs, taken = [one.cost for one in segments_of(text)], 0
+    costs, taken = list(read_code(text.split("\n"), head.program).cost), 0
     for segment, off in head.preempted.items():
         if segment < len(costs):
             taken += min(off, costs[segment])

@@ -10,13 +10,12 @@ from collections import defaultdict
 
 from spanprof import client
 from spanprof.built import Product, find_or_build
-from spanprof.converting import RECORDERS, convert, converter
+from spanprof.converting import RECORDERS, convert, converter, recorder_library
 from spanprof.errors import Fault
 from spanprof.predict.machine import COSTS, Machine, Measured, machine_file, write_machine
 from spanprof.predict.program import read_program
 from spanprof.recording import ENDING, LOG
 from spanprof.record.console import say, tell
-from spanprof.record.recorder import recorder_library
 from spanprof.record.run import environment, without_recorder
 from spanprof.record.runtime import llvm_runtime
 from spanprof.text import OF_A_THREAD
@@ -78,7 +77,7 @@ def cost_of_a_task(program):
 def recorded(options, program, preload, threads, folder):
     """The cost of an empty task in the text of each recorded region."""
     out = os.path.join(folder, "threads%d" % threads)
-    library, to_texts = recorder_library(RECORDERS, say), converter(say)
+    library, to_texts = recorder_library(say), converter(say)
     options.threads, options.clock, options.unit = threads, "wall", "ns"
     variables = environment(dict(os.environ, SPANPROF_REGIONS=str(REGIONS)), options, library, preload, out)
     run([program, str(threads), "trees"], variables)

@@ -12,12 +12,13 @@ from spanprof.errors import OWN_FAULT, Fault
 from spanprof.folders import PREFIX, TOOLS
 from spanprof.record.calibrate import calibrate
 from spanprof.record.console import CONSOLE, say, tell
+from spanprof.record.full import full_facts
 from spanprof.record.online import ONLINE, online_summary
 from spanprof.record.options import parse
 from spanprof.record.run import end_as
 from spanprof.record.runs import record_often
 from spanprof.record.scale import record_scale
-from spanprof.record.scale_words import scale_json, scale_lines
+from spanprof.record.scale_words import scale_json, table_lines
 from spanprof.record.session import Session
 from spanprof.record.summaries import print_summaries
 from spanprof.record.summary import named
@@ -61,8 +62,7 @@ def report_all(session, recorded, scale):
         elif scale and session.options.json:
             write_json(session.options.json, {"scale": scale_json(scale)})
     finally:
-        for name, lines in scale_lines(scale).items() if scale else ():
-            show(named(name, lines))
+        show(named("true times", table_lines(scale)) if scale else [])
 
 
 def tell_measured(session, recorded):
@@ -78,7 +78,9 @@ def record_as_asked(session):
     """What was recorded, and a scale where it was asked for."""
     if session.options.scale:
         return record_scale(session)
-    return record_often(session) if session.options.runs > 1 else session.record_once(), None
+    if session.options.runs > 1:
+        return record_often(session), None
+    return session.record_once((lambda folder: full_facts(session, folder)) if session.options.full else None), None
 
 
 def record_and_report(options):

@@ -9,8 +9,7 @@ CGROUP = "/sys/fs/cgroup"
 def usage_of(used):
     """Of what wait4 tells of the program and its own children."""
     return {"user_ns": round(used.ru_utime * 1e9), "system_ns": round(used.ru_stime * 1e9),
-            "minor_faults": used.ru_minflt, "major_faults": used.ru_majflt,
-            "voluntary_switches": used.ru_nvcsw, "involuntary_switches": used.ru_nivcsw}
+            "minor_faults": used.ru_minflt}
 
 
 def processors_of_quota(words):
@@ -52,24 +51,12 @@ def threads_asked(variables):
     return int(first) if re.fullmatch(r"[0-9]{1,6}", first) and int(first) else None
 
 
-def asked_for(place):
-    """The most threads that were asked for at this place; None where no region tells."""
-    return max((getattr(one, "asked", 0) or 0 for one in place.regions), default=0) or None
-
-
-def teams_of(program):
-    """By place of a region, what was asked for and got; `program` is the table of its regions."""
-    return [{"place": place.name, "asked": asked_for(place), "got": max(one.threads for one in place.regions),
-             "regions": len(place.regions), "time_ns": place.total("elapsed")} for place in program.places]
-
-
 def facts_of_program(program):
     """What the table of its regions tells, with the names of recording.json."""
-    teams = teams_of(program) if program else []
-    return {"threads": {"most": max((one["got"] for one in teams), default=None)}, "teams": teams}
+    return {"threads": {"most": max((region.threads for region in program.regions), default=None) if program else None}}
 
 
 def facts_of_run(ended, variables, processors):
     """With the names of recording.json. `ended` is how the program ended."""
     return {"threads": {"asked": threads_asked(variables)}, "processors": processors, "elapsed_ns": ended.elapsed,
-            "usage": usage_of(ended.usage), "counters": ended.counters}
+            "usage": usage_of(ended.usage)}

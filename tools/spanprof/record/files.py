@@ -1,21 +1,7 @@
-"""The files of a recording."""
+"""Whether the files of a recording can be written."""
 import os
-import re
-from dataclasses import dataclass
 
 from spanprof.errors import Fault
-
-USUAL_REGIONS = 10
-
-
-@dataclass
-class Recording:
-    """The text of one parallel region, and its run where that was written."""
-    text: str
-    replay: str = ""
-    times: str = ""
-    number: int = 1  # in the files' names
-    is_large: bool = False  # beyond the limits of the ten commands
 
 
 def check_folder(out, option="--out"):
@@ -33,28 +19,3 @@ def check_file(path, option):
         raise Fault("%s %s: a folder, and no file" % (option, path))
     if path and not os.path.exists(path):
         check_folder(path, option)
-
-
-def most_regions(variables):
-    """How many the recorder writes; its files of later numbers are those of child processes."""
-    asked = variables.get("SPANPROF_REGIONS", "")
-    return int(asked) if re.fullmatch(r"[0-9]{1,4}", asked) else USUAL_REGIONS
-
-
-def recordings(out):
-    """Those of all regions that were written, in the order of time: NAME.tasks, NAME.2.tasks, and so on."""
-    found = [recording(stem_of(out, number), number) for number in range(1, most_regions(os.environ) + 1)]
-    return [one for one in found if os.path.exists(one.text)]
-
-
-def stem_of(out, number):
-    return out if number == 1 else "%s.%d" % (out, number)
-
-
-def beside(stem, end):
-    """The file of this name, where there is one."""
-    return stem + end if os.path.exists(stem + end) else ""
-
-
-def recording(stem, number=1):
-    return Recording(stem + ".tasks", beside(stem, ".replay"), beside(stem, ".times"), number)

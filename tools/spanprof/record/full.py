@@ -4,55 +4,23 @@ import os
 import tempfile
 from collections import Counter
 
-from spanprof.head import head_text, read_head
+from spanprof.head import head_of
 from spanprof.record.console import say, tell
-from spanprof.record.run import rewind, signal_name, watched, without_recorder
-from spanprof.text import Cutter, statements
+from spanprof.record.meta import old_meta
+from spanprof.record.run import rewind
+from spanprof.record.unrecorded import ON_ONE, Failed, unrecorded
+from spanprof.segment_table import read_code
 from spanprof.text_file import TextFile
 
 RUNS = 3
-# A program's own num_threads holds beside OMP_NUM_THREADS, but not beside the limit, of which LLVM's runtime warns.
-ON_ONE = {"OMP_NUM_THREADS": "1", "OMP_THREAD_LIMIT": "1", "KMP_WARNINGS": "0"}
-
-
-class Failed(Exception):
-    """A run ended with another status than 0."""
-
-    def __init__(self, what, status):
-        how = "by " + signal_name(status) if status < 0 else "with status %d" % status
-        super().__init__("%s ended %s: what --full adds is not known" % (what, how))
 
 
 def costs_by_place(path):
     """In nanoseconds, of a text of any size."""
-    cutter, found = Cutter(), Counter()
-    for statement in statements(TextFile(path).lines()):
-        cutter.take(statement)
-    unit = read_head(head_text(path)).nanoseconds or 1
-    for segment in cutter.out:
-        found[segment.place()] += segment.cost * unit
+    code, unit, found = read_code(TextFile(path).lines(), path), head_of(path).nanoseconds or 1, Counter()
+    for place, cost in zip(code.places, code.cost):
+        found[place] += cost * unit
     return dict(found)
-
-
-def timed(session, what, variables):
-    """The elapsed time of one unrecorded run."""
-    tell(what)
-    rewind()
-    ended = watched(session.path, session.options.command, variables)
-    if ended.status:
-        raise Failed(what, ended.status)
-    return ended.elapsed
-
-
-def true_times(session, threads, runs=RUNS):
-    """On one thread and on `threads`, in turns, so that a machine that becomes slower does so for both."""
-    many = without_recorder(os.environ, session.preload, threads, session.library)
-    one, found = dict(many, **ON_ONE), {"true_one": [], "true_many": []}
-    for turn in range(1, runs + 1):
-        of = "unrecorded run %d of %d on " % (turn, runs)
-        found["true_many"].append(timed(session, of + "%d threads" % threads, many))
-        found["true_one"].append(timed(session, of + "one thread", one))
-    return found
 
 
 def cost_on_one(session):
@@ -66,10 +34,15 @@ def cost_on_one(session):
         return costs_by_place(text) if text else None
 
 
-def full_facts(session, threads):
-    """With the names of recording.json. Where a run fails that is told, and there are none."""
+def full_facts(session, folder):
+    """Of the recording in a folder, with the names of recording.json. Where a run fails that is told, and there are
+    none."""
+    facts = old_meta(folder)
+    threads = facts.get("threads") or {}
+    number = threads.get("most") or threads.get("asked") or facts.get("processors") or 1
     try:
-        return {**true_times(session, threads), "cost_on_one": cost_on_one(session)}
+        times = unrecorded(session, [number, 1], RUNS)
+        return {"true_one": times[1], "true_many": times[number], "cost_on_one": cost_on_one(session)}
     except Failed as failed:
-        say(str(failed))
+        say("%s: what --full adds is not known" % failed)
         return {}

@@ -3,7 +3,7 @@ import json
 import os
 
 from spanprof.errors import Fault
-from spanprof.head import head_text, read_head
+from spanprof.head import head_of
 from spanprof.record.facts import facts_of_program
 from spanprof.record.runtime_name import runtimes_of
 from spanprof.recording import LOG, META, SCHEMA, TEXT, checksum
@@ -25,7 +25,7 @@ def runtime_of(folder):
 
 def of_text(text):
     """What the head of the text and the table of regions tell."""
-    head, program = read_head(head_text(text)), program_of(text)
+    head, program = head_of(text), program_of(text)
     covered = head.covered / head.thread_time if head.thread_time and head.covered is not None else None
     return {"program": head.program, "date": head.date, "clock": head.clock, "unit": head.unit, "coverage": covered,
             **facts_of_program(program)}

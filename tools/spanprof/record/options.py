@@ -64,7 +64,7 @@ def parser():
         help="run it N times, and keep the recording of the run with the median elapsed time")
     add("--scale", type=numbers_of_threads, metavar="1,P,..",
         help="tell the true speedup: run it N times (5 without --runs) unrecorded on each of these numbers of "
-        "threads, and then N times recorded; and of the last what keeps it from more, as a sum")
+        "threads, and then N times recorded; the diagnosis is of the last, with what --full adds")
     add("--full", action="store_true",
         help="run it several times more, unrecorded on as many threads and on one, and recorded on one: true times, "
         "the speedup, and what costs more on more threads; without it the program runs once")

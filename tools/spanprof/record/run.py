@@ -4,10 +4,9 @@ import resource
 import signal
 import subprocess
 import time
-from typing import NamedTuple, Optional
+from typing import NamedTuple
 
 from spanprof.errors import NOT_EXECUTABLE, Fault
-from spanprof.record.counters import counters
 
 PASSED_ON = (signal.SIGTERM, signal.SIGHUP, signal.SIGQUIT)
 
@@ -90,7 +89,6 @@ class Ended(NamedTuple):
     status: int
     elapsed: int
     usage: resource.struct_rusage
-    counters: Optional[dict]
 
 
 def begun(path, words, variables):
@@ -104,7 +102,7 @@ def begun(path, words, variables):
 
 def watched(path, words, variables):
     """How the program ended, how long it took, and what the system counted of it."""
-    with PassedOn() as passed_on, counters() as read_counters:
+    with PassedOn() as passed_on:
         since = time.perf_counter_ns()
         process = begun(path, words, variables)
         passed_on.to(process.pid)
@@ -112,12 +110,7 @@ def watched(path, words, variables):
         passed_on.to(None)
         elapsed = time.perf_counter_ns() - since
         process.returncode = os.waitstatus_to_exitcode(status)
-        return Ended(process.returncode, elapsed, usage, read_counters())
-
-
-def run(path, words, variables):
-    """How the program ended: its exit status, or less than 0 the signal."""
-    return watched(path, words, variables).status
+        return Ended(process.returncode, elapsed, usage)
 
 
 def signal_name(status):

@@ -4,17 +4,12 @@ import statistics
 
 from spanprof import client
 from spanprof.converting import logs_in
-from spanprof.head import head_text, read_head
+from spanprof.head import head_of
 from spanprof.record.console import say, tell
 from spanprof.record.meta import old_meta, write_meta
 from spanprof.record.run import rewind
 from spanprof.record.session import Recorded, why_nothing
 from spanprof.recording import TEXT
-
-
-def work_and_span(path):
-    told = client.measured(path)
-    return told["work"], told["span"]
 
 
 def stem_of(work, number):
@@ -33,9 +28,8 @@ def one_of_runs(session, number):
 
 
 def numbers_of(text, elapsed):
-    head, (work, span) = read_head(head_text(text)), work_and_span(text)
-    unit = head.nanoseconds or 1
-    return {"elapsed_ns": elapsed, "work_ns": work * unit, "span_ns": span * unit}
+    told, unit = client.measured(text), head_of(text).nanoseconds or 1
+    return {"elapsed_ns": elapsed, "work_ns": told["work"] * unit, "span_ns": told["span"] * unit}
 
 
 def middle(numbers):

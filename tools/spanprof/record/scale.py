@@ -1,46 +1,32 @@
 """The program's true times: unrecorded runs on several numbers of threads, in turns, and recordings on each number."""
 import glob
 import os
+import re
 import shutil
 import statistics
-from collections import Counter
 from dataclasses import dataclass, field
-from typing import Dict, List, NamedTuple, Optional
+from typing import Dict, List, NamedTuple
 
-from spanprof.account import Account, account_beside
-from spanprof.answers import Answers
-from spanprof.claims import tasks_made
+from spanprof import client
 from spanprof.converting import logs_in
-from spanprof.head import Head, head_text, read_head
+from spanprof.head import Head, counted, head_of
 from spanprof.predict.scaled import SCALE
 from spanprof.record.console import say, tell
-from spanprof.record.files import recordings
-from spanprof.record.run import rewind, signal_name, watched, without_recorder
-from spanprof.record.scale_gap import on_threads
+from spanprof.record.full import costs_by_place
+from spanprof.record.run import rewind
 from spanprof.record.scale_words import scale_json
 from spanprof.record.session import Recorded
 from spanprof.record.summary_json import write_json
+from spanprof.record.unrecorded import Failed, others_on, unrecorded
 from spanprof.recording import ENDING
 
 KEPT = "scale"  # the folder of the texts, in that of the recording
 
 
-@dataclass
-class Region:
-    """What a recording tells of one region."""
-    name: str   # of the text
+class Text(NamedTuple):
+    """That of one region."""
     head: Head
-    tasks: int  # that the program makes
-    work: int
-    account: Optional[Account] = None
-    why: str = ""   # there is no account
-    path: str = ""  # of the text
-    costs: Counter = field(default_factory=Counter)     # by place, in nanoseconds
-
-    @property
-    def is_at(self):
-        """Its place and its number in time, by which it is known in other recordings."""
-        return self.head.region, self.head.number
+    path: str
 
 
 @dataclass
@@ -48,7 +34,7 @@ class Scale:
     """Elapsed times of the whole program in nanoseconds, by number of threads, in the order of the runs."""
     runs: int
     times: Dict[int, List[int]]
-    regions: Dict[int, Region] = field(default_factory=dict)    # the heaviest one of the run on the most threads
+    regions: Dict[int, Text] = field(default_factory=dict)      # the heaviest one of the run on the most threads
     texts: Dict[int, List[str]] = field(default_factory=dict)   # of that one in all recordings
     library: str = ""       # the runtime that the runs were given, where it is not what the program is linked with
     processors: int = 0     # that this process may use
@@ -68,48 +54,20 @@ class Scale:
         return [self.median(1) / max(end(self.times[threads]), 1) for end in (max, min)]
 
 
-class Failed(Exception):
-    """The program ended with another status than 0."""
-
-    def __init__(self, status, where):
-        how = "by " + signal_name(status) if status < 0 else "with status %d" % status
-        super().__init__("%s ended %s: no speedup" % (where, how))
-        self.status = status
+def name_of(folder, threads, turn):
+    """The first name of a recording's files."""
+    return os.path.join(folder, "threads%d" % threads + ("-%d" % turn if turn > 1 else ""))
 
 
-def timed_run(session, variables):
-    """The elapsed time of one unrecorded run, and how it ended."""
-    rewind()
-    ended = watched(session.path, session.options.command, variables)
-    return ended.elapsed, ended.status
-
-
-def unrecorded(session, numbers, runs):
-    """Times of the whole program by number of threads. Each turn has a run on each number, so that a machine that
-    becomes slower does so for all of them."""
-    times = {threads: [] for threads in numbers}
-    for turn in range(1, runs + 1):
-        for threads in numbers:
-            this = "unrecorded run %d of %d %s" % (turn, runs, on_threads(threads))
-            tell(this)
-            variables = without_recorder(os.environ, session.preload, threads, session.library)
-            elapsed, status = timed_run(session, variables)
-            if status:
-                raise Failed(status, this)
-            times[threads].append(elapsed)
-    return times
+def words_of(session, threads, turn):
+    return "recorded run %d of %d on %s" % (turn, session.options.runs, counted(threads, "thread"))
 
 
 def prepare(session, threads, turn):
     """The next run is recorded on so many threads."""
-    tell("recorded run %d of %d %s" % (turn, session.options.runs, on_threads(threads)))
+    tell(words_of(session, threads, turn))
     rewind()
     session.options.threads = threads
-
-
-def name_of(folder, threads, turn):
-    """The first name of a recording's files."""
-    return os.path.join(folder, "threads%d" % threads + ("-%d" % turn if turn > 1 else ""))
 
 
 def write_regions(session, folder, stem):
@@ -121,82 +79,60 @@ def write_regions(session, folder, stem):
 
 
 def record_regions(session, threads, turn):
-    """One recording, of which the texts of its regions are kept: their first name, and how the program ended."""
-    stem = name_of(session.work.scale, threads, turn)
+    """One recording, of which the texts of its regions are kept: their first name, and what its places cost where it is
+    the first one on one thread."""
+    stem, costs = name_of(session.work.scale, threads, turn), None
     prepare(session, threads, turn)
-    status = session.run(stem).status
+    status = session.run(stem, others_on(threads)).status
     for folder in logs_in(session.work.scale):
-        if folder == stem + ENDING:
+        if folder == stem + ENDING and not status:
             write_regions(session, folder, stem)
+            text = session.write_text(folder, stem) if threads == turn == 1 else ""
+            costs = costs_by_place(text) if text else None
         shutil.rmtree(folder)
-    return stem, status
+    if status:
+        raise Failed(words_of(session, threads, turn), status)
+    return stem, costs
 
 
 def record_each(session, numbers):
-    """The first names of the recordings on each of these numbers of threads, in turns as the unrecorded runs. The last
-    one on the most threads is left: that is the one with a summary."""
-    names, runs = {threads: [] for threads in numbers}, session.options.runs
+    """The first names of the recordings on each of these numbers of threads, in turns as the unrecorded runs, and what
+    places cost on one thread. The last one on the most threads is left: that is the one with a summary."""
+    names, runs, on_one = {threads: [] for threads in numbers}, session.options.runs, None
     for turn in range(1, runs + 1):
         for threads in numbers if turn < runs else numbers[:-1]:
-            name, status = record_regions(session, threads, turn)
-            if status:
-                raise Failed(status, "recorded run %d of %d %s" % (turn, runs, on_threads(threads)))
+            name, costs = record_regions(session, threads, turn)
             names[threads].append(name)
-    return names
-
-
-def costs_by_place(answers):
-    found = Counter()
-    for segment in answers.code:
-        found[segment.place()] += segment.cost * (answers.head.nanoseconds or 0)
-    return found
-
-
-def region_of(answers):
-    account, why = account_beside(answers)
-    return Region(answers.name, answers.head, tasks_made(answers), answers.work, account, why, answers.path,
-                  costs_by_place(answers))
-
-
-def heaviest(answered):
-    return max(answered, key=lambda one: one.work, default=None)
-
-
-def same_region(several, region):
-    """That of another recording: by its place and number, or by its place where one alone is there."""
-    alike = [one for one in several if (one.head.region, one.head.number) == region.is_at]
-    there = [one for one in several if one.head.region == region.head.region]
-    return (alike or (there if len(there) == 1 else []) or [None])[0]
-
-
-class Text(NamedTuple):
-    head: Head
-    path: str
+            on_one = on_one or costs
+    return names, on_one
 
 
 def texts_of(name):
-    """Of a recording, those that are within the limits of the ten commands."""
-    return [Text(read_head(head_text(one.text)), one.text) for one in recordings(name) if not one.is_large]
+    """Of a recording, in the order of time: NAME.tasks, NAME.2.tasks, and so on."""
+    found = [path for path in glob.glob(glob.escape(name) + "*.tasks")
+             if re.fullmatch(r"(\.\d+)?\.tasks", path[len(name):])]
+    return [Text(head_of(path), path) for path in sorted(found, key=lambda path: (len(path), path))]
 
 
-def answers_of(found):
-    """Of the texts that are within the limits of the ten commands."""
-    return [Answers(one.text) for one in found if not one.is_large]
+def same_region(several, region):
+    """That of another recording: by its place and number in time, or by its place where one alone is there."""
+    there = [one for one in several if one.head.region == region.head.region]
+    alike = [one for one in there if one.head.number == region.head.number]
+    return (alike or (there if len(there) == 1 else []) or [None])[0]
 
 
 def regions_of(names, found, most):
     """The heaviest region of the recording on the most threads, and the same one of the first on each other number; and
     its texts of all recordings."""
-    first = heaviest(answers_of(found))
+    first = max(found, key=lambda one: client.measured(one.path)["work"], default=None)
     if first is None:
         return {}, {}
-    regions, texts = {most: region_of(first)}, {most: [first.path]}
+    regions, texts = {most: first}, {most: [first.path]}
     for threads, several in names.items():
-        same = [same_region(texts_of(name), regions[most]) for name in several]
-        paths = [one.path for one in same if one is not None]
-        if paths:
-            texts[threads] = texts.get(threads, []) + paths
-            regions.setdefault(threads, region_of(Answers(paths[0])))
+        same = list(filter(None, (same_region(texts_of(name), first) for name in several)))
+        if same:
+            texts[threads] = texts.get(threads, []) + [one.path for one in same]
+            regions.setdefault(threads, same[0])
     return regions, texts
 
 
@@ -209,7 +145,7 @@ def scale_of(session, times, names, folder):
     write_regions(session, folder, last)
     moved = {threads: [os.path.join(kept, os.path.basename(name)) for name in several]
              for threads, several in names.items()}
-    return Scale(session.options.runs, times, *regions_of(moved, recordings(last), most),
+    return Scale(session.options.runs, times, *regions_of(moved, texts_of(last), most),
                  os.path.basename(session.preload), len(os.sched_getaffinity(0)))
 
 
@@ -217,21 +153,22 @@ def record_scale(session):
     """What the run on the most threads left, as `record_once` answers it, and the scale. At a run that fails it ends
     without one."""
     numbers, runs = session.options.scale, session.options.runs
+    found, recorded = [], None
+
+    def more(folder):
+        """The scale beside the recording, and for its diagnosis what --full tells."""
+        found.append(scale_of(session, times, names, folder))
+        write_json(os.path.join(folder, SCALE), scale_json(found[0]), "")
+        return {"true_one": times[1], "true_many": times[numbers[-1]], "cost_on_one": on_one}
     try:
         times = unrecorded(session, numbers, runs)
         os.mkdir(session.work.scale)
-        names = record_each(session, numbers)
+        names, on_one = record_each(session, numbers)
+        prepare(session, numbers[-1], runs)
+        recorded = session.record_once(more)
+        if recorded.status:
+            raise Failed(words_of(session, numbers[-1], runs), recorded.status)
+        return recorded, found[0] if found else None
     except Failed as failed:
-        say(str(failed))
-        return Recorded(failed.status), None
-    prepare(session, numbers[-1], runs)
-    found = []
-
-    def finish(folder):
-        found.append(scale_of(session, times, names, folder))
-        write_json(os.path.join(folder, SCALE), scale_json(found[0]), "")
-    recorded = session.record_once(finish)
-    if recorded.status:
-        say(str(Failed(recorded.status, "recorded run %d of %d %s" % (runs, runs, on_threads(numbers[-1])))))
-        return recorded, None
-    return recorded, found[0] if found else None
+        say("%s: no speedup" % failed)
+        return recorded or Recorded(failed.status), None

@@ -5,17 +5,15 @@ from dataclasses import dataclass, field
 from typing import List
 
 from spanprof import client
-from spanprof.converting import RECORDERS, convert, convert_into, converter, has_failed
+from spanprof.converting import convert, convert_into, converter, has_failed, recorder_library
 from spanprof.errors import Fault
 from spanprof.recording import ENDING, LOG, META, TEXT, open_recording
 from spanprof.record.console import say, tell
 from spanprof.record.facts import facts_of_run, processors_there_are
 from spanprof.record.files import check_file, check_folder
-from spanprof.record.full import full_facts
 from spanprof.record.linkage import linkage
 from spanprof.record.meta import old_meta, write_meta
 from spanprof.record.ranks import is_launcher, of_rank, rank_of
-from spanprof.record.recorder import recorder_library
 from spanprof.record.run import environment, signal_name, watched
 from spanprof.record.runtime import choose, refuse_targets, what_it_lacks
 from spanprof.record.runtime_name import note_of
@@ -83,7 +81,7 @@ class Session:
         linked = linkage(target)
         chosen = choose(target, linked, options.runtime)
         self.preload = chosen.preload
-        self.library = os.path.realpath(recorder_library(RECORDERS, tell))
+        self.library = os.path.realpath(recorder_library(tell))
         self.preload_recorded = loaded_first(chosen, self.library)
         self.converter = converter(tell)
         self.notes = notes_on(self.preload, linked.called, bool(options.runtime))
@@ -127,21 +125,17 @@ class Session:
         facts = self.facts_of(ended, out)
         return Told(bool(folders), [one for folder in folders for one in self.write(folder, out, facts)])
 
-    def record_aside(self, out, others):
-        """The program's end and the text of the whole program, of a run beside the one that is kept."""
-        ended = self.run(out, others)
-        folder = out + ENDING
+    def write_text(self, folder, out):
+        """The text of the whole program of a log in its folder; empty where there is none."""
         if os.path.isdir(folder):
             convert_into(self.converter, os.path.join(folder, LOG), folder, self.variables(out))
         text = os.path.join(folder, TEXT)
-        return ended.status, text if os.path.exists(text) else ""
+        return text if os.path.exists(text) else ""
 
-    def add_full(self, folder):
-        """What more runs tell."""
-        facts = old_meta(folder)
-        threads = facts.get("threads") or {}
-        number = threads.get("most") or threads.get("asked") or facts.get("processors") or 1
-        write_meta(folder, {**facts, **full_facts(self, number)})
+    def record_aside(self, out, others):
+        """The program's end and the text of the whole program, of a run beside the one that is kept."""
+        ended = self.run(out, others)
+        return ended.status, self.write_text(out + ENDING, out)
 
     def note_once(self, note):
         if note and note not in self.notes:
@@ -170,16 +164,15 @@ class Session:
         """The texts of the regions of a log, OUT.tasks and so on."""
         convert(self.converter, os.path.join(folder, LOG), out, dict(self.variables(out), SPANPROF_TIMES="1"))
 
-    def record_once(self, finish=None):
-        """The program's end, the recordings, and what was said. `finish` adds to the folder of the program's own."""
+    def record_once(self, more=None):
+        """The program's end, the recordings, and what was said. `more` adds to the folder of the program's own, and
+        answers what more is known of its run."""
         ended = self.run(self.work.stem)
         self.note_end(ended.status)
         folders = self.work.folders
-        if finish and folders and not ended.status:
-            finish(folders[0])
         said = self.write_all(folders, self.work.stem, ended)
-        if self.options.full and folders and not ended.status and not has_failed(said.things):
-            self.add_full(folders[0])
+        if more and folders and not ended.status and not has_failed(said.things):
+            write_meta(folders[0], {**old_meta(folders[0]), **more(folders[0])})
         found, said = self.publish(said)
         if not found:
             self.tell_nothing(ended.status, said)

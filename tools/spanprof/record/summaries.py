@@ -11,7 +11,7 @@ from spanprof.command import show
 from spanprof.diagnosis.compare import compared, lines as comparison_lines
 from spanprof.diagnosis.tell import told_of
 from spanprof.errors import Fault
-from spanprof.head import Head, head_text, read_head
+from spanprof.head import Head, head_of
 from spanprof.predict.machine import machine_file
 from spanprof.predict import predictions as predicting
 from spanprof.predict.scaled import texts
@@ -27,30 +27,15 @@ MORE = "spanprof-report %s, spanprof-record --all"
 BEYOND = ("TooLong", "TooDeep", "TooMany", "input too long")
 
 
-def spread_of(numbers, unit):
-    ordered = sorted(number // unit for number in numbers)
-    return ordered[0], ordered[(len(ordered) - 1) // 2], ordered[-1]
-
-
-def take_runs(head, runs):
-    """What all runs took, of which this one is kept, in the unit of its text."""
-    unit = head.nanoseconds or 1
-    head.runs = len(runs)
-    head.spread = {name: spread_of([one[name + "_ns"] for one in runs], unit) for name in ("work", "span")}
-
-
 def answered(recording):
     """None where the text is too long for the program that is there."""
     tell("reading " + recording.name)
     try:
-        answers = Answers(recording)
+        return Answers(recording)
     except Fault as refused:
         if client.takes_any_size() or not any(limit in str(refused) for limit in BEYOND):
             raise
         return None
-    if recording.meta.get("runs"):
-        take_runs(answers.head, recording.meta["runs"])
-    return answers
 
 
 def predicted(recording, answers):
@@ -70,7 +55,7 @@ class Unmeasured(NamedTuple):
 
 def print_unmeasured(recording, news):
     """Of a text that only spanprof_large takes, where that is not found."""
-    told = Unmeasured(recording.name, read_head(head_text(recording.text)))
+    told = Unmeasured(recording.name, head_of(recording.text))
     show([title(told)] + named("remarks", remark_lines(told, [client.HOW] + list(news))))
 
 
@@ -108,7 +93,7 @@ def print_summary(session, recording, answers, others, news, scale):
     if options.all or not diagnosis:
         show(summary(answers, news + [why] * bool(why), others, lines_of(account, no_account),
                      program_of(recording.text)))
-        show(named("predicted", times))
+        show(named("losses", diagnosis.sum_lines() if diagnosis else []) + named("predicted", times))
     if options.json:
         write_json(options.json, summary_json(diagnosis and diagnosis.json(), run_json(answers, account, no_account),
                                               scale, predictions))

@@ -7,7 +7,7 @@ from spanprof.claims import (OTHERWISE, against_parallelism, against_span, gain_
                              is_divided, is_of_one_thread, is_partial, least_end, lock_binds, pieces_words,
                              share_covered, tasks_made, tenths, why_not_of_more_threads)
 from spanprof.client import Refused
-from spanprof.head import part_of_program, with_function
+from spanprof.head import grouped, part_of_program, with_function
 from spanprof.proof import proved
 from spanprof.record.program_lines import program_line
 from spanprof.report.figures import rounded_down, rounded_up
@@ -18,10 +18,6 @@ THREADS = (2, 4, 8, 16)
 CLOCKS = {"wall": " of wall time", "cpu": " of processor time"}
 MOST_PLACES = 3
 LESS_HELD = "another run may hold it for less (warnings)"
-
-
-def grouped(number):
-    return "{:,}".format(number)
 
 
 def threads_of(head):
@@ -57,12 +53,10 @@ def tasks_line(answers):
         grouped(answers.span_numbers["segments"]))
 
 
-def runs_line(head, takes_several=True):
-    """`--runs` takes no recording that is beyond the limits of the ten commands."""
-    if head.runs and head.runs > 1:
-        return "%d, and each cost is %s (measured)" % (
-            head.runs, "the median of theirs" if head.is_median else "that of the run with the median elapsed time")
-    return "1" + ("; --runs 9 measures the variation" if takes_several else "")
+def runs_line(head):
+    if head.runs:
+        return "%d, and each cost is that of the run with the median elapsed time (measured)" % head.runs
+    return "1; --runs 9 measures the variation"
 
 
 def proved_of_text(head):
@@ -73,7 +67,7 @@ def proved_of_text(head):
 def with_spread(number, name, head):
     """A sum of the text, and beside it the least and the most of several runs."""
     words, spread = costs(number, head, name == "span"), head.spread.get(name)
-    if not spread or not head.runs:
+    if not spread:
         return words
     return "%s (%s to %s in %d runs)" % (words, costs(spread[0], head), costs(spread[-1], head), head.runs)
 
@@ -191,26 +185,17 @@ def named(name, lines):
     return ["%-13s %s" % (name if i == 0 else "", line) for i, line in enumerate(lines)]
 
 
-def first_lines(answers, tasks, takes_several=True):
-    """Those that a text of any size has."""
+def summary(answers, news=(), others=(), account=(), program=None):
     return [title(answers)] \
+        + named("program", [program_line(program)] if program and program.regions else []) \
         + named("covers", [covers_line(answers.head)]) \
-        + named("tasks", [tasks]) \
-        + named("runs", [runs_line(answers.head, takes_several)]) \
+        + named("tasks", [tasks_line(answers)]) \
+        + named("runs", [runs_line(answers.head)]) \
         + named("work", [work_line(answers)]) \
         + named("span", [span_line(answers)]) \
         + named("parallelism", [parallelism_line(answers)]) \
         + named("elapsed", [elapsed_line(answers)]) \
-        + named("both clocks", clock_lines(answers.head))
-
-
-def program_lines(program):
-    return named("program", [program_line(program)] if program and program.regions else [])
-
-
-def summary(answers, news=(), others=(), account=(), program=None):
-    heading, *lines = first_lines(answers, tasks_line(answers))
-    return [heading] + program_lines(program) + lines \
+        + named("both clocks", clock_lines(answers.head)) \
         + named("breakdown", account) \
         + named("threads", threads_lines(answers)) \
         + named("locks", lock_lines(answers, answers.curve[max(THREADS)]["least"])) \

@@ -10,8 +10,6 @@ LARGER_UNIT = "choose a larger --unit"
 WAYS = {"items": "give each task fewer depend items", "piece": LARGER_UNIT, "work": LARGER_UNIT}
 STOPPED = {"full": "the disk was full", "numbers": "there were more tasks than numbers",
            "unwritable": "the log could not be written"}
-NO_REPLAY = {"unfinished": "since tasks did not run to their ends",
-             "workers": "since it holds 64 workers and the run had %(workers)d"}
 NO_TIMES = {"unfinished": "since tasks did not run to their ends",
             "whole": "since several of its threads meet regions, or it has too many tasks and chunks"}
 
@@ -27,11 +25,8 @@ def times_of(told):
 
 
 def text(told):
-    replay = " and " + told["replay"] if "replay" in told else ""
-    if "no replay" in told:
-        replay = "; no replay document, " + NO_REPLAY[told["no replay"]] % told
-    return "%s%s%s: %d tasks, %d segments, work %d %s" % (
-        told["file"], replay, times_of(told), told["tasks"], told["segments"], told["work"], told["unit"])
+    return "%s%s: %d tasks, %d segments, work %d %s" % (
+        told["file"], times_of(told), told["tasks"], told["segments"], told["work"], told["unit"])
 
 
 def too_large(told):

@@ -8,28 +8,22 @@ from spanprof.command import Console, check_files, count, end_with, naming, perc
 from spanprof.diagnosis.compare import as_json as comparison_json, compared, is_slower, lines as comparison_lines
 from spanprof.diagnosis.tell import told_of
 from spanprof.errors import Fault
-from spanprof.head import head_text, said
 from spanprof.recording import open_recording, text_of
-from spanprof.regions import program_of, table_beside
 from spanprof.report.live import module
 from spanprof.report.page import page
-from spanprof.report.program_page import program_page, texts
 from spanprof.report.speedscope import speedscope_text
 from spanprof.report.summary_json import summary_json
 from spanprof.report.trace_events import trace_text
 from spanprof.report.view import View
-from spanprof.report.what_if import all_at_once, read_factors
 from spanprof.version import Version
 
 DESCRIPTION = "Writes one page (HTML that needs no other file and no network) on a program text of spanprof."
 AFTER = """Exit status 1: a file or a place is missing, a file cannot be written, or a text is refused; 2: wrong arguments;
 3: slower by more than --fail-above."""
 SLOWER = 3
-ANSWER = ("work", "span", "was")
 LONGEST_WORDS = 100
 MOST_THREADS = 1024
-OF_ONE_TEXT = ("other", "trace", "speedscope", "factor", "json", "replay", "live")
-NOT_OF_A_LONG_TEXT = ("trace", "replay", "live")
+NOT_OF_A_LONG_TEXT = ("trace", "live")
 
 
 def beside(text):
@@ -54,14 +48,11 @@ def arguments(words):
     add("--fail-above", type=percent, metavar="5%", help="exit with status 3 where AFTER is slower by more than that")
     add("-o", "--output", metavar="MINE.html",
         help="the page; without it, and where nothing else is asked for, it is MINE.html")
-    add("--replay", metavar="MINE.replay", help="the recorded run; without it the one next to the text, if any")
     add("--with", dest="other", metavar="OTHER.spanprof", help="a second recording or text, compared with the first")
     add("--threads", type=count(1, MOST_THREADS), metavar="P",
         help="of the greedy schedule; without it as many as were recorded")
     add("--source", action="append", metavar="FOLDER",
         help="where the source is; without it next to the text, and here")
-    add("--factor", action="append", default=[], metavar="PLACE=F",
-        help="what if the costs at PLACE were F times as much; may be given several times")
     add("--live", action="store_true",
         help="the page carries spanprof as a WebAssembly module, which answers factors, threads, dropped waits at once")
     add("--trace", metavar="FILE.json", help="the runs as a trace for ui.perfetto.dev")
@@ -79,9 +70,7 @@ def check_words(parser, chosen):
         parser.error("--fail-above compares two recordings: name a second one")
     if chosen.after:
         return
-    if chosen.json and chosen.factor and not chosen.output:
-        parser.error("--json prints the summary, and --factor without -o its answer: ask for one of them")
-    if not (chosen.output or chosen.trace or chosen.speedscope or chosen.factor or chosen.json):
+    if not (chosen.output or chosen.trace or chosen.speedscope or chosen.json):
         chosen.output = beside(chosen.program)
     if chosen.live and not chosen.output:
         parser.error("--live is for the page (-o)")
@@ -114,26 +103,17 @@ class Progress:
         show(["spanprof-report: written: %s" % path for path in written], self.stream)
 
 
-def print_factors(view, factors):
-    """Remarks first, then how many segments change, and spanprof's answer."""
-    remarks = said(head_text(view.answers.path))
-    changed = sum(1 for place, _ in factors for s in place.segments if view.answers.rows.cost[s])
-    after = all_at_once(view, factors)
-    count = "%d segment%s changed" % (changed, "" if changed == 1 else "s")
-    print("\n".join([*remarks, count, *("%s %d" % (name, after[name]) for name in ANSWER)]))
-
-
 def views_of(chosen, tell):
-    views = [View(chosen.program, chosen.replay, chosen.threads, chosen.source, tell=tell)]
+    views = [View(chosen.program, chosen.threads, chosen.source, tell=tell)]
     if chosen.other:
-        views.append(View(chosen.other, None, chosen.threads, chosen.source, "other ", tell))
+        views.append(View(chosen.other, chosen.threads, chosen.source, "other ", tell))
     return views
 
 
-def write_all(chosen, views, factors):
+def write_all(chosen, views):
     """What was asked for; what was written is told."""
     wasm = module() if chosen.live else None
-    written = [(chosen.output, lambda: page(views, factors, wasm)), (chosen.trace, lambda: trace_text(views[0])),
+    written = [(chosen.output, lambda: page(views, wasm)), (chosen.trace, lambda: trace_text(views[0])),
                (chosen.speedscope, lambda: speedscope_text(views[0]))]
     for path, make in written:
         if path:
@@ -152,33 +132,14 @@ def refuse_of_a_long_text(chosen, view):
 def write_the_rest(chosen, progress):
     views = views_of(chosen, progress)
     refuse_of_a_long_text(chosen, views[0])
-    try:
-        factors = read_factors(chosen.factor, views[0].places)
-    except Fault as wrong:
-        raise Fault("--factor %s" % wrong) from wrong
-    if factors and not chosen.output:
-        print_factors(views[0], factors)
     if chosen.json:
         print(json.dumps(summary_json(views[0]), indent=2))
-    progress.end(write_all(chosen, views, factors))
-
-
-def write_program_page(chosen, progress):
-    """Where the first text of a recording of several is named, and its page alone is asked for. Says whether it is."""
-    if any(getattr(chosen, option) for option in OF_ONE_TEXT) or (table_beside(chosen.program) or ("", 0))[1] != 1:
-        return False
-    program = program_of(chosen.program)
-    found = texts(program, chosen.program)
-    if not found or len(program.texts) == 1:
-        return False
-    write(chosen.output, program_page(program, found, chosen, progress))
-    progress.end([chosen.output])
-    return True
+    progress.end(write_all(chosen, views))
 
 
 def check(chosen):
     """Whether all files and folders are there, and none of the files would be lost."""
-    for path in (chosen.program, chosen.replay, chosen.other):
+    for path in (chosen.program, chosen.other):
         for output, what in outputs(chosen) or [(None, "")]:
             if path is not None:
                 check_files(path, output, what)
@@ -203,9 +164,7 @@ def answer(chosen):
     chosen.program = text_of(chosen.program)
     chosen.other = chosen.other and text_of(chosen.other)
     check(chosen)
-    progress = Progress(sys.stderr)
-    if not write_program_page(chosen, progress):
-        write_the_rest(chosen, progress)
+    write_the_rest(chosen, Progress(sys.stderr))
 
 
 def main(words):

@@ -4,9 +4,10 @@ A source is written in a few words that the tests read again: `span work`, `curv
 `whatif 3 0.5 span`. `A - B` is a difference, `A / B` a quotient, `percent A / B` the same in per cent. `other` before
 all of it means the second program of the page, and `change A` how that differs from the first in per cent.
 """
+from spanprof.head import Head
 from spanprof.proof import proved
 from spanprof.report.markup import join, tag
-from spanprof.report.units import grouped
+from spanprof.report.units import Units, grouped
 
 MEASURED, RECORDED, PROVED, DECLARED = "measured", "recorded", "proved", "declared"
 PREDICTED, BURDENED = "predicted", "burdened"
@@ -95,6 +96,11 @@ class Figures:
         """The same of one time, in a human unit."""
         words, scale = self.units.shown(value)
         return self.told(name, words, [source], data_scale=None if scale == 1 else "%.12g" % scale, **attributes)
+
+
+def in_nanoseconds(prefix):
+    """Of times in that unit, whatever the unit of the text."""
+    return Figures(prefix, Units(Head(unit="ns")))
 
 
 def badge(kind):

@@ -43,9 +43,3 @@ def note(*pieces):
 
 def details(summary, *pieces, is_open=False, class_=None):
     return tag("details", tag("summary", summary), *pieces, open="" if is_open else None, class_=class_)
-
-
-def within(prefix, piece):
-    """The piece with this before each name of an element in it, and before what leads to one."""
-    names = re.compile(r' (id|for|aria-labelledby|data-copy)="(?=[^"])| (href)="#(?=[^"])')
-    return Markup(names.sub(lambda found: found[0] + prefix, piece))

@@ -2,6 +2,7 @@
 import json
 import os
 
+from spanprof.predict.scaled import SCALE
 from spanprof.proof import proved
 from spanprof.report.colours import colour_rules
 from spanprof.report.live import Live
@@ -13,14 +14,13 @@ from spanprof.report.part_curve import curve_part
 from spanprof.report.part_graph import graph_part
 from spanprof.report.part_nesting import nesting_part
 from spanprof.report.part_path import path_part
-from spanprof.report.part_program import whole_part
+from spanprof.report.part_program import program_part
 from spanprof.report.part_source import source_part
 from spanprof.report.part_summary import summary_part
 from spanprof.report.part_tasks import tasks_part
 from spanprof.report.part_timeline import timeline_part
 from spanprof.report.part_what_if import what_if_part
 from spanprof.report.timeline_data import timeline_data
-from spanprof.report.true_times import scale_name
 from spanprof.report.what_if import Trials
 
 HERE = os.path.dirname(os.path.abspath(__file__))
@@ -38,8 +38,7 @@ def asked_part(views):
     shown = [line for line in words if not line.startswith("spanprof whatif")]
     if changed:
         shown.append("spanprof whatif SEGMENT=COST .., %d times" % changed)
-    shown += ["spanprof-record --scale, in " + scale_name(view.answers)
-              for view in views if view.scale]
+    shown += ["spanprof-record --scale, in %s/%s" % (view.name, SCALE) for view in views if view.scale]
     return section("sources", "Where the numbers come from",
                    tag("p", "Every number is what one of these commands printed, or a sum, difference or quotient of "
                             "such numbers, or it stands in the head of the text or in the table of times; its tooltip "
@@ -60,27 +59,26 @@ def left_out(views):
                " answer questions about it.") if any(view.is_long for view in views) else ""
 
 
-def timelines(views, first):
+def timelines(views):
     out = []
     for number, view in enumerate(views):
         name, label = ("timeline-other", "The other's timeline") if number else ("timeline", "Timeline")
         title = "Timeline of " + view.name if len(views) > 1 else "Timeline"
-        out.append((name, label, timeline_part(view, first + number, name, title)))
+        out.append((name, label, timeline_part(view, number, name, title)))
     return out
 
 
-def parts(views, factors, trials, live=None, first=0, is_alone=True):
-    """Of each part the name, the words that lead to it, and the part. Some texts have not all of them. `first` is the
-    number of the first view on the page; where they are not alone on it, the whole program has a part of its own."""
+def parts(views, trials, live=None):
+    """Of each part the name, the words that lead to it, and the part. Some texts have not all of them."""
     view = views[0]
     of = " of " + view.name if len(views) > 1 else ""
     made = [("summary", "Summary", summary_part(view, trials, of)),
-            ("program", "The whole program", whole_part(view) if is_alone else ""),
+            ("program", "The whole program", program_part(view.program)),
             ("compared", "Side by side", compare_part(views) if len(views) > 1 else ""),
             ("idle", "Idle time", idle_part(view, of)),
-            ("speedup", "Speedup", curve_part(views)), *timelines(views, first),
+            ("speedup", "Speedup", curve_part(views)), *timelines(views),
             ("path", "Critical path", path_part(view, of)), ("changes", "Changes", changes_part(view, of)),
-            ("what-if", "What if", what_if_part(view, trials, factors, of, live, first)),
+            ("what-if", "What if", what_if_part(view, trials, of, live)),
             ("tasks", "Tasks", tasks_part(view, of)),
             ("nesting", "Nesting", nesting_part(view, of)), ("source", "Source", source_part(view, of)),
             ("graph", "Graph", graph_part(view, of)), ("sources", "Sources", asked_part(views))]
@@ -104,7 +102,7 @@ def as_script(found):
 
 
 SCRIPTS = ("data.js", "level_run.js", "stretch.js", "ready.js", "drawing.js", "words.js", "chosen.js", "lanes.js",
-           "levels.js", "controls.js", "tables.js", "graph.js", "changes.js", "factors.js", "titles.js", "chapters.js")
+           "levels.js", "controls.js", "tables.js", "graph.js", "changes.js", "factors.js", "titles.js")
 LIVE_SCRIPTS = ("module.js", "changed_text.js", "live.js")
 
 
@@ -122,22 +120,18 @@ def filled(text, pieces):
     return "".join(out)
 
 
-def filled_in(title, contents, body, found, live=None):
-    """The page of what leads to its parts, of these, and of what its script needs."""
+def whole(title, made, found, live=None):
+    """The page of parts, each with its name and the words that lead to it, and of what its script needs."""
+    contents = [tag("a", label, href="#" + name) for name, label, _ in made]
     return filled(kept("page.html"), {
-        "title": markup(title), "parts": join(contents), "main": body, "data": as_script(found),
+        "title": markup(title), "parts": join(contents), "main": join([part for _, _, part in made], "\n"),
+        "data": as_script(found),
         "live": live_element(live), "style": colour_rules() + kept("style.css"), "theme": kept("theme.js"),
         "script": "\n".join(map(kept, SCRIPTS + (LIVE_SCRIPTS if live else ())))})
 
 
-def whole(title, made, found, live=None):
-    """The page of parts, each with its name and the words that lead to it."""
-    return filled_in(title, [tag("a", label, href="#" + name) for name, label, _ in made],
-                     join([part for _, _, part in made], "\n"), found, live)
-
-
-def page(views, factors=(), module=None):
+def page(views, module=None):
     """The whole page as text. With the module it answers what its boxes ask."""
     trials, live = Trials(views[0]), Live(views[0], module) if module else None
-    made = parts(views, list(factors), trials, live)
+    made = parts(views, trials, live)
     return whole(" and ".join(view.name for view in views), made, data(views), live and live.data(trials))

@@ -2,13 +2,13 @@
 from spanprof.claims import gain_may_be_less, gain_may_be_more, least_end, why_not_of_more_threads
 from spanprof.report.figures import MEASURED, PROVED, badges
 from spanprof.report.markup import details, join, note, section, tag
-from spanprof.report.part_gap import gap_part
 from spanprof.report.tables import table
 from spanprof.report.true_times import keys as true_keys, marks as true_marks, shown_points
 
 WIDTH, HEIGHT = 720, 380
 COLUMNS = (("end", "the greedy schedule ends at"), ("least", "no run before"), ("bound", "no greedy schedule after"))
 LEFT, RIGHT, TOP, BOTTOM = 60, 16, 16, 56
+REACHED = "work / elapsed of the recorded run"
 
 
 class Axes:
@@ -111,10 +111,9 @@ def reached_mark(axes, view, colour):
     if not reached or reached.threads > axes.most_threads:
         return ""
     x, y = axes.x(reached.threads), axes.y(reached.speed_up)
-    words = "%d threads: %.2f, %s" % (reached.threads, reached.speed_up, reached.words)
-    title = view.figures.told("title", words, ["threads", "span work / " + reached.source])
-    hollow = "" if reached.is_elapsed else " hollow"
-    return tag("path", title, d="M%g %gl7 7l-7 7l-7 -7z" % (x, y - 7), class_="reached " + colour + hollow)
+    words = "%d threads: %.2f, %s" % (reached.threads, reached.speed_up, REACHED)
+    title = view.figures.told("title", words, ["threads", "span work / elapsed"])
+    return tag("path", title, d="M%g %gl7 7l-7 7l-7 -7z" % (x, y - 7), class_="reached " + colour)
 
 
 def most_shown(views):
@@ -147,8 +146,7 @@ def keys(view, colour, name):
     if lock_limit(view.answers):
         items.append(tag("span", tag("i", class_="key limit"), name, "work / time inside the most held lock"))
     if view.reached:
-        hollow = "" if view.reached.is_elapsed else " hollow"
-        items.append(tag("span", tag("i", class_="key diamond " + colour + hollow), name, view.reached.words))
+        items.append(tag("span", tag("i", class_="key diamond " + colour), name, REACHED))
     return items + true_keys(view, name)
 
 
@@ -209,5 +207,4 @@ def curve_part(views):
                         badges(PROVED), ". A run of the text that leaves no thread idle while a segment is ready lies "
                         "in the band, whatever its order; tied tasks can force a thread to idle. The diamond is how "
                         "many threads were busy in this code on average ", badges(MEASURED), "."),
-                   *[limits(view) for view in views], *tables,
-                   *[gap_part(view, view.name + ", " if len(views) > 1 else "") for view in views])
+                   *[limits(view) for view in views], *tables)

@@ -1,17 +1,12 @@
 """The first screen: one sentence, three times, where the threads' time went, the change as a diff, the plan."""
 from spanprof.account_words import lasting
-from spanprof.diagnosis.sentences import change_sentence, lost_sentence, speed_words, sure_words, unsure
+from spanprof.diagnosis.sentences import (change_sentence, loss_name, lost_sentence, speed_words, sure_words,
+                                          unsure)
 from spanprof.diagnosis.source_change import diff
 from spanprof.report.markup import join, tag
 
 LEAST = 0.04        # of the threads' time, from which on a loss is a part of the bar, and a part has room for words
 MOST_PARTS = 4
-WORDS = {"serial": "serial", "too_few_tasks": "too few tasks", "dependence": "dependences", "wait": "waits",
-         "imbalance": "uneven tasks", "small_tasks": "small tasks", "creation": "creating tasks",
-         "undeferred": "undeferred tasks", "loop_schedule": "loop schedule", "lock": "lock", "exclusion": "exclusion",
-         "memory": "memory", "system": "operating system", "sleep": "asleep", "too_few_threads": "too few threads",
-         "too_many_threads": "too many threads", "machine": "busy machine", "recorder": "recorder",
-         "startup": "startup"}
 
 
 def headline(found):
@@ -44,8 +39,7 @@ def parts(told):
     facts, out = found.facts, [("in code", found.facts.share(found.code_on_one), "of-code")]
     for loss in found.losses[:MOST_PARTS]:
         if facts.share(loss.time) >= LEAST:
-            place = told.names.place(loss.place).partition(" (")[0] if loss.place else ""
-            out.append((": ".join(filter(None, [WORDS[loss.kind], place])), facts.share(loss.time), "of-loss"))
+            out.append((loss_name(told.names, loss).partition(" (")[0], facts.share(loss.time), "of-loss"))
     rest = 1 - sum(share for _, share, _ in out)
     return out + [("the rest", rest, "of-rest")] * (rest >= 0.005)
 

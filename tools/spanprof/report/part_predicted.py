@@ -1,14 +1,7 @@
 """How long the program would take: times by the model of the machine, beside what is proved of the burdened text."""
-from spanprof.head import Head
 from spanprof.predict.words import MODEL, at_least, burden_words, notes_on
-from spanprof.report.figures import BURDENED, PREDICTED, Figures, badges
+from spanprof.report.figures import BURDENED, PREDICTED, badges, in_nanoseconds
 from spanprof.report.markup import Markup, join, note, tag
-from spanprof.report.units import Units
-
-
-def figures_of(view):
-    """The times are in nanoseconds, whatever the unit of the text."""
-    return Figures(view.figures.prefix, Units(Head(unit="ns")))
 
 
 def numbers(show, one, least, named):
@@ -24,7 +17,7 @@ def time_words(show, one, least, named):
 
 def short_words(view, one, least, named):
     """Below a head that says what they are."""
-    return Markup("%s (%s to %s), %s" % numbers(figures_of(view), one, least, named))
+    return Markup("%s (%s to %s), %s" % numbers(in_nanoseconds(view.figures.prefix), one, least, named))
 
 
 def line(view, show, one, least):
@@ -36,7 +29,8 @@ def line(view, show, one, least):
 
 def predicted_words(view):
     """Nothing without a model of the machine."""
-    told, show, title = view.predicted, figures_of(view), tag("h3", "How long it would take ", badges(PREDICTED))
+    told, show = view.predicted, in_nanoseconds(view.figures.prefix)
+    title = tag("h3", "How long it would take ", badges(PREDICTED))
     if told.why_not:
         return join([title, tag("p", "Not told: ", tag("span", told.why_not, class_="given"), ".", class_="predicted")])
     if not told.found:

@@ -1,10 +1,8 @@
 """The whole program: where its time went from its beginning to its end, in which regions and outside of them."""
-from spanprof.head import Head
 from spanprof.regions import place_name
-from spanprof.report.figures import MEASURED, RECORDED, Figures, badge, percent
+from spanprof.report.figures import MEASURED, RECORDED, badge, in_nanoseconds, percent
 from spanprof.report.markup import breakable, join, note, section, tag
 from spanprof.report.tables import bar, table
-from spanprof.report.units import Units
 from spanprof.report.view import COLOURS
 
 BINS, HIGH = 600, 34
@@ -14,11 +12,6 @@ HOW = "From left to right in the order of time. A column is as high as the share
       "and has their colours; what is blank passed outside of them."
 HEADS = ("part of the program", "times", "elapsed in all", "of the program's time", "the median one", "threads",
          "in code", "tasks", "loops")
-
-
-def figures_of():
-    """The table's times are in nanoseconds, whatever the unit of the texts."""
-    return Figures("program ", Units(Head(unit="ns")))
 
 
 def colour_of(number):
@@ -64,33 +57,20 @@ def picture(program):
     return tag("figure", drawn)
 
 
-def which(place, chapter):
-    """Which of them stands on the page, where there are several."""
-    shown = place.shown
-    if len(place.regions) == 1 or not shown:
-        return ""
-    number = 1 + place.regions.index(shown)
-    return "the median in code: number %d of %d" % (number, len(place.regions)) if chapter else ""
-
-
-def name_cell(place, chapter):
-    """With the link to its part of the page."""
+def name_cell(place):
     key = tag("i", class_="key square c%d" % colour_of(place.number))
-    name = breakable(place_name(place.name))
-    link = tag("a", name, href="#" + chapter.link) if chapter else name
-    words = [which(place, chapter), place.is_inside and "inside other regions"]
-    return tag("span", key, tag("span", link, class_="place"),
-               *[tag("span", line, class_="given below") for line in words if line], class_="where")
+    inside = tag("span", "inside other regions", class_="given below") if place.is_inside else ""
+    return tag("span", key, tag("span", breakable(place_name(place.name)), class_="place"), inside, class_="where")
 
 
 def share_cell(show, part, whole, source):
     return join([show.share(part, whole, source, MEASURED), bar(percent(part, whole))])
 
 
-def place_row(program, place, chapter, show):
+def place_row(program, place, show):
     named, threads = "place %d " % place.number, sorted({region.threads for region in place.regions})
     on = str(threads[0]) if len(threads) == 1 else "%d to %d" % (threads[0], threads[-1])
-    return [name_cell(place, chapter), show.number(len(place.regions), named + "count", RECORDED),
+    return [name_cell(place), show.number(len(place.regions), named + "count", RECORDED),
             show.time(place.outermost, named + "elapsed", MEASURED),
             share_cell(show, place.outermost, program.elapsed, named + "elapsed / elapsed"),
             show.time(place.median, named + "median", MEASURED), tag("span", on, class_="given"),
@@ -126,30 +106,13 @@ def lead_words(program, show):
                badge(MEASURED), ".", class_="lead")
 
 
-def which_are_told(program, is_whole):
-    """What the rest of the page is of."""
-    if is_whole:
-        return " What follows is of the whole program, as one text."
-    if any(len(place.regions) > 1 for place in program.places):
-        return " Regions that begin at one place are added up; what stands on this page of them is the one that is " \
-            "the median in code."
-    return ""
-
-
-def whole_part(view):
-    """On the page of one text."""
-    return program_part(view.program, is_whole=bool(view.answers.head.whole))
-
-
-def program_part(program, chapters=(), is_whole=False):
-    """`chapters` are the parts of the page on its regions, by the number of their place; `is_whole` is whether its text
-    is of the whole program."""
+def program_part(program):
+    """Nothing without a table of its regions."""
     if not program or not program.regions:
         return ""
-    show, by_place = figures_of(), {chapter.place: chapter for chapter in chapters}
-    rows = [outside_row(program, show)] + [place_row(program, place, by_place.get(place.number), show)
-                                           for place in program.places]
+    show = in_nanoseconds("program ")
+    rows = [outside_row(program, show)] + [place_row(program, place, show) for place in program.places]
     return section("program", "The whole program", lead_words(program, show), picture(program), note(HOW),
                    table(HEADS, rows, numeric=range(1, len(HEADS)), is_sortable=True),
-                   note("Times of the wall clock ", badge(MEASURED), ". In code: of the threads' time, without waits.",
-                        which_are_told(program, is_whole)))
+                   note("Times of the wall clock ", badge(MEASURED), ". In code: of the threads' time, without waits. "
+                        "What follows is of the whole program, as one text."))

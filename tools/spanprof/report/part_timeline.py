@@ -19,11 +19,9 @@ def title(name, threads, end, busy, kinds):
 
 
 def recorded_title(view):
-    """The run stands as it was only where its times are recorded."""
     run, show, kind = view.run, view.figures, view.cost_kind
     busy = sum(end - start for start, end in zip(run.starts, run.ends))
-    name = "The run as it was" if run.is_timed else "The recorded run, in the order of the replay"
-    return title(name, run.count, show.time(round(run.end), "run end", kind),
+    return title("The run as it was", run.count, show.time(round(run.end), "run end", kind),
                  show.share(busy, run.count * run.end, "run busy / run time", kind), [RECORDED, kind])
 
 
@@ -33,10 +31,9 @@ def until_the_end(view):
     if not elapsed or elapsed <= round(run.end):
         return ""
     show = view.figures
-    words = AFTER_THE_LAST if run.is_timed else NOT_IN_THE_ORDER
     return note("From the region's beginning to its end ", show.time(elapsed, "elapsed", MEASURED),
                 " elapsed ", badge(MEASURED), ", ",
-                show.time(elapsed - round(run.end), "elapsed - run end", MEASURED), words)
+                show.time(elapsed - round(run.end), "elapsed - run end", MEASURED), AFTER_THE_LAST)
 
 
 def greedy_title(view):
@@ -116,21 +113,13 @@ def long_part(view, program, name, title):
 
 TIMED = "Each bar stands where the recorder's clock saw it. A gap is a thread that waited, slept, or was in the " \
     "runtime."
-IN_ORDER = "The recorded run is drawn by the order of the replay and the costs of the text, and not by times. So " \
-    "each segment stands as early as its thread, in the recorded order, and the segments that it waits for allow. A " \
-    "gap is a wait for another segment; the runtime's own time is not shown, nor that a thread slept while something " \
-    "was ready."
-
-
+UNTIMED = "There are no recorded times of its segments%s. So there is only the greedy schedule to show."
 AFTER_THE_LAST = " of it after the last segment, while the threads came to the region's end."
-NOT_IN_THE_ORDER = " more than the costs in this order need: the runtime's own time, and that of threads that slept " \
-    "or had no processor."
 
 
 def how_to_read(view):
-    words = TIMED if view.run and view.run.is_timed else IN_ORDER
-    if not view.run:
-        words = tag("span", view.without_run + " So there is only the greedy schedule to show.", class_="given")
+    why = ": " + view.without_account if view.without_account else ""
+    words = TIMED if view.run else tag("span", UNTIMED % why, class_="given")
     keys = join([join([tag("kbd", key), " ", what]) for key, what in KEYS], ", ")
     return details("How to read it", note(words), note(HANDS), note("Keys, once a timeline has the focus: ", keys, "."))
 

@@ -4,7 +4,7 @@ from spanprof.report.figures import PROVED, badges
 from spanprof.report.live import live_line
 from spanprof.report.markup import note, section, tag
 from spanprof.report.tables import place_cell, table
-from spanprof.report.what_if import FACTORS, all_at_once
+from spanprof.report.what_if import FACTORS
 
 
 def is_on_threads(view):
@@ -43,36 +43,22 @@ def row(view, trials, place):
     return cells + [factor_box(place)]
 
 
-def asked_for(view, factors):
-    """The answer to the factors that the command line gave."""
-    if not factors:
-        return ""
-    after, show = all_at_once(view, factors), view.figures
-    words = ", ".join("%s times %g" % (place.name, factor) for place, factor in factors)
-    source = "factors %s" % " ".join("%d=%g" % (place.number, factor) for place, factor in factors)
-    return tag("p", tag("b", "As asked: "), tag("span", words, class_="given"), ". Work ",
-               show.time(after["work"], source + " work", PROVED), ", span ",
-               show.time(after["span"], source + " span", PROVED), ", which was ",
-               show.time(view.answers.span, "span span", PROVED), ".", class_="asked")
-
-
 def line_to_run(name, file):
     copy = tag("button", "copy", type="button", data_copy=name)
     return tag("pre", tag("code", id=name, data_file=file), copy)
 
 
-def lines_to_run(view, program):
-    """The script fills them in; `program` is the number of the program on the page."""
+def lines_to_run(view):
+    """The script fills them in."""
     return tag("div", tag("p", "Set factors in the last column: the lines that ask for the exact span come here.",
                           class_="hint"),
                tag("p", "For the exact span run:"), line_to_run("factors-line", view.name),
                tag("p", "Or, with spanprof alone, the same with each segment's changed cost:"),
-               line_to_run("changes-line", view.name), class_="to-run", data_program=program)
+               line_to_run("changes-line", view.name), class_="to-run")
 
 
-def what_if_part(view, trials, factors, of="", live=None, program=0):
-    """`of` names the program where the page has two; `program` is its number there. `live` is what answers at once.
-    Nothing of a long text."""
+def what_if_part(view, trials, of="", live=None):
+    """`of` names the program where the page has two. `live` is what answers at once. Nothing of a long text."""
     if view.is_long:
         return ""
     trials.ask_all(is_on_threads(view))
@@ -86,6 +72,6 @@ def what_if_part(view, trials, factors, of="", live=None, program=0):
         "The span of the text, and where its greedy schedule ends, if every segment at a place cost half as much, or "
         "nothing: answers of ", tag("code", "spanprof whatif"), " and ", tag("code", "greedy"), " ", badges(PROVED),
         ". Odd costs are rounded to the nearest whole number, halves to even ones."),
-        asked_for(view, factors), table(heads, rows, numeric=range(1, len(heads)), is_sortable=True),
+        table(heads, rows, numeric=range(1, len(heads)), is_sortable=True),
         note(more, " more places are left out.") if with_cost > len(rows) else "", live_line(live) if live else "",
-        lines_to_run(view, program))
+        lines_to_run(view))

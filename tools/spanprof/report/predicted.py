@@ -6,8 +6,7 @@ from spanprof.errors import Fault
 from spanprof.predict.machine import machine_file, read_machine
 from spanprof.predict.predictions import by_the_model, of_changed
 from spanprof.predict.recorded import recorded
-from spanprof.predict.scaled import chosen_of, texts, together
-from spanprof.recording import folder_of
+from spanprof.predict.scaled import texts, together
 from spanprof.text import statements, text_lines
 from spanprof.whatif.requests import applied, changes
 from spanprof.whatif.survey import survey
@@ -22,17 +21,12 @@ class Predicted(NamedTuple):
     why_not: str = ""
 
 
-def recordings(path, told):
-    """Those that were made with the text, or it alone; of a whole program those of its region."""
-    return texts(path).paths if folder_of(path) else chosen_of(told, os.path.dirname(path)).paths or [path]
-
-
-def predicted(answers, told):
-    """On the page's threads and on twice as many. `told` is what was measured on several numbers of threads."""
+def predicted(answers):
+    """On the page's threads and on twice as many."""
     if not answers.head.is_measured or answers.is_long or not os.path.exists(machine_file()):
         return Predicted([])
     try:
-        found = by_the_model(recordings(answers.path, told), [answers.threads, 2 * answers.threads])
+        found = by_the_model(texts(answers.path).paths, [answers.threads, 2 * answers.threads])
     except Fault as why:
         return Predicted([], why_not=str(why))
     return Predicted(found[2], found[1]) if found else Predicted([])

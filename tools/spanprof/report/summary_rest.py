@@ -11,8 +11,6 @@ def remarks(view, name="remarks"):
     head = view.answers.head
     items = [tag("li", words) for words in head.remarks]
     items += [tag("li", "lock ", words, ". One thread at a time is inside.") for words in head.locks]
-    if view.without_run.startswith("spanprof refuses"):
-        items.append(tag("li", view.without_run))
     if not items:
         return ""
     return tag("div", tag("h3", "Warnings of the recording"), tag("ul", *items), class_="remarks given", id=name,

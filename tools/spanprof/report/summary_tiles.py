@@ -21,7 +21,7 @@ def moved(view, *names):
 def spread(view, name):
     """Between which numbers several runs were."""
     head = view.answers.head
-    if name not in head.spread or not head.runs:
+    if name not in head.spread:
         return ""
     least, _, most = head.spread[name]
     words = view.units.words

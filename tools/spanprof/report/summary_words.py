@@ -12,8 +12,8 @@ def recorded_words(view):
     clock = {"cpu": "processor time", "wall": "wall time"}.get(head.clock, head.clock)
     unit = "costs in %s of %s" % (view.unit.replace("× ", ""), clock) if head.unit else \
         "costs as the text declares them: nothing says that they were measured"
-    runs = ("the median of %d runs" if head.is_median else "one of %d runs, which have no median") % head.runs \
-        if head.runs else "one run" if head.is_measured else ""
+    runs = "the one of %d runs with the median elapsed time" % head.runs if head.runs else \
+        "one run" if head.is_measured else ""
     parts = ["recorded from %s" % head.program if head.program else "",
              "the whole program: %s" % head.whole if head.whole else "",
              "the parallel region at %s" % head.region if head.region else "", head.date,
@@ -35,7 +35,7 @@ def covered(view):
     only = "only " if is_partial(head) and not head.covers_at_most else ""
     words = "The text has %s%s in code%s." % (only, share_covered(head), "; the rest is " + rest if rest else "")
     return tag("p", tag("span", words, class_="given"), " ", badge(MEASURED),
-               class_="recording" + " partial" * (is_partial(head) and not view.is_chapter))
+               class_="recording" + " partial" * is_partial(head))
 
 
 def on_the_threads(view):

@@ -27,9 +27,7 @@ def run_data(starts, threads, count):
 
 
 def recorded_data(run):
-    """In the unit of the costs, or where the run is timed in nanoseconds: `per` of them are one unit."""
-    if not run.is_timed:
-        return run_data(run.starts, run.workers, run.count)
+    """In nanoseconds: `per` of them are one unit of the costs."""
     data = run_data(map(run.nanoseconds, run.starts), run.workers, run.count)
     lengths = [run.nanoseconds(end) - run.nanoseconds(start) for start, end in zip(run.starts, run.ends)]
     return dict(data, lengths=packed(lengths), per=run.unit)

@@ -29,8 +29,7 @@ class Run:
 def runs_of(view):
     answers, run, out = view.answers, view.run, []
     if run:
-        title = "the run as it was" if run.is_timed else "the recorded run, in the order of the replay"
-        out.append(Run(1, title, run.starts, run.ends, run.workers, run.count))
+        out.append(Run(1, "the run as it was", run.starts, run.ends, run.workers, run.count))
     made = answers.greedy
     out.append(Run(2, "the greedy schedule", made.starts, made.ends, or_none(made.threads), answers.threads))
     return out

@@ -1,11 +1,10 @@
 """The true speedup of the program: its unrecorded runs on several numbers of threads, beside the text's curve."""
 import json
 import os
-import re
 from dataclasses import dataclass
 from typing import List
 
-from spanprof.predict.scaled import ENDING, SCALE
+from spanprof.predict.scaled import SCALE
 from spanprof.recording import folder_of
 from spanprof.report.markup import join, tag
 
@@ -23,36 +22,15 @@ class Point:
     greatest: float
 
 
-def is_time(value):
-    return isinstance(value, int) and not isinstance(value, bool)
-
-
-def is_of(answers, told):
-    """Whether it was measured with this recording: another one has another date or work."""
-    if not isinstance(told, dict) or told.get("date") != answers.head.date:
-        return False
-    is_in_folder = bool(folder_of(answers.path))
-    return is_in_folder or (told.get("text") == answers.name and told.get("work") == answers.work)
-
-
 def scale_beside(answers):
-    """What `spanprof-record --scale` wrote beside the text; None where the file is not of its recording."""
+    """What `spanprof-record --scale` wrote in the recording; None where the file is not of it."""
     folder = folder_of(answers.path)
-    path = os.path.join(folder, SCALE) if folder else re.sub(r"\.tasks$", "", answers.path) + ENDING
-    if not os.path.exists(path):
-        return None
     try:
-        with open(path, encoding="utf-8") as file:
-            told = json.load(file)
+        with open(os.path.join(folder, SCALE), encoding="utf-8") as file:
+            told = json.load(file) if folder else None
     except (OSError, ValueError):
         return None
-    return told if is_of(answers, told) else None
-
-
-def scale_name(answers):
-    """As people know that file."""
-    name = answers.name
-    return "%s/%s" % (name, SCALE) if folder_of(answers.path) else name.removesuffix(".tasks") + ENDING
+    return told if isinstance(told, dict) and told.get("date") == answers.head.date else None
 
 
 def number(value):

@@ -1,24 +1,21 @@
 """What one program brings to the page: its answers, its places, its recorded run, and the point that it reached."""
 import os
 from array import array
-from dataclasses import dataclass
 from functools import cached_property
-from typing import Optional
+from typing import NamedTuple
 
 from spanprof.account import account_beside, times_name
 from spanprof.answers import Answers
 from spanprof.diagnosis.tell import diagnosis_of
-from spanprof.errors import Fault
-from spanprof.recording import beside, folder_of, open_recording
+from spanprof.recording import folder_of, open_recording
 from spanprof.regions import place_name, program_of
 from spanprof.report.colours import BARS
 from spanprof.report.figures import DECLARED, MEASURED, RECORDED, Figures
-from spanprof.report.gap import gap_in
 from spanprof.report.level_runs import NoTimes, levels_in, levels_of_greedy
 from spanprof.report.markup import tag
 from spanprof.report.places import places, task_places
 from spanprof.report.predicted import of_changes, predicted
-from spanprof.report.recorded_run import NoRun, RecordedRun, recorded_run, run_of_rows
+from spanprof.report.recorded_run import run_of_rows
 from spanprof.report.tried import tried
 from spanprof.report.true_times import points_in, scale_beside
 from spanprof.report.units import Units
@@ -27,30 +24,19 @@ from spanprof.source_lines import stretches
 from spanprof.text import BEGINNING
 
 COLOURS = len(BARS)
-WHOLE_WITHOUT_RUN = "Of a whole program the recorder writes no run; the pages on its regions have theirs."
 
 
-@dataclass
-class Reached:
-    """How fast the recorded run was: by the clock, or else by its order and costs alone."""
+class Reached(NamedTuple):
+    """How fast the recorded run was, by the clock."""
     threads: int
-    end: int
     speed_up: float
-    is_elapsed: bool
-    source: str     # of the end
-
-    @property
-    def words(self):
-        return "work / elapsed of the recorded run" if self.is_elapsed else \
-            "the order of the replay with the costs of the text"
 
 
 class View:
     """Of a long text the run is shown in bins of time, and what would need a row or a picture of each segment is left
     out."""
-    is_chapter = False      # of a page on the whole program, which tells how much of it the text is
 
-    def __init__(self, path, replay=None, threads=None, source=None, prefix="", tell=None):
+    def __init__(self, path, threads=None, source=None, prefix="", tell=None):
         self.answers = Answers(path, threads, tell)
         self.units = Units(self.answers.head)
         self.figures = Figures(prefix, self.units)
@@ -58,8 +44,9 @@ class View:
         self.sources = Sources(source or here)
         self.places = places(self.answers)
         self.task_places = task_places(self.answers)
-        self.without_run = ""
-        self.run = None if self.is_long else self.read_run(replay)
+        self.run = None
+        if not self.is_long and self.account and self.account.rows:
+            self.run = run_of_rows(self.account, self.answers.head.nanoseconds)
 
     @property
     def is_long(self):
@@ -103,38 +90,9 @@ class View:
         return points_in(self.scale)
 
     @cached_property
-    def gap(self):
-        """What the threads did in all; None where that was not measured."""
-        return gap_in(self.scale)
-
-    @cached_property
     def reached(self):
         work, head = self.answers.work, self.answers.head
-        if head.elapsed and head.threads:
-            return Reached(head.threads, head.elapsed, work / head.elapsed, True, "elapsed")
-        if self.run and self.run.end and not self.run.is_timed:
-            return Reached(self.run.count, self.run.end, work / self.run.end, False, "run end")
-        return None
-
-    def read_run(self, replay) -> Optional[RecordedRun]:
-        path = replay or beside(self.answers.path, ".replay")
-        if not path:
-            return self.run_by_account()
-        try:
-            return recorded_run(path, self.answers)
-        except NoRun as reason:
-            if replay:
-                raise Fault(str(reason)) from reason
-            self.without_run = str(reason)
-            return None
-
-    def run_by_account(self):
-        """The run as the times of the segments tell it, where there is no replay document."""
-        if self.account and self.account.rows:
-            return run_of_rows(self.account, self.answers.head.nanoseconds)
-        self.without_run = WHOLE_WITHOUT_RUN if self.answers.head.whole else \
-            "There is no replay document next to %s." % self.answers.name
-        return None
+        return Reached(head.threads, work / head.elapsed) if head.elapsed and head.threads else None
 
     @cached_property
     def levels(self):
@@ -150,8 +108,7 @@ class View:
         self.answers.tell("reading " + os.path.basename(times))
         try:
             return levels_in(times, self)
-        except NoTimes as reason:
-            self.without_run = str(reason)
+        except NoTimes:
             return None
 
     @cached_property
@@ -162,7 +119,7 @@ class View:
 
     @cached_property
     def predicted(self):
-        found = predicted(self.answers, self.scale)
+        found = predicted(self.answers)
         if found.found:
             threads = ",".join(str(one.threads) for one, _ in found.found)
             self.answers.noted("spanprof-predict %s --threads %s" % (self.name, threads))
@@ -180,8 +137,8 @@ class View:
 
     @cached_property
     def account(self):
-        """Of the recorded run; None without a timed document beside the text."""
-        found, _ = account_beside(self.answers)
+        """Of the recorded run; None without a timed document beside the text, for the reason that is kept."""
+        found, self.without_account = account_beside(self.answers)
         if found:
             name = times_name(self.answers.path)
             self.answers.asked += ["spanprof_large account%s < %s" % (words, name)

@@ -1,6 +1,5 @@
 """Other costs for the segments of a place, and what spanprof's `whatif` makes of them."""
 from spanprof.client import at_once
-from spanprof.whatif.requests import factor_of, find, place_and_number
 
 FACTORS = (0.5, 0.0)
 MOST_PLACES = 30
@@ -53,20 +52,3 @@ class Trials:
         answers = self.view.answers
         best = min(self.places, key=self.halved_end, default=None)
         return best if best and self.halved_end(best) < answers.curve[answers.threads]["end"] else None
-
-
-def read_factors(words, places):
-    """`PLACE=0.3` each; a place is named whole, or by a part that no other has."""
-    names, out = [place.name for place in places], []
-    for word in words:
-        name, number = place_and_number(word)
-        out.append((places[names.index(find(name, names, "place"))], factor_of(number)))
-    return out
-
-
-def all_at_once(view, factors):
-    """Work, span and the span before where several places change together."""
-    changes = {}
-    for place, factor in factors:
-        changes.update(changed(view, place, factor))
-    return view.answers.what_if(changes)

@@ -1,6 +1,11 @@
 """Columns as answers have them, of what tests list one by one."""
 from spanprof.answers import Rows
-from spanprof.segment_table import Code
+from spanprof.segment_table import Code, read_code
+
+
+def segments_of(text):
+    """Of a text without loops, one by one."""
+    return list(read_code(text.split("\n"), "the text"))
 
 
 def code_of(segments):

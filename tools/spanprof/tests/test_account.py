@@ -33,7 +33,7 @@ def divided(busy=100, work=60, **of_head):
 class Asked(unittest.TestCase):
     def account(self, made):
         with mock.patch("spanprof.account.ask", told):
-            return account_of(made, "mine.timed")
+            return account_of(made.head, made.work, "mine.timed", list(made.code.places))
 
     def test_the_sums_and_the_rows(self):
         found = self.account(answers())

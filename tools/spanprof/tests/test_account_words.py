@@ -39,10 +39,6 @@ class Lines(unittest.TestCase):
         found.idle = ({"task at a.c:3": 111 * MS, "task at a.c:5": MS // 2}, {})
         self.assertIn("; ready: task at a.c:3 (100 %) (measured)", account_lines(found)[1])
 
-    def test_one_of_several_runs(self):
-        self.assertTrue(account_lines(account(of_runs=True))[0].startswith(
-            "of 4 x 68.0 ms, in the run with the median work: 47.1 % in your code"))
-
     def test_code_without_times(self):
         self.assertEqual(account_lines(account(left_out=27200000))[4:], [
             "up to 10.0 % in code of the region that has no times, and is idle here (measured)"])

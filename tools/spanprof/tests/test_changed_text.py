@@ -1,7 +1,7 @@
 import unittest
 
 from spanprof.changed_text import with_costs, without_costs
-from spanprof.text import segments_of as segments
+from spanprof.tests.columns import segments_of as segments
 
 TEXT = """\
 omptasks 1

@@ -7,7 +7,6 @@ from unittest import mock
 
 from spanprof import client
 from spanprof.errors import Fault
-from spanprof.text_file import TextFile
 
 
 class Asking(unittest.TestCase):
@@ -60,19 +59,6 @@ class Asking(unittest.TestCase):
             with self.answers(script + "\n"), self.assertRaises(client.Refused) as ended:
                 client.ask(["slack"], "omptasks 1\n")
             self.assertEqual(ended.exception.is_of_memory, is_of_memory)
-
-    def test_a_replay_document(self):
-        with tempfile.NamedTemporaryFile("w") as file:
-            file.write("omptasks 1 taskwait\n---\nstart 0 1\n")
-            file.flush()
-            document = TextFile(file.name, whole=True)
-            with self.answers("grep -q start && echo events 1\n"):
-                client.replayed(document)
-            refusing = self.answers("echo 'error: event 0: NotReady 0'; exit 1\n")
-            with refusing, self.assertRaises(client.Refused) as ended:
-                client.replayed(document)
-            self.assertTrue(ended.exception.brief().endswith("`start 0 1`: segment 0, which has to come first, has not "
-                                                             "finished"))
 
 
 if __name__ == "__main__":

@@ -7,6 +7,7 @@ from unittest import mock
 from spanprof import client
 from spanprof.errors import Fault
 from spanprof.head import OLDER, UNREAD, Head, read_head, said, with_function
+from spanprof.tests.columns import segments_of
 from spanprof.text import has_loops
 
 TEXT = """\
@@ -34,9 +35,6 @@ OF_THE_PROGRAM = """\
 # slept: {"affected": 300, "work": 424576, "by": 200, "times": 2}
 # preempted: [[7, 384000], [2, 500]]
 # untimed: 77
-# runs: {"runs": 7, "median": true}
-# work of the runs: {"least": 34000, "median": 34770, "most": 36010}
-# span of the runs: {"least": 2125, "median": 2157, "most": 8484}
 # most held lock: 64482
 omptasks 1
 """
@@ -72,12 +70,10 @@ class Heads(unittest.TestCase):
         self.assertEqual((head.covered, head.thread_time, head.covers_at_most), (931, 1000, False))
         self.assertEqual(head.not_covered, {"outside regions": 50, "in other regions": 19, "of this region": 0})
         self.assertEqual(head.divided, ["loops, 120 times at spmd.c:6"])
-        self.assertEqual((head.beside, head.clock_reading, head.most_held, head.runs), (715, 217, 64482, 7))
+        self.assertEqual((head.beside, head.clock_reading, head.most_held), (715, 217, 64482))
         self.assertEqual(head.clocks_differ, {"affected": 424000, "work": 424576, "by": 384500, "times": 85})
         self.assertEqual((head.slept["by"], head.slept["times"], head.untimed), (200, 2, 77))
         self.assertEqual(head.preempted, {7: 384000, 2: 500})
-        self.assertEqual(head.spread, {"work": (34000, 34770, 36010), "span": (2125, 2157, 8484)})
-        self.assertTrue(head.is_median)
 
     def test_other_forms_of_what_was_taken_tell_nothing(self):
         for wrong in ("[[1, -2]]", "[[-1, 2]]", "[[1]]", "[1]", "7", "{}", '[["a", 2]]', "[]"):
@@ -90,18 +86,16 @@ class Heads(unittest.TestCase):
         self.assertEqual(head.locks, ["7 others together: 1 time, 2 inside, 3 waiting"])
         self.assertEqual((head.locks[0].name, head.locks[0].waiting), ("7 others together", 3))
         self.assertEqual(deepcopy(head).locks[0].waiting, 3)
-        head = read_head('# runs: {"runs": 7, "median": false}\n')
-        self.assertEqual((head.runs, head.is_median), (7, False))
 
     def test_damaged_lines(self):
         for line in ('elapsed: "x"', "elapsed: -1", "elapsed: true", "untimed: 3.5", 'covers: {"text": 5}',
                      'clocks differ: {"affected": 5, "work": 9, "by": "x", "times": 1}', "in tasks: null",
-                     'runs: {"runs": 3, "median": "yes"}', 'place: {"at": 5, "in": "f"}', "region: []"):
+                     'covers: {"text": 5, "program": 9, "at most": 3}', 'place: {"at": 5, "in": "f"}', "region: []"):
             head = read_head(TEXT.replace("omptasks", "# %s\nomptasks" % line))
             self.assertEqual(head.remarks[1:], ["line of the head that is not read, as it is damaged: " +
                                                 line.split(":")[0]])
             self.assertEqual((head.remarks[1].work, head.remarks[1].span), ("either", "either"))
-        self.assertEqual(read_head("# runs: every day\nomptasks 1\n").remarks, [])     # somebody's own
+        self.assertEqual(read_head("# covers: every day\nomptasks 1\n").remarks, [])   # somebody's own
         self.assertEqual(read_head("# recorded: sort, 4 threads\n").remarks, [OLDER])
         self.assertEqual(read_head('# recorded: {"program": \n').remarks, [UNREAD + "recorded"])
         odd = read_head('# remark: {"remark": "held lock", "span": "sideways"}\n').remarks
@@ -158,7 +152,7 @@ class Heads(unittest.TestCase):
 
 class Segments(unittest.TestCase):
     def test_costs_and_places(self):
-        found = client.segments(TASKS)
+        found = segments_of(TASKS)
         self.assertEqual([s.cost for s in found], [5, 3, 2, 1, 0, 0, 1])
         self.assertEqual([s.place() for s in found], [
             "the beginning", "task at a.c:2", "after creating a task at a.c:2", "a task", "after creating a task",

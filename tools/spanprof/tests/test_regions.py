@@ -4,7 +4,7 @@ import tempfile
 import unittest
 
 from spanprof.errors import Fault
-from spanprof.regions import Place, Region, program_of, read_regions, table_beside
+from spanprof.regions import program_of, read_regions
 
 TABLE = """\
 number,text,begin_ns,end_ns,threads,tasks,loops,code_ns,inside,place
@@ -38,16 +38,6 @@ class Tables(unittest.TestCase):
         self.assertEqual(program.stretches, [(0, 100, None), (100, 300, 0), (300, 350, 1), (350, 400, None),
                                              (400, 500, 0), (500, 600, None), (600, 900, 0), (900, 1000, None)])
         self.assertEqual(program.outside, 350)
-        self.assertEqual(program.texts, {1: "steps.c:9", 2: "steps.c:9", 3: "steps.c:9"})
-
-    def test_the_median_stands_for_a_place(self):
-        steps, loop, _ = read_regions(self.kept()).places
-        self.assertEqual((steps.shown.number, steps.median, loop.shown), (1, 200, None))
-
-    def test_the_nearest_to_the_median_that_has_a_text(self):
-        regions = [Region(i + 1, text, 0, 1, 1, 1, 0, code, 0, "a.c:1") for i, (text, code) in
-                   enumerate([(1, 5), (0, 30), (0, 20), (2, 90), (3, 25)])]
-        self.assertEqual(Place("a.c:1", 0, regions).shown.code, 25)
 
     def test_regions_that_overlap_count_once(self):
         program = read_regions(self.kept(words=TABLE.replace("2,0,300,350", "2,0,250,350")))
@@ -55,21 +45,8 @@ class Tables(unittest.TestCase):
         place = read_regions(self.kept(words=TABLE.replace("3,2,400,500", "3,2,250,620"))).places[0]
         self.assertEqual(place.outermost, 800)
 
-    def test_where_it_lies(self):
-        path = self.kept()
-        self.assertEqual(table_beside(path.replace(".regions", ".tasks")), (path, 1))
-        self.assertEqual(table_beside(path.replace(".regions", ".3.tasks")), (path, 3))
-        self.assertIsNone(table_beside(os.path.join(self.folder, "other.tasks")))
-        self.assertIsNone(table_beside(path))
+    def test_a_plain_text_has_none(self):
         self.assertIsNone(program_of(os.path.join(self.folder, "other.tasks")))
-        own = self.kept("mine.4711.regions")
-        self.assertEqual(table_beside(own.replace(".regions", ".tasks")), (own, 1))
-
-    def test_how_many_threads_were_asked_for(self):
-        self.assertEqual(read_regions(self.kept()).regions[0].asked, 0)
-        words = "".join(line.replace(line, ",".join((*line.split(",")[:5], asked, *line.split(",")[5:])))
-                        for line, asked in zip(TABLE.splitlines(True), ["asked"] + ["8"] * 9))
-        self.assertEqual(read_regions(self.kept(words=words)).regions[0].asked, 8)
 
     def test_what_is_no_table(self):
         for words in ("", TABLE.replace("place\n", "where\n"), TABLE.replace("4,3,600", "4,x,600"),

@@ -1,8 +1,8 @@
 import unittest
 
 from spanprof.errors import Fault
-from spanprof.segment_table import read_code
-from spanprof.text import segments_of
+from spanprof.segment_table import Cutter, read_code
+from spanprof.text import statements
 
 TEXT = """omptasks 1
 work 7
@@ -23,10 +23,19 @@ work 4
 class OfAText(unittest.TestCase):
     def test_it_has_the_segments(self):
         code = read_code(TEXT.splitlines(True), "a.tasks")
-        self.assertEqual(list(code), segments_of(TEXT))
-        self.assertEqual(list(code.places), [segment.place() for segment in segments_of(TEXT)])
-        self.assertEqual(code.place(2), "after taskwait at a.c:5")
+        self.assertEqual([(one.task, one.cost) for one in code], [
+            (0, 7), (1, 5), (1, 6), (0, 0), (2, 1), (0, 0), (0, 4)])
+        self.assertEqual(list(code.places), [
+            "the beginning", "task at a.c:3", "after taskwait at a.c:5", "after creating a task at a.c:3",
+            "code of one of the region's threads", "starting one of the region's threads",
+            "after the barrier of the region at a.c:8"])
         self.assertEqual((list(code.firsts()), code.parts()), ([0, 1, 4], 1))
+
+    def test_statement_by_statement(self):
+        cutter, lines = Cutter(), TEXT.splitlines(True)
+        for one in statements(lines):
+            cutter.take(one)
+        self.assertEqual((list(cutter.code), cutter.current), (list(read_code(lines, "a.tasks")), 6))
 
     def test_what_is_no_text(self):
         for text in ("omptasks 1\n}\n", "omptasks 2\nfor i 1 2 { }\n", "omptasks 1\nwork x\n"):

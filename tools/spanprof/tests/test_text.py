@@ -3,7 +3,8 @@ import os
 import unittest
 from collections import Counter
 
-from spanprof import client, folders
+from spanprof import folders
+from spanprof.tests.columns import segments_of
 from spanprof.text import LONGEST_KNOWN, Statement, is_programs, marks, statements, text_lines, where
 from spanprof.whatif.tests.made_up import ROW, SORT, changed, read
 
@@ -111,7 +112,7 @@ class Reading(unittest.TestCase):
             costs, expected = Counter(), Counter()
             for one in read(text):
                 costs[one.name] += one.cost
-            for segment in client.segments(text):
+            for segment in segments_of(text):
                 expected[segment.place()] += segment.cost
             self.assertEqual(+costs, +expected, path)
 

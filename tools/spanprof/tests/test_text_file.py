@@ -17,10 +17,6 @@ class Files(InFolder):
         self.assertEqual(list(text.lines()), ["omptasks 1\n", "work 2\n"])
         self.assertTrue(text.is_cut())
 
-    def test_the_whole_document(self):
-        text = TextFile(self.write("a.replay", DOCUMENT), whole=True)
-        self.assertEqual((str(text), self.read(text), "".join(text.lines())), (DOCUMENT,) * 3)
-
     def test_words(self):
         self.assertEqual(self.read("work 1\n"), "work 1\n")
 

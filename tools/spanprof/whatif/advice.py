@@ -2,9 +2,10 @@
 import json
 
 from spanprof.claims import speaks_of, why_not_of_more_threads
+from spanprof.head import grouped
 from spanprof.proof import proved
 from spanprof.text import TURNS, code_at
-from spanprof.whatif.tell import grouped, in_unit, numbers_json, yours_to_know
+from spanprof.whatif.tell import in_unit, numbers_json, yours_to_know
 
 MOST_ROWS, MOST_OTHERS = 15, 5
 IN_WORDS = {"factor": "half the cost of %s",

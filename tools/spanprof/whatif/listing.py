@@ -1,4 +1,6 @@
 """What can be changed in a text: its code by place, its tasks, its waits, its depend items."""
+from spanprof.head import grouped
+
 MOST_NAMES = 30
 
 
@@ -8,7 +10,7 @@ def by_count(title, counted):
     if not names:
         return []
     more = ["%14s  of %d more names" % ("", len(names) - MOST_NAMES)] if len(names) > MOST_NAMES else []
-    return [title] + ["%14s  %s" % ("{:,}".format(number), name) for name, number in names[:MOST_NAMES]] + more
+    return [title] + ["%14s  %s" % (grouped(number), name) for name, number in names[:MOST_NAMES]] + more
 
 
 def listing(seen):

@@ -2,6 +2,7 @@
 import json
 
 from spanprof.claims import speaks_of, why_not_of_more_threads
+from spanprof.head import grouped
 from spanprof.proof import proved
 
 RIGHT = (("drop-wait drop-depend drop-name",
@@ -9,10 +10,6 @@ RIGHT = (("drop-wait drop-depend drop-name",
          ("split grain task",
           "whether that code can be divided, or run in parallel to what follows it, is for you to judge"))
 HEADS = "%-22s %18s %18s %9s"
-
-
-def grouped(number):
-    return "{:,}".format(number)
 
 
 def change(before, after):

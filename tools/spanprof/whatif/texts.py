@@ -10,7 +10,7 @@ from spanprof.text_file import TextFile
 
 ENCODING = {"encoding": "utf-8", "errors": "replace", "newline": "\n"}
 OF_THE_RUN = ("covers", "not covered", "elapsed", "outside regions", "in other regions", "in parts without tasks",
-              "in tasks", "clocks differ", "preempted", "runs", "work of the runs", "span of the runs")
+              "in tasks", "clocks differ", "preempted")
 
 
 class Text:

@@ -5,7 +5,6 @@ import unittest
 from unittest import mock
 
 import visit
-from chapters import chapters_are_shown
 from driving import focus_goes_through, keys_zoom_and_move
 from devtools import Refused
 
@@ -40,23 +39,6 @@ class Trials(unittest.TestCase):
     def test_a_control_that_tab_does_not_reach(self):
         page = FakePage(None, 2, "skip", "A", "lanes")
         self.assertEqual(list(focus_goes_through(page)), ["Tab comes to ['A', 'lanes', 'skip'] alone"])
-
-
-class Chapters(unittest.TestCase):
-    """Their names, which are shown at first; for each from the last on the click, what is shown, whether it is
-    undrawn; then the way back, and what is shown."""
-
-    def told(self, *values):
-        return list(chapters_are_shown(FakePage(*values)))
-
-    def test_one_is_shown_at_a_time(self):
-        self.assertEqual(self.told(["a", "b"], ["a"], None, ["b"], 0, None, ["a"], 0, None, ["a"]), [])
-        self.assertEqual(self.told([]), [])
-
-    def test_faults(self):
-        self.assertEqual(self.told(["a", "b"], ["a"], None, ["a"], 0, None, ["a"], 1, None, ["a"]),
-                         ["a link to b shows ['a']", "the timeline of a is not drawn"])
-        self.assertEqual(self.told(["a"], ["a"], None, ["a"], 0, None, []), ["the way to the whole program hides a"])
 
 
 class Faults(unittest.TestCase):

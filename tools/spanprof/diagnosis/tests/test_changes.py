@@ -45,20 +45,19 @@ class Tries(unittest.TestCase):
     """Without a program: an end is told by how many lines the changed text has."""
 
     def setUp(self):
-        self.was = module.numbers_at, module.client.at_once
-        module.numbers_at = self.measured
+        self.was = module.numbers_of, module.client.at_once
+        module.numbers_of = self.measured
         module.client.at_once = lambda answer, questions: [answer(one) for one in questions]
         text = SimpleNamespace(head=read_head('# recorded: {"threads": 4, "unit": "us"}\n'),
                                statements=lambda: statements(TEXT.splitlines(True)))
         self.bench = Bench(text, found_in(program().places))
 
     def tearDown(self):
-        module.numbers_at, module.client.at_once = self.was
+        module.numbers_of, module.client.at_once = self.was
 
     @staticmethod
-    def measured(path, threads):
-        with open(path, encoding="utf-8") as file:
-            return SimpleNamespace(on={threads: OnThreads(1, 1, len(file.readlines()))})
+    def measured(text, threads):
+        return SimpleNamespace(on={threads[0]: OnThreads(1, 1, len(text.splitlines()))})
 
     def test_the_end_is_in_nanoseconds(self):
         self.assertEqual(self.bench.end([]), 1000 * len(TEXT.splitlines()))
@@ -88,7 +87,7 @@ class Tries(unittest.TestCase):
 
         def refused(*_):
             raise Fault("refused")
-        module.numbers_at = refused
+        module.numbers_of = refused
         self.assertEqual(self.bench.tries([single("drop-depend", TASKS)]), [])
 
 

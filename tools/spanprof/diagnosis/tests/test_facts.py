@@ -68,7 +68,7 @@ class Recorded(unittest.TestCase):
     def test_what_is_missing_is_none(self):
         found = Facts()
         set_meta(found, {})
-        self.assertEqual((found.asked, found.processors, found.usage, found.counters), (None, None, None, None))
+        self.assertEqual((found.asked, found.processors, found.usage), (None, None, None))
         set_meta(found, {"threads": {"asked": 3}, "processors": 8, "runtime": {"name": "llvm", "version": "19"}})
         self.assertEqual((found.asked, found.processors, found.runtime, found.target), (3, 8, "LLVM 19", 3))
         self.assertEqual(runtime_name({}), "")
@@ -85,16 +85,15 @@ class Recorded(unittest.TestCase):
 
     def test_files_beside_a_text(self):
         with tempfile.TemporaryDirectory() as folder:
-            for name, text in (("off", "0 5 7\n2 1 0\n"),
-                               ("m.regions", "number,text,begin_ns,end_ns,threads,tasks,loops,code_ns,inside,place\n"
+            for name, text in (("off", "0 5 7\n2 1 0\n"), ("recording.json", "{}"),
+                               ("regions", "number,text,begin_ns,end_ns,threads,tasks,loops,code_ns,inside,place\n"
                                 "0,0,0,100,1,0,0,5,0,\n1,1,10,60,2,3,0,5,0,image.c:20\n")):
                 with open(os.path.join(folder, name), "w", encoding="utf-8") as file:
                     file.write(text)
             self.assertEqual(off_by_segment(os.path.join(folder, "off"), None), {0: (5, 7), 2: (1, 0)})
             self.assertEqual(off_by_segment("", read_head(HEAD + "# preempted: [[7, 384]]\n")), {7: (0, 384000)})
-            found = regions_of(os.path.join(folder, "m.tasks"), {"teams": [{"place": "image.c:20", "asked": 4}]})
-            self.assertEqual([(one.place, one.threads, one.elapsed, one.asked) for one in found],
-                             [("image.c:20", 2, 50, 4)])
+            found = regions_of(os.path.join(folder, "program.tasks"))
+            self.assertEqual([(one.place, one.threads, one.elapsed) for one in found], [("image.c:20", 2, 50)])
 
     def test_locks_of_a_head_and_of_a_file(self):
         self.assertEqual(locks_of("", read_head(HEAD)), [Held("image.c:27", "critical", 2, 1000, 3000)])
@@ -111,11 +110,11 @@ class Recorded(unittest.TestCase):
             path = os.path.join(folder, "m.tasks")
             with open(path, "w", encoding="utf-8") as file:
                 file.write(HEAD + TEXT)
-            measured, module.numbers_at = module.numbers_at, lambda *_: NUMBERS
+            measured, module.numbers_of = module.numbers_of, lambda *_: NUMBERS
             try:
                 found = module.facts_of(open_recording(path))
             finally:
-                module.numbers_at = measured
+                module.numbers_of = measured
             self.assertEqual(found.code + found.starved + found.delayed, found.whole_time)
 
 

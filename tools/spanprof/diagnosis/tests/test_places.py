@@ -2,7 +2,7 @@ import unittest
 
 from spanprof.diagnosis.places import OF_THREADS, SERIAL, SHARE, TASK, lines_between, read_program
 from spanprof.diagnosis.tests.worked import TEXT, program
-from spanprof.text import segments_of
+from spanprof.tests.columns import segments_of
 
 
 class Places(unittest.TestCase):

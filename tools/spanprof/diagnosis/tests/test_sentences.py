@@ -13,7 +13,7 @@ from spanprof.diagnosis.places import SERIAL
 from spanprof.diagnosis.plan import Step
 from spanprof.diagnosis.schema import as_json
 from spanprof.diagnosis.sentences import (WIDTH, change_sentence, lost_sentence, short_lines, shortened, speed_words,
-                                          waits)
+                                          sum_lines, waits)
 from spanprof.diagnosis.tests.worked import MS, facts, place
 
 SOURCE = """static void tone(float *d, int n) {
@@ -165,6 +165,13 @@ class Sentences(unittest.TestCase):
             change = single(option, word)
             step = Step(kind, TASKS if option == "in-for-inout" else change.place, 2, 1, 1, 1, 1.0, change)
             self.assertEqual(change_sentence(run, Names(run, SOURCES), step), told)
+
+    def test_the_sum_is_the_whole(self):
+        run = found(starved=200 * MS, starved_by={TASKS: 200 * MS}, cost_on_one={TASKS: 1})
+        told = sum_lines(diagnose(run), Names(run, SOURCES))
+        self.assertIn("code as on one thread (measured)", told[0])
+        self.assertIn("50.0 % dependences: image.c:9 (tone) (measured)", told)
+        self.assertAlmostEqual(sum(float(line.split()[0]) for line in told), 100, places=0)
 
     def test_several_waits_by_their_lines(self):
         names = Names(facts(), None)

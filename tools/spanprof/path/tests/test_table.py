@@ -1,12 +1,17 @@
 import io
 import unittest
 
-from spanprof.path.table import HEADS, MOST_ROWS, Place, lines, write_csv
+from spanprof.path.table import HEADS, MOST_ROWS, lines, write_csv
+from spanprof.report.places import Place
+
+
+def place(span, work, segments, name):
+    return Place(name, cost=work, critical_cost=span, critical_segments=segments)
 
 
 class Tables(unittest.TestCase):
     def test_what_is_shown(self):
-        places = [Place(30, 50, 2, "a task"), Place(0, 2, 0, "b"), Place(0, 1, 0, "c"), Place(0, 0, 3, "d")]
+        places = [place(30, 50, 2, "a task"), place(0, 2, 0, "b"), place(0, 1, 0, "c"), place(0, 0, 3, "d")]
         self.assertEqual(list(lines(places, 200, 40)), [
             HEADS,
             "   75.0%    25.0%         2  a task",
@@ -14,17 +19,17 @@ class Tables(unittest.TestCase):
         ])
 
     def test_nothing_costs_anything(self):
-        self.assertEqual(list(lines([Place(0, 0, 1, "the beginning")], 0, 0)),
+        self.assertEqual(list(lines([place(0, 0, 1, "the beginning")], 0, 0)),
                          [HEADS, "    0.0%     0.0%         1  the beginning"])
 
     def test_many_places(self):
-        told = list(lines((Place(1, 2, 1, str(i)) for i in range(MOST_ROWS + 300)), 800, 400))
+        told = list(lines((place(1, 2, 1, str(i)) for i in range(MOST_ROWS + 300)), 800, 400))
         self.assertEqual(len(told), MOST_ROWS + 2)
         self.assertEqual(told[-1], "   75.0%    75.0%       300  300 more places")
 
     def test_csv_has_all_and_quotes_names(self):
         file = io.StringIO()
-        write_csv([Place(1, 2, 3, 'a, "b"'), Place(0, 0, 0, "c")], file)
+        write_csv([place(1, 2, 3, 'a, "b"'), place(0, 0, 0, "c")], file)
         self.assertEqual(file.getvalue(), 'span,work,segments,place\n1,2,3,"a, ""b"""\n0,0,0,c\n')
 
 

@@ -119,23 +119,6 @@ class Command(InAFolder):
         self.assertIn("a.tasks, region at a.c:9, recorded 3 times on 2 threads in 30.0 us to 70.0 us: with", first)
         self.assertRegex(two, "^on 2 threads: 2[23].. us predicted .*; the median by 3 recordings")
 
-    def test_a_scale(self):
-        self.write("a.tasks", TEXT % 2)
-        self.write("b.tasks", TEXT % 1)
-        told = {"threads": [{"threads": 1, "recordings": ["b.tasks", "gone.tasks", 3], "times": [30000]},
-                            {"threads": 2, "recordings": ["a.tasks"], "times": [9000, 20000, 21000]}, {}, 3]}
-        first, *_, note, last = self.answer(self.write("a.scale.json", json.dumps(told))).splitlines()
-        self.assertIn("a.tasks, region at a.c:9, recorded on 2 threads", first)
-        self.assertEqual(note, "1 of 1 recordings on 2 threads took 50 % longer than the unrecorded runs, or more: the "
-                               "predicted times may be too long")
-        self.assertIn("not proved", last)
-        for wrong, why in (("{", "is no file of spanprof-record --scale"), ("{}", "names no recording that is there"),
-                           ('{"threads": 3}', "names no recording"), ("[]", "names no recording")):
-            with self.assertRaisesRegex(Fault, "b.scale.json.* " + why):
-                self.answer(self.write("b.scale.json", wrong))
-        with self.assertRaisesRegex(Fault, "none.scale.json: No such file"):
-            self.answer(os.path.join(self.folder, "none.scale.json"))
-
     def test_without_what_other_programs_took(self):
         text = ("# preempted: [[1, 7], [9, 3]]\n" + TEXT % 2).replace("work 10", "work 17", 1)
         two = self.answer(self.write("a.tasks", text)).splitlines()[1]

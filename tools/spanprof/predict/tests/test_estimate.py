@@ -10,7 +10,7 @@ from spanprof.predict.interval import ALONE, AS_RECORDED, ON_OTHERS, width
 from spanprof.predict.machine import Machine, Measured
 from spanprof.predict.program import read_program
 from spanprof.predict.recorded import Recorded
-from spanprof.text import segments_of
+from spanprof.tests.columns import segments_of
 
 TASKS = "omptasks 1\n" + "task {  # a.c:1\nwork 1000\n}\n" * 8
 

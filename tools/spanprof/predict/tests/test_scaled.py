@@ -3,7 +3,10 @@ import os
 import tempfile
 import unittest
 
-from spanprof.predict.scaled import Chosen, chosen, chosen_of, program_time, together
+from spanprof.errors import Fault
+from spanprof.predict.scaled import Chosen, program_time, texts, together
+from spanprof.recording import checksum
+from spanprof.tests.recordings import write
 
 HEAD = '# recorded: {"program": "a", "threads": 4, "clock": "wall", "unit": "us"}\n# elapsed: %d\n' \
     '# outside regions: 10\n# in other regions: 5\nomptasks 1\n'
@@ -25,37 +28,43 @@ class Recordings(unittest.TestCase):
         self.assertEqual(program_time(self.write("a.tasks", 85)), 100000)
         self.assertIsNone(program_time(self.write("b.tasks", 0)))
 
+    def recording(self, **elapsed):
+        """Of texts with these elapsed times, each on as many threads as its name says; each number was timed once."""
+        write(os.path.join(self.folder, "recording.json"), json.dumps(
+            {"schema": 1, "files": {"program.tasks": checksum(self.write("program.tasks", 85))}}))
+        rows = {}
+        for name, time in elapsed.items():
+            self.write(name, time)
+            rows.setdefault(int(name[-1]), []).append(name)
+        write(os.path.join(self.folder, "scale.json"), json.dumps({"threads": [
+            {"threads": on, "recordings": [*names, "gone"], "times": [100000]} for on, names in rows.items()]}))
+        return self.folder
+
+    def path(self, name):
+        return os.path.join(self.folder, name)
+
     def test_slow_ones_are_left_out(self):
-        quick, slow, other = self.write("a.tasks", 85), self.write("b.tasks", 115), self.write("c.tasks", 95)
-        times = {4: [90000, 100000, 140000]}
-        self.assertEqual(chosen({4: [quick, other]}, times), Chosen([quick, other]))
-        self.assertEqual(chosen({4: [quick, slow, other]}, times), Chosen([quick, other], [
+        found = texts(self.recording(a4=85, b4=115, c4=95))
+        self.assertEqual(found, Chosen([self.path("a4"), self.path("c4")], [
             "1 of 3 recordings on 4 threads took 30 % longer than the unrecorded runs, or more, and are left out"]))
 
     def test_where_all_are_slow(self):
-        slow = self.write("a.tasks", 115)
-        self.assertEqual(chosen({1: [slow]}, {1: [100000]}), Chosen([slow], [
+        self.assertEqual(texts(self.recording(a1=115, b4=85)), Chosen([self.path("a1"), self.path("b4")], [
             "1 of 1 recordings on 1 thread took 30 % longer than the unrecorded runs, or more: the predicted times "
             "may be too long"]))
-        self.assertEqual(chosen({1: [slow]}, {}), Chosen([slow]))
-
-    def test_of_a_file(self):
-        path = self.write("a.tasks", 85)
-        rows = [{"threads": 4, "recordings": ["a.tasks", "gone.tasks"]}, {"threads": 2, "recordings": ["gone.tasks"]}]
-        self.assertEqual(chosen_of({"threads": rows}, self.folder), Chosen([path]))
-        self.assertEqual([chosen_of(told, self.folder) for told in (None, [], {"threads": 3})], [Chosen([])] * 3)
 
     def test_recorded_together(self):
-        quick, slow, other = self.write("a.tasks", 85), self.write("b.tasks", 115), self.write("c.tasks", 95)
-        self.assertEqual(together(quick), [quick])
-        rows = [{"threads": 1, "recordings": ["c.tasks"]},
-                {"threads": 4, "recordings": ["a.tasks", "b.tasks"], "times": [100000]}]
-        with open(os.path.join(self.folder, "a.scale.json"), "w", encoding="utf-8") as file:
-            json.dump({"threads": rows}, file)
-        self.assertEqual([together(path) for path in (quick, slow, other)], [[quick], [slow], [other]])
-        with open(os.path.join(self.folder, "c.scale.json"), "w", encoding="utf-8") as file:
-            json.dump({"threads": [{"threads": 4, "recordings": ["c.tasks", "a.tasks", "b.tasks"]}]}, file)
-        self.assertEqual(together(other), [other, quick, slow])
+        folder = self.recording(a4=85, b4=115, c1=95)
+        self.assertEqual(together(folder), [self.path("a4")])
+        plain = self.write("plain.tasks", 85)
+        self.assertEqual((together(plain), texts(plain)), ([plain], Chosen([plain])))
+
+    def test_what_is_no_scale(self):
+        folder = self.recording(a4=85)
+        for wrong in ("{", "{}", "[]", '{"threads": 3}', '{"threads": [{}]}'):
+            write(os.path.join(folder, "scale.json"), wrong)
+            with self.assertRaisesRegex(Fault, "scale.json is no file of spanprof-record --scale"):
+                texts(folder)
 
 
 if __name__ == "__main__":

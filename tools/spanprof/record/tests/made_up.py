@@ -49,7 +49,6 @@ class Head:
     slept: dict = field(default_factory=dict)
     untimed: int = 0
     runs: int = None
-    is_median: bool = False
     spread: dict = field(default_factory=dict)
     remarks: list = field(default_factory=list)
     locks: list = field(default_factory=list)

@@ -1,16 +1,15 @@
-import argparse
 import os
 import resource
 import tempfile
 import unittest
 
 from spanprof.record.facts import (facts_of_program, facts_of_run, processors_of_quota, processors_there_are, quotas,
-                                   teams_of, threads_asked, usage_of)
+                                   threads_asked, usage_of)
 from spanprof.record.run import Ended
 from spanprof.regions import Program, Region
 
 USED = resource.struct_rusage((1.5, 0.25, 0, 0, 0, 0, 410, 3, 0, 0, 0, 0, 0, 0, 12, 7))
-ENDED = Ended(0, 5000, USED, None)
+ENDED = Ended(0, 5000, USED)
 PROGRAM = Program(5000, 100, [Region(1, 1, 0, 100, 4, 8, 0, 90, 0, "a.c:3"), Region(2, 0, 200, 900, 2, 0, 1, 90, 0,
                                                                                     "a.c:9"),
                               Region(3, 2, 1000, 1300, 4, 8, 0, 90, 0, "a.c:3")])
@@ -19,8 +18,7 @@ PROGRAM = Program(5000, 100, [Region(1, 1, 0, 100, 4, 8, 0, 90, 0, "a.c:3"), Reg
 class Usage(unittest.TestCase):
     def test_fields(self):
         self.assertEqual(usage_of(USED), {
-            "user_ns": 1500000000, "system_ns": 250000000, "minor_faults": 410, "major_faults": 3,
-            "voluntary_switches": 12, "involuntary_switches": 7})
+            "user_ns": 1500000000, "system_ns": 250000000, "minor_faults": 410})
 
 
 class Processors(unittest.TestCase):
@@ -48,22 +46,13 @@ class Threads(unittest.TestCase):
             self.assertEqual(threads_asked({"OMP_NUM_THREADS": words}), number)
         self.assertIsNone(threads_asked({}))
 
-    def test_teams_by_place(self):
-        self.assertEqual(teams_of(PROGRAM), [
-            {"place": "a.c:3", "asked": None, "got": 4, "regions": 2, "time_ns": 400},
-            {"place": "a.c:9", "asked": None, "got": 2, "regions": 1, "time_ns": 700}])
-
 
 class Facts(unittest.TestCase):
     def test_of_a_run(self):
         found = facts_of_run(ENDED, {"OMP_NUM_THREADS": "8"}, 4)
-        self.assertEqual((found["threads"], found["processors"], found["elapsed_ns"], found["counters"]),
-                         ({"asked": 8}, 4, 5000, None))
+        self.assertEqual((found["threads"], found["processors"], found["elapsed_ns"]),
+                         ({"asked": 8}, 4, 5000))
 
     def test_of_a_program(self):
         self.assertEqual(facts_of_program(PROGRAM)["threads"], {"most": 4})
-        self.assertEqual(facts_of_program(None), {"threads": {"most": None}, "teams": []})
-
-    def test_counters(self):
-        ended = argparse.Namespace(elapsed=1, usage=USED, counters={"cycles": 9})
-        self.assertEqual(facts_of_run(ended, {}, 4)["counters"], {"cycles": 9})
+        self.assertEqual(facts_of_program(None), {"threads": {"most": None}})

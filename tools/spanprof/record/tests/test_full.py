@@ -6,9 +6,11 @@ import tempfile
 import unittest
 from unittest import mock
 
-from spanprof.record.full import costs_by_place, full_facts, true_times
+from spanprof.record.full import costs_by_place, full_facts
 from spanprof.record.options import parse
 from spanprof.record.run import Ended
+from spanprof.record.unrecorded import unrecorded
+from spanprof.tests.in_folder import InFolder
 
 TEXT = """# recorded: {"program": "mine", "threads": 1, "clock": "wall", "unit": "us"}
 omptasks 1
@@ -38,18 +40,19 @@ def session(costs="", status=0):
     return made, asked
 
 
-class Full(unittest.TestCase):
+class Full(InFolder):
     def run_in_turns(self, made, asked, ends):
         left = iter(ends)
 
         def watched(_, __, variables):
             asked.append((variables["OMP_TOOL"], variables["OMP_NUM_THREADS"], variables.get("OMP_THREAD_LIMIT")))
             elapsed, status = next(left)
-            return Ended(status, elapsed, None, None)
+            return Ended(status, elapsed, None)
         told = io.StringIO()
-        with mock.patch("spanprof.record.full.watched", side_effect=watched), contextlib.redirect_stderr(told), \
+        self.write("recording.json", '{"threads": {"most": 4}}')
+        with mock.patch("spanprof.record.unrecorded.watched", side_effect=watched), contextlib.redirect_stderr(told), \
                 mock.patch.dict(os.environ, {}, clear=True):
-            return full_facts(made, 4), told.getvalue()
+            return full_facts(made, self.folder), told.getvalue()
 
     def test_in_turns_and_recorded_on_one(self):
         made, asked = session(TEXT)
@@ -62,7 +65,7 @@ class Full(unittest.TestCase):
         made, asked = session(TEXT)
         found, told = self.run_in_turns(made, asked, [(10, 0), (40, 3)])
         self.assertEqual(found, {})
-        self.assertIn("unrecorded run 1 of 3 on one thread ended with status 3: what --full adds is not known", told)
+        self.assertIn("unrecorded run 1 of 3 on 1 thread ended with status 3: what --full adds is not known", told)
 
     def test_a_recorded_run_that_fails_or_leaves_nothing(self):
         ends = [(10, 0), (40, 0)] * 3
@@ -74,8 +77,8 @@ class Full(unittest.TestCase):
 
     def test_the_times_of_each_turn(self):
         made, _ = session()
-        with mock.patch("spanprof.record.full.watched", return_value=Ended(0, 7, None, None)):
-            self.assertEqual(true_times(made, 4, 2), {"true_one": [7, 7], "true_many": [7, 7]})
+        with mock.patch("spanprof.record.unrecorded.watched", return_value=Ended(0, 7, None)):
+            self.assertEqual(unrecorded(made, [4, 1], 2), {4: [7, 7], 1: [7, 7]})
 
 
 class Costs(unittest.TestCase):

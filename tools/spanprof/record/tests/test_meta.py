@@ -25,7 +25,6 @@ class Facts(InFolder):
         self.assertEqual((told["schema"], told["program"], told["arguments"], told["unit"], told["clock"]),
                          (1, "mine", ["./mine", "5"], "us", "wall"))
         self.assertEqual((told["threads"], told["elapsed_ns"], told["coverage"]), ({"asked": 4, "most": 4}, 120, 0.95))
-        self.assertEqual(told["teams"], [{"place": "mine.c:9", "asked": None, "got": 4, "regions": 1, "time_ns": 40}])
         self.assertEqual(told["runtime"], {"name": "llvm", "version": "19",
                                            "library": "/usr/lib/llvm-19/lib/libomp.so.5"})
         self.assertEqual(sorted(told["files"]), ["log/head", "log/modules", "program.tasks", "regions", "times"])

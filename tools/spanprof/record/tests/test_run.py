@@ -8,7 +8,7 @@ from unittest import mock
 
 from spanprof.errors import NO_PROGRAM, NOT_EXECUTABLE, Fault
 from spanprof.record.options import parse
-from spanprof.record.run import PassedOn, end_as, environment, run, signal_name, watched, without_recorder
+from spanprof.record.run import PassedOn, end_as, environment, signal_name, watched, without_recorder
 from spanprof.record.target import find
 
 
@@ -45,7 +45,7 @@ class Environment(unittest.TestCase):
 
 class Ends(unittest.TestCase):
     def python(self, code):
-        return run(sys.executable, [sys.executable, "-c", code], dict(os.environ))
+        return watched(sys.executable, [sys.executable, "-c", code], dict(os.environ)).status
 
     def test_the_status_of_the_program(self):
         self.assertEqual(self.python("raise SystemExit(3)"), 3)
@@ -62,7 +62,7 @@ class Ends(unittest.TestCase):
         with tempfile.NamedTemporaryFile(suffix=".txt") as file:
             os.chmod(file.name, 0o644)
             with self.assertRaises(Fault) as fault:
-                run(file.name, [file.name], {})
+                watched(file.name, [file.name], {})
         self.assertEqual(fault.exception.status, NOT_EXECUTABLE)
 
     def test_a_script_without_its_interpreter(self):
@@ -72,7 +72,7 @@ class Ends(unittest.TestCase):
                 file.write("#!/no/such/interpreter\n")
             os.chmod(path, 0o755)
             with self.assertRaisesRegex(Fault, "script: the interpreter or loader that it names is not there"):
-                run(path, [path], {})
+                watched(path, [path], {})
 
     def test_this_process_ends_alike(self):
         for status in (0, 3, -signal.SIGABRT, -signal.SIGKILL):

@@ -18,7 +18,7 @@ HEADS = {
     "remarks": [dict()] + [dict(remarks=[remark_of(dict(remark="a", work=work, span=span))]) for work, span in (
         ("", "high"), ("", "low"), ("low", "low"), ("either", "either"), ("low", "high"))] + [
             dict(remarks=[read_remark("in words of its own")])],
-    "runs": [dict(), dict(runs=5, is_median=True, spread={"work": (90, 100, 110), "span": (60, 70, 80)})],
+    "runs": [dict(), dict(runs=5, spread={"work": (90, 100, 110), "span": (60, 70, 80)})],
 }
 
 

@@ -66,7 +66,7 @@ class Runs(InFolder):
             status = next(left)
             if status == 0:
                 write(os.path.join(out + ".spanprof", "log", "head"), "")
-            return Ended(status, next(times), USED, None)
+            return Ended(status, next(times), USED)
         made.run, made.variables = run, lambda out: {"OMP_NUM_THREADS": "3"}
         return made
 
@@ -78,7 +78,8 @@ class Runs(InFolder):
         told = io.StringIO()
         with contextlib.redirect_stderr(told), made.begun(), \
                 mock.patch("spanprof.record.session.convert_into", side_effect=convert or self.convert), \
-                mock.patch("spanprof.record.runs.work_and_span", side_effect=[(9, 4), (7, 5), (8, 3)]):
+                mock.patch("spanprof.client.measured",
+                           side_effect=[{"work": work, "span": span} for work, span in ((9, 4), (7, 5), (8, 3))]):
             recorded = record_often(made) if made.options.runs > 1 else made.record_once()
         return recorded, told.getvalue()
 
@@ -92,7 +93,7 @@ class Runs(InFolder):
         self.assertEqual(recorded.said.things[0]["file"], os.path.join(folder, "program.tasks"))
         meta = open_recording(folder).meta
         self.assertEqual((meta["unit"], meta["threads"], meta["elapsed_ns"]), ("us", {"asked": 3}, 30))
-        self.assertEqual((meta["usage"]["major_faults"], self.names()), (3, ["mine.spanprof"]))
+        self.assertEqual((meta["usage"]["minor_faults"], self.names()), (410, ["mine.spanprof"]))
 
     def test_a_name_that_is_taken(self):
         self.record(self.session([0]))

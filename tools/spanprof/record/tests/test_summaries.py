@@ -7,6 +7,7 @@ import os
 import unittest
 from unittest import mock
 
+from spanprof.answers import take_runs
 from spanprof.client import HOW
 from spanprof.errors import Fault
 from spanprof.record import summaries
@@ -52,10 +53,11 @@ class Printed(InFolder):
         self.assertEqual(told[-1], "warnings      a note")
 
     def test_the_diagnosis_alone_where_there_is_one(self):
-        self.diagnosed.return_value = mock.Mock(lines=lambda more, news: ["now: " + more, *news]), ""
+        self.diagnosed.return_value = mock.Mock(lines=lambda more, news: ["now: " + more, *news],
+                                                sum_lines=lambda: ["9 % code"]), ""
         self.assertEqual(self.told(recording(self.folder), all=False),
                          ["now: spanprof-report mine.spanprof, spanprof-record --all", "a note"])
-        self.assertEqual(len(self.told(recording(self.folder))[2:]), len(self.told(recording(self.folder))) - 2)
+        self.assertEqual(self.told(recording(self.folder))[-1], "losses        9 % code")
         self.diagnosed.return_value = None, "no diagnosis: no program"
         self.assertEqual(self.told(recording(self.folder), all=False)[-1], "              no diagnosis: no program")
 
@@ -70,15 +72,10 @@ class Printed(InFolder):
         self.assertEqual(told[-1], "warnings      a note")
 
     def test_several_runs(self):
-        folder, path = recording(self.folder), os.path.join(self.folder, "mine.spanprof", "recording.json")
-        with open(path, encoding="utf-8") as file:
-            meta = json.load(file)
-        meta["runs"] = [{"elapsed_ns": 9, "work_ns": work * 1000, "span_ns": 70000} for work in (90, 120, 100)]
-        with open(path, "w", encoding="utf-8") as file:
-            json.dump(meta, file)
-        told = self.told(folder)
-        self.assertIn("runs          3, and each cost is that of the run with the median elapsed time (measured)", told)
-        self.assertIn("work          100 us (90 us to 120 us in 3 runs): code on 4 threads, added up (measured)", told)
+        """By recording.json, in the unit of the text."""
+        head = Head()
+        take_runs(head, [{"elapsed_ns": 9, "work_ns": work * 1000, "span_ns": 70000} for work in (90, 120, 100)])
+        self.assertEqual((head.runs, head.spread), (3, {"work": (90, 100, 120), "span": (70, 70, 70)}))
 
     def test_ranks(self):
         folders = [recording(self.folder, "mine.rank%d" % rank) for rank in (0, 1)]
@@ -97,7 +94,7 @@ class Printed(InFolder):
 
     def test_json(self):
         path = os.path.join(self.folder, "told.json")
-        self.diagnosed.return_value = mock.Mock(lines=lambda *_: [], json=lambda: {"diagnosis": []}), ""
+        self.diagnosed.return_value = mock.Mock(lines=lambda *_: [], sum_lines=list, json=lambda: {"diagnosis": []}), ""
         self.told(recording(self.folder), json=path)
         with open(path, encoding="utf-8") as file:
             told = json.load(file)

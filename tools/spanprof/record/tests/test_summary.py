@@ -179,14 +179,10 @@ class WhatTheTextIsNot(unittest.TestCase):
         self.assertIn("4: 1.43", lines["threads"][0])
 
     def test_the_spread_of_several_runs(self):
-        lines = lines_of(runs=7, is_median=True, spread={"work": (90, 100, 120), "span": (60, 70, 75)})
-        self.assertEqual(lines["runs"], ["7, and each cost is the median of theirs (measured)"])
+        lines = lines_of(runs=7, spread={"work": (90, 100, 120), "span": (60, 70, 75)})
+        self.assertEqual(lines["runs"], ["7, and each cost is that of the run with the median elapsed time (measured)"])
         self.assertTrue(lines["work"][0].startswith("100 us (90 us to 120 us in 7 runs): code"))
         self.assertTrue(lines["span"][0].startswith("70 us (60 us to 75 us in 7 runs): lower bound"))
-
-    def test_one_of_several_runs(self):
-        told = lines_of(runs=7, is_median=False)["runs"]
-        self.assertEqual(told, ["7, and each cost is that of the run with the median elapsed time (measured)"])
 
 
 if __name__ == "__main__":

@@ -11,11 +11,11 @@ LARGE = {"told": "too large", "file": "/tmp/mine.3.tasks", "what": "items", "has
 
 class Words(unittest.TestCase):
     def test_texts(self):
-        self.assertEqual(told.in_words(dict(TEXT, replay="/tmp/mine.replay")),
-                         "/tmp/mine.tasks and /tmp/mine.replay: 3 tasks, 7 segments, work 10 ns")
-        self.assertEqual(told.in_words(dict(TEXT, **{"no replay": "workers", "workers": 70})),
-                         "/tmp/mine.tasks; no replay document, since it holds 64 workers and the run had 70: 3 tasks, "
-                         "7 segments, work 10 ns")
+        self.assertEqual(told.in_words(dict(TEXT, times="/tmp/mine.timed")),
+                         "/tmp/mine.tasks and /tmp/mine.timed: 3 tasks, 7 segments, work 10 ns")
+        self.assertEqual(told.in_words(dict(TEXT, **{"no times": "unfinished"})),
+                         "/tmp/mine.tasks; no times, since tasks did not run to their ends: 3 tasks, 7 segments, "
+                         "work 10 ns")
 
     def test_limits(self):
         self.assertEqual(told.in_words(LARGE), "/tmp/mine.3.tasks is not written: it has 40 depend items of one task, "

@@ -9,8 +9,8 @@ const chosenFactors = (part = document) => [...part.querySelectorAll("input.fact
 function showLines(toRun) {
   const boxes = chosenFactors(toRun.closest("section")), [line, exact] = toRun.querySelectorAll("code[data-file]");
   const words = boxes.map((box) => "--factor " + quoted(box.dataset.place + "=" + box.value));
-  line.textContent = ["spanprof-report", quoted(line.dataset.file), ...words].join(" ");
-  const changed = changes(programs[Number(toRun.dataset.program)], boxes);
+  line.textContent = ["spanprof-whatif", quoted(line.dataset.file), ...words].join(" ");
+  const changed = changes(programs[0], boxes);
   const command = changed.length ? ["spanprof whatif", ...changed] : ["spanprof span"];
   exact.textContent = [...command, "<", quoted(exact.dataset.file)].join(" ");
   for (const one of [line, exact].map((code) => code.closest("pre"))) {

@@ -10,7 +10,7 @@ import re
 import sys
 from itertools import zip_longest
 
-from spanprof.regions import table_beside
+from spanprof.recording import REGIONS
 from spanprof.report.tests.expected import Program, WholeProgram, table, unpacked
 from spanprof.report.tests.page_reader import read_page
 
@@ -19,12 +19,12 @@ def expected_value(programs, source):
     if source.startswith("change "):
         before, after = (program.value(source.removeprefix("change ")) for program in programs)
         return 100 * (after - before) / before
-    named = re.match(r"(other|program|region (\d+)) (.*)", source)
+    named = re.match(r"(other|program) (.*)", source)
     if not named:
         return programs[0].value(source)
     if named[1] == "program":
-        return WholeProgram(table_beside(programs[0].file)[0]).value(named[3])
-    return programs[int(named[2] or 2) - 1].value(named[3])
+        return WholeProgram(os.path.join(os.path.dirname(programs[0].file), REGIONS)).value(named[2])
+    return programs[1].value(named[2])
 
 
 def is_same(shown, expected):
@@ -68,7 +68,7 @@ def is_recorded(program, run):
     lengths = unpacked(run["lengths"]) if "lengths" in run else program.cost
     drawn = [(lane, start / per, (start + length) / per) for lane, start, length in
              zip(unpacked(run["lanes"]), unpacked(run["starts"]), lengths) if lane is not None]
-    expected = [(int(worker), start, end) for start, end, worker in program.bars()]
+    expected = [(int(worker), start, end) for start, end, worker in program.bars]
     near = 0.51 / per
     return len(drawn) == len(expected) and all(
         a[0] == b[0] and abs(a[1] - b[1]) <= near and abs(a[2] - b[2]) <= near

@@ -1,20 +1,18 @@
 """What each number of a page has to be, worked out again from the answers of spanprof alone."""
 import json
-import os
 import re
 from functools import cached_property
-from types import SimpleNamespace
 
 from spanprof.account import account_of
 from spanprof.changed_text import with_costs, without_costs
-from spanprof.client import segments
-from spanprof.tests.columns import code_of
 from spanprof.head import read_head
 from spanprof.predict.machine import machine_file, read_machine
 from spanprof.predict.predictions import by_the_model, of_changed
 from spanprof.predict.recorded import recorded
-from spanprof.predict.scaled import together
-from spanprof.report.predicted import change_of, recordings
+from spanprof.predict.scaled import texts, together
+from spanprof.recording import document, open_recording
+from spanprof.segment_table import read_code
+from spanprof.report.predicted import change_of
 from spanprof.text import has_loops, statements, text_lines
 from spanprof.whatif.creating import costs_for
 from spanprof.whatif.requests import Request, applied, changes
@@ -65,7 +63,7 @@ class Program(Sums):
     def __init__(self, path, data, ask):
         with open(path, encoding="utf-8") as file:
             self.text = file.read()
-        self.file, self.base, self.ask = path, os.path.splitext(path)[0], ask
+        self.file, self.ask, self.timed = path, ask, document(open_recording(path))
         self.place_of, self.task_place_of = unpacked(data["place"]), unpacked(data["taskPlace"])
         self.slack = table(ask(["slack"], self.text))
         self.cost = [int(row["cost"]) for row in self.slack]
@@ -119,7 +117,7 @@ class Program(Sums):
 
     def threads(self):
         """Those of the head, and those that the recorded run needed."""
-        needed = 1 + max((int(worker) for _, _, worker in self.bars()), default=0)
+        needed = 1 + max((int(worker) for _, _, worker in self.bars), default=0)
         return max(self.recorded().get("threads", 1), needed)
 
     def of_places(self, numbers, what):
@@ -184,9 +182,9 @@ class Program(Sums):
     @cached_property
     def found(self):
         """The account of the run beside the text, asked anew."""
-        answers = SimpleNamespace(head=read_head(self.text), code=code_of(segments(self.text)), is_long=False,
-                                  work=self.line("work", "span"))
-        return account_of(answers, self.base + ".timed")
+        text = self.answer("show") if has_loops(self.text) else self.text
+        return account_of(read_head(self.text), self.line("work", "span"), self.timed,
+                          list(read_code(text.split("\n"), "the text").places))
 
     def account(self, what, number=None):
         if number is None:
@@ -246,27 +244,18 @@ class Program(Sums):
     @cached_property
     def measured(self):
         """What `spanprof-record --scale` wrote beside the text."""
-        with open(self.base + ".scale.json", encoding="utf-8") as file:
+        recorded = open_recording(self.file).file("scale.json")
+        with open(recorded or self.file.replace(".tasks", ".scale.json"), encoding="utf-8") as file:
             return json.load(file)
 
     def scale(self, threads, name):
         rows = {row["threads"]: row for row in self.measured["threads"]}
         return rows[int(threads)][name.replace("speedup-", "speedup ")]
 
-    def gap(self, what):
-        """The whole is the sum of its parts."""
-        found = self.measured["gap"]
-        parts = {name.replace(" ", "-"): time for name, time in found["parts"].items()}
-        return {**parts, "elapsed": found["elapsed"], "whole": sum(parts.values())}[what]
-
-    def gap_place(self, number, what):
-        return self.measured["gap"]["places"][int(number)][what]
-
     def predicted(self, threads, what):
         """By the model of the machine."""
         if ("predicted", threads) not in self.kept:
-            told = self.measured if os.path.exists(self.base + ".scale.json") else None
-            found = by_the_model(recordings(self.file, told), [int(threads)])[2]
+            found = by_the_model(texts(self.file).paths, [int(threads)])[2]
             self.kept["predicted", threads] = self.as_told(*found[0])
         return self.kept["predicted", threads][what]
 
@@ -286,10 +275,6 @@ class Program(Sums):
     def count(self, number):
         """Of threads, as the page names them."""
         return int(number)
-
-    def factors(self, *words):
-        pairs = [word.split("=") for word in words[:-1]]
-        return self.line(words[-1], *self.changed([(int(place), float(factor)) for place, factor in pairs]))
 
     def greedy(self, _):
         threads = self.data["runs"]["greedy"]["count"]
@@ -320,39 +305,20 @@ class Program(Sums):
     def edges(self, kind, a, b):
         return self.edges_of_tasks(kind, a, b, self.task_place_of)
 
-    def events(self):
-        with open(self.base + ".replay", encoding="utf-8") as file:
-            document = file.read()
-        return document, re.findall(r"(start|finish) (\d+) (\d+)", document.split("\n---\n")[1])
-
-    def by_clock(self):
+    @cached_property
+    def bars(self):
+        """Start, end and worker of each segment, where there is a recorded run."""
+        if not self.timed:
+            return []
         number, _, unit = self.recorded()["unit"].rpartition(" ")
         scale = int(number or 1) * {"ns": 1, "us": 1000, "ms": 1000000}[unit]
-        with open(self.base + ".times", encoding="utf-8") as file:
-            rows = table(file.read())
-        return [(int(row["start_ns"]) / scale, int(row["end_ns"]) / scale, row["thread"]) for row in rows]
-
-    def in_order(self):
-        """Each segment as early as its thread and what it waits for allow."""
-        document, events = self.events()
-        before, ends, free, out = recorded_waits(self.ask(["replay"], document)), {}, {}, []
-        for kind, worker, s in events:
-            if kind == "start":
-                start = max([free.get(worker, 0)] + [ends[p] for p in before[int(s)]])
-                ends[int(s)] = free[worker] = start + self.cost[int(s)]
-                out.append((start, free[worker], worker))
-        return out
-
-    def bars(self):
-        """Start, end and worker of each segment that ran, where there is a recorded run."""
-        if not os.path.exists(self.base + ".replay"):
-            return []
-        return self.by_clock() if os.path.exists(self.base + ".times") else self.in_order()
+        with open(self.timed, encoding="utf-8") as file:
+            rows = [line.split() for line in file.read().partition("\ntimes ")[2].split("\n")[1:] if line]
+        return [(int(begin) / scale, int(end) / scale, worker) for _, worker, begin, end in rows]
 
     def run(self, what):
-        bars = self.bars()
-        end = max(end for _, end, _ in bars)
-        return {"end": round(end), "busy": sum(end - start for start, end, _ in bars),
+        end = max(end for _, end, _ in self.bars)
+        return {"end": round(end), "busy": sum(end - start for start, end, _ in self.bars),
                 "time": end * self.threads()}[what]
 
 

@@ -47,18 +47,8 @@ class Command(unittest.TestCase):
         with open(self.out("m.html"), encoding="utf-8") as file:
             self.assertIn("?.tasks", file.read())
 
-    def test_factors_alone_print_the_answer(self):
-        told = io.StringIO()
-        with contextlib.redirect_stdout(told):
-            main([worked.path("mesh.tasks"), "--factor", "task at mesh.c:8=0.5"])
-        self.assertEqual(told.getvalue(), "warning: mutexinoutset, 2 times at mesh.c:10: span too low, and too high in "
-                         "the text .inout.tasks of spanprof-convert --region\n"
-                         "lock critical at mesh.c:9: 3 times, 2 us inside, 1 us waiting\n"
-                         "1 segment changed\nwork 35\nspan 25\nwas 31\n")
-
     def copied(self, name="mesh"):
-        for ending in (".tasks", ".replay"):
-            shutil.copy(worked.path(name + ending), self.folder.name)
+        shutil.copy(worked.path(name + ".tasks"), self.folder.name)
         return self.out(name + ".tasks")
 
     def test_a_page_is_written_beside_the_text_and_named(self):
@@ -84,18 +74,16 @@ class Command(unittest.TestCase):
         with contextlib.redirect_stdout(told):
             main([worked.path("split.tasks"), "--json"])
         found = json.loads(told.getvalue())
-        self.assertEqual((found["account"]["threads"], found["scale"]["gap"]["elapsed"]), (2, 30000))
+        self.assertEqual((found["account"]["threads"], found["scale"]["runs"]), (2, 3))
         self.assertEqual([one["threads"] for one in found["predicted"]], [2, 4])
 
     def test_refusals(self):
         mesh = worked.path("mesh.tasks")
-        self.assertIn("ask for one of them", self.refused(mesh, "--json", "--factor", "a=1"))
         self.assertIn("0 is no whole number from 1 to 1024", self.refused(mesh, "-o", "x", "--threads", "0"))
         self.assertIn("are for different files", self.refused(mesh, "-o", "x", "--trace", "./x"))
         self.assertIn("unrecognized arguments: --js", self.refused(mesh, "--js"))
         self.assertEqual(self.refused(""), "spanprof-report: '': no such file\n")
         self.assertEqual(self.refused("no.tasks", "-o", "x"), "spanprof-report: no.tasks: no such file\n")
-        self.assertIn("no place of this name", self.refused(mesh, "--factor", "nowhere=2"))
         self.assertIn("No such file or directory", self.refused(mesh, "-o", self.out("none/x.html")))
         self.assertIn("--source /none: no such folder", self.refused(mesh, "-o", "x", "--source", "/none"))
 

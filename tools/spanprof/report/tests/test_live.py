@@ -17,7 +17,7 @@ MODULE = live.Module(WASM, live.PROVED_CODE)
 
 def live_page(name):
     with worked.patched():
-        return page([worked.view(name)], (), MODULE)
+        return page([worked.view(name)], MODULE)
 
 
 class Modules(unittest.TestCase):

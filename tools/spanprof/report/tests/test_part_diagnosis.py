@@ -1,7 +1,7 @@
 import re
 import unittest
 
-from spanprof.diagnosis.causes import TABLE
+from spanprof.diagnosis.causes import NAMES, TABLE
 from spanprof.diagnosis.changes import single
 from spanprof.diagnosis.diagnose import Diagnosis, diagnose
 from spanprof.diagnosis.losses import Loss, code_on_one, losses
@@ -10,7 +10,7 @@ from spanprof.diagnosis.plan import Step
 from spanprof.diagnosis.tell import Told
 from spanprof.diagnosis.tests.test_sentences import SOURCES, TASKS, found
 from spanprof.diagnosis.tests.worked import MS
-from spanprof.report.part_diagnosis import WORDS, first_screen, parts
+from spanprof.report.part_diagnosis import first_screen, parts
 
 
 def told():
@@ -44,7 +44,7 @@ class Screens(unittest.TestCase):
 
     def test_each_loss_has_words(self):
         for kind in [cause.kind for cause in TABLE if cause.kind != "efficient"] + ["recorder", "startup"]:
-            self.assertIn(kind, WORDS)
+            self.assertIn(kind, NAMES)
 
     def test_without_a_change(self):
         run = found(threads=1, asked=1)

@@ -103,16 +103,13 @@ class OfOneProgram(unittest.TestCase):
         words = self.told()
         self.assertIn("The text says nothing of 4 threads : on another number of threads its code", words)
         self.assertNotRegex(words, "pays most|What bounds|4 threads: up to")
-        self.assertNotIn("greedy schedule at half", seen(what_if_part(self.view, self.trials, [])))
+        self.assertNotIn("greedy schedule at half", seen(what_if_part(self.view, self.trials)))
 
     def test_the_spread_of_several_runs(self):
-        words = self.told(runs=7, is_median=True, spread={"work": (39, 41, 1044), "span": (30, 31, 36)})
-        self.assertIn("the median of 7 runs", words)
+        words = self.told(runs=7, spread={"work": (39, 41, 1044), "span": (30, 31, 36)})
+        self.assertIn("the one of 7 runs with the median elapsed time", words)
         self.assertIn("code on 2 threads, added up 39 µs to 1.04 ms in 7 runs", words)
         self.assertIn("30 µs to 36 µs in 7 runs", words)
-
-    def test_several_runs_without_a_median(self):
-        self.assertIn("one of 7 runs, which have no median", self.told(runs=7))
 
     def test_one_thread(self):
         words = self.told(threads=1)
@@ -146,26 +143,15 @@ class OfOneProgram(unittest.TestCase):
         mark = re.search(r'd="M\S+ (\S+)l7 7l-7 7l-7 -7z"', curve_part([worked.view("odd")]))
         self.assertGreater(float(mark[1]), 0)
 
-    def test_a_run_without_times_is_not_called_as_it_was(self):
-        words = seen(timeline_part(self.view, 0, "timeline", "Timeline"))
-        self.assertIn("The recorded run, in the order of the replay , 2 threads , 31 µs", words)
-        self.assertNotIn("The run as it was", words)
-
     def test_a_run_with_times_is(self):
         words = seen(timeline_part(worked.view("split"), 0, "timeline", "Timeline"))
         self.assertIn("The run as it was , 2 threads , 28 µs", words)
         self.assertIn("From the region's beginning to its end 30 µs elapsed measured , 2 µs of it after the last",
                       words)
 
-    def test_what_elapsed_beyond_the_costs(self):
-        words = seen(timeline_part(self.view, 0, "timeline", "Timeline"))
-        self.assertIn("40 µs elapsed measured , 9 µs more than the costs in this order need", words)
-        self.view.answers.head.elapsed = 31
-        self.assertNotIn("elapsed", seen(timeline_part(self.view, 0, "timeline", "Timeline")))
-
     def test_no_run(self):
         words = seen(timeline_part(worked.view("plain"), 0, "timeline", "Timeline"))
-        self.assertIn("There is no replay document next to plain.tasks. So there is only the greedy schedule to show.",
+        self.assertIn("There are no recorded times of its segments. So there is only the greedy schedule to show.",
                       words)
 
     def test_path(self):
@@ -174,7 +160,7 @@ class OfOneProgram(unittest.TestCase):
         self.assertIn("#pragma omp task depend(in: x) cell(i);", words)
 
     def test_what_if(self):
-        part = what_if_part(self.view, self.trials, [])
+        part = what_if_part(self.view, self.trials)
         self.assertEqual(part.count('class="factor"'), sum(place.cost > 0 for place in self.view.places))
         self.assertIn('id="factors-line" data-file="mesh.tasks"', part)
         self.assertIn('id="changes-line" data-file="mesh.tasks"', part)

@@ -1,13 +1,11 @@
 """Times by the model of the machine on the page: of the recording, and of its first changes."""
 import os
-import tempfile
 import unittest
 from unittest import mock
 
 from spanprof.report.page import asked_part, page
 from spanprof.report.part_changes import changes_part
 from spanprof.report.part_predicted import predicted_words
-from spanprof.report.predicted import recordings
 from spanprof.report.tests import worked
 from spanprof.report.tests.page_reader import read_page
 from spanprof.report.tests.test_parts import seen
@@ -16,19 +14,6 @@ from spanprof.tests.proofs import with_a_proved_program
 setUpModule = with_a_proved_program
 
 NO_MACHINE = {"SPANPROF_MACHINE": "/none"}
-
-
-class Recordings(unittest.TestCase):
-    def test_those_that_are_there(self):
-        with tempfile.TemporaryDirectory() as folder:
-            path, other = (os.path.join(folder, name) for name in ("a.tasks", "threads1.tasks"))
-            for name in (path, other):
-                with open(name, "w", encoding="utf-8"):
-                    pass
-            told = {"threads": [{"threads": 1, "recordings": ["threads1.tasks", "gone.tasks"], "times": [3]},
-                                {"threads": 2, "recordings": ["a.tasks"]}, {"recordings": None}, {}, 3]}
-            self.assertEqual(recordings(path, told), [other, path])
-            self.assertEqual([recordings(path, other) for other in (None, {}, {"threads": 3})], [[path]] * 3)
 
 
 class OfARecording(unittest.TestCase):
@@ -72,7 +57,7 @@ class OfARecording(unittest.TestCase):
     def test_what_was_asked(self):
         part = seen(asked_part([self.view]))
         self.assertIn("spanprof-predict split.tasks --threads 2,4", part)
-        self.assertIn("spanprof-record --scale, in split.scale.json", part)
+        self.assertIn("spanprof-record --scale, in split.tasks/scale.json", part)
 
 
 class WithoutAModel(unittest.TestCase):

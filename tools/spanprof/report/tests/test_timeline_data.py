@@ -16,16 +16,14 @@ class Packing(unittest.TestCase):
 
 class Data(unittest.TestCase):
     def test_a_timed_run_is_in_nanoseconds(self):
-        run = RecordedRun([0.5, 2], [1.25, 2.001], [0, 1], is_timed=True, unit=1000)
+        run = RecordedRun([0.5, 2], [1.25, 2.001], [0, 1], unit=1000, count=2)
         self.assertEqual(recorded_data(run), {"starts": packed([500, 2000]), "lanes": "0 1", "count": 2,
                                               "lengths": packed([750, 1]), "per": 1000})
-
-    def test_a_run_in_order_is_in_units(self):
-        self.assertEqual(recorded_data(RecordedRun([3], [5], [0])), {"starts": "3", "lanes": "0", "count": 1})
 
     def test_of_the_worked_program(self):
         data = timeline_data(worked.view("mesh"))
         self.assertEqual(unpacked(data["cost"]), [5, 12, 1, 6, 4, 0, 1, 1, 8, 0, 0, 0, 3])
         self.assertEqual(unpacked(data["critical"]), [0, 1, 3, 4, 6, 12])
-        self.assertEqual(sorted(data["runs"]), ["greedy", "recorded"])
+        self.assertEqual([sorted(timeline_data(worked.view(name))["runs"]) for name in ("mesh", "split")],
+                         [["greedy"], ["greedy", "recorded"]])
         self.assertEqual((data["name"], data["unit"]), ("mesh.tasks", "µs"))

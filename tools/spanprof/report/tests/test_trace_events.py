@@ -1,8 +1,10 @@
 """Against what the JSON form of trace events requires, which ui.perfetto.dev and chrome://tracing read."""
 import json
 import unittest
+from types import SimpleNamespace
 
-from spanprof.report.recorded_run import read_times
+from spanprof.account import Row
+from spanprof.report.recorded_run import run_of_rows
 from spanprof.report.tests import worked
 from spanprof.report.trace_events import Run, ready_counts, trace_text
 
@@ -22,7 +24,7 @@ def of_kind(events, kind, process):
 
 class Form(unittest.TestCase):
     def setUp(self):
-        self.events = events_of("mesh")
+        self.events = events_of("split")
 
     def test_required_fields(self):
         for event in self.events:
@@ -30,14 +32,14 @@ class Form(unittest.TestCase):
 
     def test_threads_and_runs_have_names(self):
         names = [event["args"]["name"] for event in self.events if event["name"] == "process_name"]
-        self.assertEqual(names, ["the recorded run, in the order of the replay", "the greedy schedule"])
+        self.assertEqual(names, ["the run as it was", "the greedy schedule"])
         threads = [event["tid"] for event in self.events if event["name"] == "thread_name" and event["pid"] == 2]
         self.assertEqual(threads, [0, 1])
 
     def test_bars_of_a_thread_do_not_overlap(self):
         for process in (1, 2):
             bars = sorted(of_kind(self.events, "X", process), key=lambda bar: (bar["tid"], bar["ts"]))
-            self.assertEqual(sum(bar["dur"] for bar in bars), 41)
+            self.assertAlmostEqual(sum(bar["dur"] for bar in bars), {1: 40.73, 2: 37}[process])
             for a, b in zip(bars, bars[1:]):
                 self.assertTrue(a["tid"] != b["tid"] or a["ts"] + a["dur"] <= b["ts"])
 
@@ -54,7 +56,8 @@ class Form(unittest.TestCase):
             self.assertTrue(all(begins[one]["ts"] <= ends[one]["ts"] for one in begins))
 
     def test_arrows_say_what_they_are(self):
-        self.assertEqual({flow["name"] for flow in of_kind(self.events, "s", 2)}, {"creates", "depends", "waits"})
+        events = events_of("mesh")
+        self.assertEqual({flow["name"] for flow in of_kind(events, "s", 2)}, {"creates", "depends", "waits"})
 
     def test_numbers_of_arrows_are_of_one_run_each(self):
         numbers = [flow["id"] for flow in self.events if flow["ph"] == "s"]
@@ -87,13 +90,10 @@ class Times(unittest.TestCase):
             self.assertEqual((bars[0]["ts"], bars[0]["dur"]), (0, length))
 
     def test_times_are_nanoseconds_whatever_the_unit_of_costs(self):
-        view = worked.view("split")
         for unit, cost in (("ns", 1), ("us", 1000), ("250 ns", 250)):
-            view.answers.head.unit = unit
-            with worked.patched():
-                run = read_times(worked.path("split.times"), view.answers)
-            self.assertEqual(run.nanoseconds(run.starts[7]), 25600)
-            self.assertAlmostEqual(run.starts[7] * cost, 25600)
+            run = run_of_rows(SimpleNamespace(rows=[Row(0, 0, 25600, 28000)], threads=2), cost)
+            self.assertEqual((run.nanoseconds(run.starts[0]), run.count), (25600, 2))
+            self.assertAlmostEqual(run.starts[0] * cost, 25600)
 
     def test_ready_segments(self):
         view = worked.view("plain")

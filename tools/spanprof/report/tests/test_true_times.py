@@ -1,8 +1,6 @@
 import argparse
 import json
-import os
 import re
-import tempfile
 import unittest
 
 from spanprof.report.part_curve import curve_part
@@ -10,42 +8,40 @@ from spanprof.report.tests import worked
 from spanprof.report.tests.expected import Program
 from spanprof.report.tests.page_reader import read_page
 from spanprof.report.true_times import Point, points_in, scale_beside
+from spanprof.tests.in_folder import InFolder
 
 DATE = "2026-11-27T11:02:55Z"
-TOLD = {"text": "mine.tasks", "work": 9, "date": DATE, "threads": [
+TOLD = {"date": DATE, "threads": [
     {"threads": 4, "speedup": 2.5, "speedup from": 2.0, "speedup to": 3.0}]}
 POINTS = [Point(1, 1.0, 0.95, 1.05), Point(4, 1.21, 1.02, 1.33), Point(64, 2.0, 2.0, 40.0)]
 
 
-class Files(unittest.TestCase):
+class Files(InFolder):
     def setUp(self):
-        kept = tempfile.TemporaryDirectory()
-        self.addCleanup(kept.cleanup)
-        self.base = os.path.join(kept.name, "mine")
-        self.answers = argparse.Namespace(path=self.base + ".tasks", name="mine.tasks", work=9,
-                                          head=argparse.Namespace(date=DATE))
+        super().setUp()
+        self.write("recording.json", "{}")
+        self.answers = argparse.Namespace(path=self.write("program.tasks"), head=argparse.Namespace(date=DATE))
 
     def points(self, told):
-        with open(self.base + ".scale.json", "w", encoding="utf-8") as file:
-            file.write(told if isinstance(told, str) else json.dumps(told))
+        self.write("scale.json", told if isinstance(told, str) else json.dumps(told))
         return points_in(scale_beside(self.answers))
 
     def test_those_of_this_recording(self):
         self.assertEqual(points_in(scale_beside(self.answers)), [])
         self.assertEqual(self.points(TOLD), [Point(4, 2.5, 2.0, 3.0)])
+        self.answers.path = self.write("plain.tasks")
+        self.assertIsNone(scale_beside(self.answers))
 
     def test_others(self):
-        for name, value in (("text", "other.tasks"), ("work", 8), ("date", ""), ("threads", [{}]), ("threads", 3)):
+        for name, value in (("date", ""), ("threads", [{}]), ("threads", 3)):
             self.assertEqual(self.points(dict(TOLD, **{name: value})), [], name)
         for wrong in ("", "[]", "{", "7"):
             self.assertEqual(self.points(wrong), [], wrong)
 
     def test_what_the_page_is_judged_by(self):
-        self.points(TOLD)
         program = Program.__new__(Program)
-        program.base = self.base
-        self.assertEqual([program.scale("4", name) for name in ("threads", "speedup", "speedup-from", "speedup-to")],
-                         [4, 2.5, 2.0, 3.0])
+        program.file = worked.path("split.tasks")
+        self.assertEqual([program.scale("2", name) for name in ("threads", "speedup-from")], [2, 11 / 9])
 
 
 class Marks(unittest.TestCase):

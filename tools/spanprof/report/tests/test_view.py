@@ -1,26 +1,24 @@
 import unittest
 
-from spanprof.errors import Fault
 from spanprof.report.figures import DECLARED, MEASURED, RECORDED
 from spanprof.report.tests import worked
-from spanprof.report.view import COLOURS, View
+from spanprof.report.view import COLOURS
 
 
 class Reached(unittest.TestCase):
     def test_by_the_clock(self):
         reached = worked.view("split").reached
-        self.assertEqual((reached.threads, reached.end, reached.is_elapsed), (2, 30, True))
+        self.assertEqual(reached.threads, 2)
         self.assertAlmostEqual(reached.speed_up, 37 / 30)
 
     def test_by_the_head_alone(self):
         view = worked.view("odd")
-        self.assertEqual((view.run, view.reached.threads, view.reached.end), (None, 2, 3))
+        self.assertEqual((view.run, view.reached.threads), (None, 2))
         self.assertEqual(view.unit, "× 250 ns")
 
     def test_nothing_recorded(self):
         view = worked.view("plain")
-        self.assertIsNone(view.reached)
-        self.assertEqual(view.without_run, "There is no replay document next to plain.tasks.")
+        self.assertEqual((view.reached, view.run), (None, None))
 
 
 class Kinds(unittest.TestCase):
@@ -41,9 +39,3 @@ class Kinds(unittest.TestCase):
         view = worked.view("mesh")
         view.task_places[-1].number = 40
         self.assertEqual(view.colour_of(view.task_places[-1]), COLOURS - 1)
-
-
-class ReplayByName(unittest.TestCase):
-    def test_a_named_replay_has_to_fit(self):
-        with worked.patched(), self.assertRaisesRegex(Fault, "split.replay is not a run of mesh.tasks"):
-            View(worked.path("mesh.tasks"), worked.path("split.replay"))

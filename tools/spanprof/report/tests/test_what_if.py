@@ -1,24 +1,7 @@
 import unittest
 
-from spanprof.errors import Fault
-from spanprof.report.places import Place
 from spanprof.report.tests import worked
-from spanprof.report.what_if import Trials, all_at_once, changed, read_factors
-
-PLACES = [Place("task at a.c:3"), Place("after creating a task at a.c:3"), Place("the beginning")]
-
-
-class Factors(unittest.TestCase):
-    def test_a_place_is_named_whole_or_by_a_part_that_no_other_has(self):
-        self.assertEqual(read_factors(["task at a.c:3=0.5", "begin=2"], PLACES), [(PLACES[0], 0.5), (PLACES[2], 2.0)])
-
-    def test_refusals(self):
-        for word, told in (("a.c:3=1", "more than one place"), ("b.c=1", "no place of this name"),
-                           ("task at a.c:4=1", "no place of this name; there are: .*task at a.c:3"),
-                           ("begin=x", "not a number"), ("begin=-1", "from 0 to 1,000,000"),
-                           ("begin=nan", "from 0 to"), ("begin", "begin: a place, `=` and a number are wanted")):
-            with self.assertRaisesRegex(Fault, told):
-                read_factors([word], PLACES)
+from spanprof.report.what_if import Trials, changed
 
 
 class Costs(unittest.TestCase):
@@ -42,9 +25,3 @@ class Costs(unittest.TestCase):
             self.assertEqual(trials.halved(place)["span"], 25)
             self.assertEqual(trials.at(place, 0.5)["was"], 31)
             self.assertEqual(len(self.view.answers.asked), before + 1)
-
-    def test_several_places_at_once(self):
-        with worked.patched():
-            after = all_at_once(self.view, [(self.place("task at mesh.c:8"), 0.5),
-                                            (self.place("after taskwait at mesh.c:14"), 3)])
-        self.assertEqual(after, {"work": 41 - 6 + 6, "span": 31, "was": 31})

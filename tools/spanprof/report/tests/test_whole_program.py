@@ -7,7 +7,7 @@ from spanprof.regions import Program, Region
 from spanprof.report.graph import CREATES, DEPENDS, WAITS
 from spanprof.report.graph_picture import Joined
 from spanprof.report.part_graph import LONGEST, cut, name_lines
-from spanprof.report.part_program import which_are_told
+from spanprof.report.part_program import alike, bins_of, program_part
 from spanprof.report.part_source import words_of
 from spanprof.report.part_tasks import creation
 from spanprof.report.places import TaskPlace, root_name
@@ -41,11 +41,16 @@ class Whole(unittest.TestCase):
         self.view.answers.head.whole = "2 regions"
         self.assertIn("8 parts of the regions' own code", seen(tasks_tile(self.view)))
 
-    def test_what_the_rest_of_the_page_is_of(self):
-        one, two = Program(20, 5, [region(1)]), Program(20, 5, [region(1), region(2)])
-        self.assertEqual(which_are_told(one, False), "")
-        self.assertIn("the one that is the median in code", which_are_told(two, False))
-        self.assertEqual(which_are_told(two, True), " What follows is of the whole program, as one text.")
+    def test_the_program_comes_with_its_regions(self):
+        words = seen(program_part(Program(200, 5, [region(1), region(2, "b.c:3")])))
+        self.assertIn("the program spent", words)
+        self.assertIn("in the region at a.c:9", words)
+        self.assertEqual((program_part(None), program_part(Program(200, 5, []))), ("", ""))
+
+    def test_the_time_in_regions(self):
+        bins = bins_of(Program(200, 5, [region(1)]))
+        self.assertAlmostEqual(sum(sum(shares.values()) for shares in bins) / len(bins), 0.05)
+        self.assertEqual(len(alike(bins)), 2)
 
     def test_the_beginning_is_told_as_serial_code(self):
         self.assertEqual(self.view.snippet("the beginning"), [])

@@ -61,6 +61,12 @@ def with_a_machine():
     return mock.patch.dict(os.environ, SPANPROF_MACHINE=path("machine.json"))
 
 
+def scale_beside(answers):
+    """A worked text is no recording: its scale stands beside it."""
+    file = answers.path.replace(".tasks", ".scale.json")
+    return json.loads(document(file)) if os.path.exists(file) else None
+
+
 class Patched:
     """The kept answers in place of both programs; a diagnosis, which asks much more, is none of them."""
 
@@ -68,6 +74,7 @@ class Patched:
         kept = Kept()
         self.patches = [mock.patch("spanprof.client.ask", kept), mock.patch("spanprof.client.pieces", pieces_of(kept)),
                         mock.patch("spanprof.account.ask", kept.of_times), with_a_machine(),
+                        mock.patch("spanprof.report.view.scale_beside", scale_beside),
                         mock.patch("spanprof.report.view.diagnosis_of", return_value=None)]
 
     def start(self):
@@ -103,18 +110,16 @@ def view(name="mesh", **more):
 
 
 def pages():
-    """Each page that the tests make, as names of texts and factors."""
-    return [(["mesh"], []), (["split"], []), (["plain"], []), (["odd"], []), (["mesh", "split"], []),
-            (["mesh"], ["task at mesh.c:8=0.5", "after taskwait at mesh.c:14=3"])]
+    """Each page that the tests make, as names of texts."""
+    return [["mesh"], ["split"], ["plain"], ["odd"], ["mesh", "split"]]
 
 
-def page_text(names, factors=()):
+def page_text(names):
     from spanprof.report.page import page
     from spanprof.report.view import View
-    from spanprof.report.what_if import read_factors
     views = [View(path(name + ".tasks"), source=[FOLDER], prefix="other " if i else "")
              for i, name in enumerate(names)]
-    return page(views, read_factors(factors, views[0].places))
+    return page(views)
 
 
 def noting(out, ask, key_of):
@@ -133,18 +138,16 @@ def asked_now():
     """All that the pages and their comparison ask of spanprof and spanprof_large, with what they answer."""
     from spanprof import account, client
     from spanprof.report.tests.compare import differences
-    from spanprof.report.tests.recorded_runs import refused
     out = {}
     asked = noting(out, client.ask, key)
     of_times = account.ask if client.takes_any_size() else Kept().of_times     # that program need not be there
     times = noting(out, of_times, lambda words, file: key(["account", *words], document(file)))
     with mock.patch("spanprof.client.ask", asked), mock.patch("spanprof.client.pieces", pieces_of(asked)), \
             mock.patch("spanprof.account.ask", times), with_a_machine():
-        for names, factors in pages():
-            wrong, _ = differences(page_text(names, factors), [path(name + ".tasks") for name in names], asked)
+        for names in pages():
+            wrong, _ = differences(page_text(names), [path(name + ".tasks") for name in names], asked)
             if wrong:
                 sys.exit("\n".join(wrong))
-        refused()
     return out
 
 
