@@ -67,7 +67,7 @@ void in_child_of_fork() {
 
 void tell_beginning() {
   if (life->options.quiet) return;
-  say((life->log.online ? "measuring to " : "recording to ") + life->log.folder);
+  say("recording to " + life->log.folder);
   if (life->log.unseen & log_form::unseen_detach)
     say("gcc's detach is not seen by LLVM's runtime, and the program may crash");
   if (life->log.unseen & log_form::unseen_target)
@@ -113,8 +113,7 @@ void begin_recording(void (*call)(), uint32_t unseen) {
   life->log.program_start = program_start();
   life->log.is_child = is_child_of_this_program();
   life->log.unseen = unseen;
-  life->log.online = life->options.online;
-  life->log.call_paths = life->options.call_paths && !life->options.online;
+  life->log.call_paths = life->options.call_paths;
   life->process = getpid();
   name_log();
   begin_log(life->log, life->call);

@@ -17,7 +17,6 @@
 
 #include "known_stacks.hpp"
 #include "log_modules.hpp"
-#include "online_life.hpp"
 #include "path_numbers.hpp"
 #include "samples.hpp"
 #include "say.hpp"
@@ -103,7 +102,6 @@ bool make_log() {
   fill_head();
   tell_modules(beginning.folder);
   if (beginning.call_paths) begin_paths(beginning.folder);
-  if (measures) write_measured(beginning.folder, false);
   return true;
 }
 
@@ -122,7 +120,6 @@ const char *word_of(Stopped why) {
   switch (why) {
     case Stopped::Full: return "the disk is full, and what follows is not recorded";
     case Stopped::Numbers: return "there are more tasks than numbers, and what follows is not recorded";
-    case Stopped::Memory: return "there is no memory left, and what follows is not measured";
     default: return "the log cannot be written, and what follows is not recorded";
   }
 }
@@ -142,11 +139,10 @@ int64_t wall_time_at(uint64_t ticks) {
 
 void begin_log(const Beginning &how, void (*call)()) {
   beginning = how;
-  if (beginning.online) begin_measuring(costs_by_processor ? 0 : beginning.program_start);
-  only_records = by_time_stamp && !costs_by_processor && !measures;
+  only_records = by_time_stamp && !costs_by_processor;
   if (first.wall) return;  // it is known from before a fork
   measure_ticks();
-  if (!beginning.online) in_a_record = time_of_record(call);
+  in_a_record = time_of_record(call);
 }
 
 void set_time_of_beginning(uint64_t took) { beginning_took = took; }
@@ -169,18 +165,17 @@ ThreadLog *make_thread_log() {
   is_made = true;
   thread_log = new ThreadLog(next_thread++);
   thread_log->is_slow = true;
-  if (measures) thread_log->online = &thread_to_measure();
-  else if (beginning.call_paths) thread_log->stacks = new KnownStacks;
+  if (beginning.call_paths) thread_log->stacks = new KnownStacks;
   if (beginning_took) thread_log->tell_stood_still(std::exchange(beginning_took, 0));
-  if (!measures) sample_thread(*thread_log, beginning.folder);
+  sample_thread(*thread_log, beginning.folder);
   return thread_log;
 }
 
-// By the processor's clock, which each thread begins anew, and where the run is measured, it stays the thread's.
+// By the processor's clock, which each thread begins anew, it stays the thread's.
 void leave_thread_log() {
   ThreadLog *log = std::exchange(thread_log, nullptr);
   leave_samples(*log);
-  if (costs_by_processor || measures) return;
+  if (costs_by_processor) return;
   delete std::exchange(log->stacks, nullptr);
   std::lock_guard<std::mutex> guard(making);
   of_ended.push_back(log);
@@ -208,13 +203,9 @@ void stop_log(Stopped why) {
 
 void end_log(log_form::HowEnded how) {
   Moment now = moment_now();
-  if (thread_log && !measures && !is_stopped()) thread_log->look_at_clocks(now);  // no record may follow
+  if (thread_log && !is_stopped()) thread_log->look_at_clocks(now);  // no record may follow
   stop_log(Stopped::End);
   if (!head) return;
-  if (measures) {
-    if (thread_log) thread_log->online->stop(thread_log->own_clock(now));
-    write_measured(beginning.folder, how == log_form::HowEnded::ByRuntime && log_stopped == Stopped::End);
-  }
   head->end = read_pair();
   head->end_processor = processor_time();
   head->end_thread = thread_log ? thread_log->number : UINT32_MAX;

@@ -61,7 +61,6 @@ RecordingOptions read_recording_options() {
   flag("SPANPROF_CLOCK", "wall", "cpu", chosen.processor_clock);
   flag("SPANPROF_QUIET", "0", "1", chosen.quiet);
   flag("SPANPROF_TIME_STAMP", "0", "1", chosen.time_stamp);
-  flag("SPANPROF_ONLINE", "0", "1", chosen.online);
   flag("SPANPROF_CALL_PATHS", "0", "1", chosen.call_paths);
   return chosen;
 }
@@ -74,7 +73,6 @@ Options read_options() {
   if (const char *region = getenv("SPANPROF_REGION")) chosen.region = region;
   parts(chosen.parts);
   flag("SPANPROF_WHOLE", "0", "1", chosen.whole);
-  flag("SPANPROF_ONLINE", "0", "1", chosen.online);
   flag("SPANPROF_TIMES", "0", "1", chosen.times);
   return chosen;
 }

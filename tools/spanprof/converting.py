@@ -18,8 +18,7 @@ CONVERTER = Product("convert_log", "the converter of logs", "clang-19 libomp-19-
 RECORDERS = builds_in("openmp_recorder")
 LOADERS = ("LD_PRELOAD", "OMP_TOOL_LIBRARIES")  # of the recorded program alone
 STEM = "program"
-FILES = {".tasks": TEXT, ".times": TIMES, ".regions": REGIONS, ".off": "off", ".locks": "locks", ".calls": "calls",
-         ".online.json": "online.json"}
+FILES = {".tasks": TEXT, ".times": TIMES, ".regions": REGIONS, ".off": "off", ".locks": "locks", ".calls": "calls"}
 FAILED = ("fault", "unwritten")
 DIED = {signal.SIGKILL: "it was killed, as the system does where memory is short",
         signal.SIGXFSZ: "a file would be longer than `ulimit -f` allows"}

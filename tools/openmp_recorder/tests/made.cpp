@@ -5,7 +5,6 @@
 #include "../compose.hpp"
 #include "../events.hpp"
 #include "../size.hpp"
-#include "../online_replay.hpp"
 #include "check.hpp"
 
 Made::Made(unsigned many) : count(many) {
@@ -98,13 +97,6 @@ std::vector<Records *> Made::from_the_beginning() {
 Run Made::read(Ending ending, const HowToRead &how) {
   if (!ending.wall) threads[0]->log.regions[0].end = time;
   return read_run(from_the_beginning(), ending, how);
-}
-
-OnlineSums Made::measure(const HowToRead &how) {
-  HowToRead known = how;
-  known.last = &threads[0]->log;
-  Ending ending;
-  return measure_log(from_the_beginning(), known, ending);
 }
 
 DependItem item(ompt_dependence_type_t type, uint64_t address) { return {address, static_cast<uint64_t>(type)}; }

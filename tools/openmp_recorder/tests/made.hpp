@@ -6,7 +6,6 @@
 #include <string>
 #include <vector>
 
-#include "../online_sums.hpp"
 #include "../run.hpp"
 #include "../text.hpp"
 
@@ -40,7 +39,6 @@ class Made {
   Made &sample(unsigned thread, uint32_t stack, uint32_t microseconds, bool slept = false);
   int64_t now() const { return time; }
   Run read(Ending ending = {}, const HowToRead &how = {});
-  OnlineSums measure(const HowToRead &how);  // the same records, as a run that goes on
 
  private:
   std::vector<std::unique_ptr<Kept>> threads;
