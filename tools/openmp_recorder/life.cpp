@@ -2,7 +2,6 @@
 
 #include <pthread.h>
 #include <stdlib.h>
-#include <time.h>
 #include <unistd.h>
 
 #include <atomic>
@@ -25,12 +24,6 @@ struct Life {
 };
 
 Life *life = nullptr;  // never destroyed: the runtime says goodbye after the destructors of globals have run
-
-int64_t time_of_day() {
-  timespec t;
-  clock_gettime(CLOCK_REALTIME, &t);
-  return int64_t{t.tv_sec} * 1000000000 + t.tv_nsec;
-}
 
 std::string program_of(const std::string &process) {
   char path[4096];

@@ -9,7 +9,7 @@
 
 namespace log_form {
 constexpr char magic[8] = {'S', 'P', 'A', 'N', 'P', 'L', 'O', 'G'};
-constexpr uint32_t version = 4, without_paths = 3;  // the same, but for call paths
+constexpr uint32_t version = 4;
 constexpr const char *log_folder = "/log";  // of a recording
 constexpr const char *head_file = "/head", *modules_file = "/modules", *thread_file = "/thread.", *last_block = ".last";
 constexpr const char *paths_file = "/paths";  // of creations, where call paths were asked for

@@ -5,7 +5,6 @@
 #include <sys/file.h>
 #include <sys/mman.h>
 #include <sys/stat.h>
-#include <time.h>
 #include <unistd.h>
 
 #include <atomic>
@@ -44,12 +43,6 @@ log_form::Pair first{}, second{};
 double tick = 1;  // nanoseconds
 int64_t in_a_record = 0;
 uint64_t beginning_took = 0;  // and is not told yet
-
-int64_t time_of_day() {
-  timespec t;
-  clock_gettime(CLOCK_REALTIME, &t);
-  return int64_t{t.tv_sec} * 1000000000 + t.tv_nsec;
-}
 
 // The file stays open and locked as long as the process lives: who converts the log sees by that whether it is whole.
 Head *map_head(const std::string &path) {

@@ -11,7 +11,6 @@
 #include <cstring>
 #include <filesystem>
 #include <fstream>
-#include <iterator>
 #include <stdexcept>
 
 #include "log_damage.hpp"
@@ -38,7 +37,7 @@ Head read_head(const std::string &path) {
   if (!head.magic[0]) throw std::runtime_error("the program ended before recording began");
   if (!file || std::memcmp(head.magic, log_form::magic, sizeof head.magic))
     throw std::runtime_error("no log of the recorder");
-  if (head.version != log_form::version && head.version != log_form::without_paths)
+  if (head.version != log_form::version)
     throw std::runtime_error("version " + std::to_string(head.version) + " of the log, and this is for version " +
                              std::to_string(log_form::version));
   head.program[sizeof head.program - 1] = 0;

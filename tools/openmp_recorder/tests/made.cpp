@@ -85,18 +85,14 @@ Made &Made::sample(unsigned thread, uint32_t stack, uint32_t microseconds, bool 
   return add(thread, Told::Sample, 0, microseconds, slept).path(thread, stack);
 }
 
-std::vector<Records *> Made::from_the_beginning() {
+Run Made::read(Ending ending, const HowToRead &how) {
+  if (!ending.wall) threads[0]->log.regions[0].end = time;
   std::vector<Records *> all;
   for (auto &thread : threads) {
     thread->begin_again();
     all.push_back(thread.get());
   }
-  return all;
-}
-
-Run Made::read(Ending ending, const HowToRead &how) {
-  if (!ending.wall) threads[0]->log.regions[0].end = time;
-  return read_run(from_the_beginning(), ending, how);
+  return read_run(all, ending, how);
 }
 
 DependItem item(ompt_dependence_type_t type, uint64_t address) { return {address, static_cast<uint64_t>(type)}; }

@@ -45,7 +45,6 @@ class Made {
   unsigned count;
   uint32_t order = 0, still = 0;
   int64_t time = 1000;
-  std::vector<Records *> from_the_beginning();
 };
 
 DependItem item(ompt_dependence_type_t type, uint64_t address);
