@@ -81,7 +81,6 @@ timed 1800 openmp_cases.sh checks/recorders/openmp_cases.sh
 timed 900 record.sh checks/recorders/record.sh
 timed 900 recorded_accounts.sh checks/recorders/recorded_accounts.sh
 timed 900 killed_runs.sh checks/recorders/killed_runs.sh
-timed 900 online.sh checks/recorders/online.sh
 timed 1200 demo.sh checks/programs/demo.sh
 one 600 not_verified.sh checks/programs/not_verified.sh
 one 600 release.sh checks/programs/release.sh

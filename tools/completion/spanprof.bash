@@ -68,7 +68,7 @@ _spanprof_record_program() { # the place of the program among the words; none wh
     for ((i = 1; i < COMP_CWORD; i++)); do
         case ${COMP_WORDS[i]} in
             --) echo $((i + 1)); return ;;
-            --open | --online | --all | --full | --force | --call-paths | --calibrate | --version | -h | --help) ;;
+            --open | --all | --full | --force | --call-paths | --calibrate | --version | -h | --help) ;;
             -*) ((i++)) ;;
             *) echo "$i"; return ;;
         esac

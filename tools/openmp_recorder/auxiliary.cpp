@@ -5,10 +5,6 @@
 #include <utility>
 
 namespace {
-bool ends_a_segment(const Step &step) {
-  return step.kind == Kind::Create || step.kind == Kind::Wait || step.kind == Kind::GroupEnd;
-}
-
 void add_in_front(Task &task, int64_t cost) {
   if (!task.steps.empty() && task.steps[0].kind == Kind::Work) return task.steps[0].add_cost(cost);
   ShortList<Step> steps;

@@ -1,34 +1,13 @@
 #include "clocks.hpp"
 
 #include <sys/resource.h>
-#include <time.h>
 
-#include <algorithm>
-#include <array>
 #include <utility>
 
-namespace {
 int64_t read_clock(clockid_t id) {
   timespec t;
   clock_gettime(id, &t);
   return int64_t{t.tv_sec} * 1000000000 + t.tv_nsec;
-}
-}  // namespace
-
-int64_t wall_time() { return read_clock(CLOCK_MONOTONIC); }
-int64_t processor_time() { return read_clock(CLOCK_THREAD_CPUTIME_ID); }
-int64_t Clock::now() const { return of_processor ? processor_time() : wall_time(); }
-
-// The median of many, so that what else the machine does is in none of it.
-int64_t time_of_reading(const Clock &clock) {
-  std::array<int64_t, 501> taken;
-  int64_t before = clock.now();
-  for (int64_t &one : taken) {
-    int64_t now = clock.now();
-    one = now - std::exchange(before, now);
-  }
-  std::nth_element(taken.begin(), taken.begin() + taken.size() / 2, taken.end());
-  return taken[taken.size() / 2];
 }
 
 Look look_now() {

@@ -1,17 +1,19 @@
 // The clock that costs are read on, what reading it takes, and the other clock beside it.
 #pragma once
+#include <time.h>
+
 #include <cstdint>
 #include <optional>
 
 struct Clock {
   bool of_processor = false;  // of the calling thread; else the wall's
   int64_t reading = 0;  // what reading it takes, on itself
-  int64_t now() const;
 };
 
-int64_t wall_time();
-int64_t processor_time();  // of the calling thread
-int64_t time_of_reading(const Clock &clock);  // measured, on the clock itself
+int64_t read_clock(clockid_t id);  // in nanoseconds
+inline int64_t wall_time() { return read_clock(CLOCK_MONOTONIC); }
+inline int64_t processor_time() { return read_clock(CLOCK_THREAD_CPUTIME_ID); }  // of the calling thread
+inline int64_t time_of_day() { return read_clock(CLOCK_REALTIME); }  // since 1970
 
 constexpr int64_t shortest_switch = 1000;  // nanoseconds: none takes the thread off its processor for less
 

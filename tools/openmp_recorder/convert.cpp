@@ -11,7 +11,6 @@
 #include <string>
 
 #include "log_reader.hpp"
-#include "online_report.hpp"
 #include "options.hpp"
 #include "report.hpp"
 #include "tell.hpp"
@@ -71,7 +70,7 @@ std::vector<Records *> threads_of(const LogFolder &log) {
 }
 
 std::unique_ptr<CallPaths> paths_of(const LogFolder &log, const Options &options) {
-  if (log.paths.all().empty() || !options.lines || options.online) return nullptr;
+  if (log.paths.all().empty() || !options.lines) return nullptr;
   std::set<const void *> calls;
   for (const Calls &path : log.paths.all()) calls.insert(path.begin(), path.end());
   Places places(&log.modules);
@@ -108,9 +107,8 @@ void convert(const std::string &folder, const std::string &out) {
           },
           paths.get(),
           &log.stacks};
-  if (options.online || !log.measured.empty()) report_online(job, ending, log.measured);
-  else report(job, ending);
-  if (log.measured.empty()) tell_ending(log, ending);
+  report(job, ending);
+  tell_ending(log, ending);
 }
 
 }  // namespace

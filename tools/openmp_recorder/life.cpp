@@ -2,7 +2,6 @@
 
 #include <pthread.h>
 #include <stdlib.h>
-#include <time.h>
 #include <unistd.h>
 
 #include <atomic>
@@ -25,12 +24,6 @@ struct Life {
 };
 
 Life *life = nullptr;  // never destroyed: the runtime says goodbye after the destructors of globals have run
-
-int64_t time_of_day() {
-  timespec t;
-  clock_gettime(CLOCK_REALTIME, &t);
-  return int64_t{t.tv_sec} * 1000000000 + t.tv_nsec;
-}
 
 std::string program_of(const std::string &process) {
   char path[4096];
@@ -67,7 +60,7 @@ void in_child_of_fork() {
 
 void tell_beginning() {
   if (life->options.quiet) return;
-  say((life->log.online ? "measuring to " : "recording to ") + life->log.folder);
+  say("recording to " + life->log.folder);
   if (life->log.unseen & log_form::unseen_detach)
     say("gcc's detach is not seen by LLVM's runtime, and the program may crash");
   if (life->log.unseen & log_form::unseen_target)
@@ -113,8 +106,7 @@ void begin_recording(void (*call)(), uint32_t unseen) {
   life->log.program_start = program_start();
   life->log.is_child = is_child_of_this_program();
   life->log.unseen = unseen;
-  life->log.online = life->options.online;
-  life->log.call_paths = life->options.call_paths && !life->options.online;
+  life->log.call_paths = life->options.call_paths;
   life->process = getpid();
   name_log();
   begin_log(life->log, life->call);

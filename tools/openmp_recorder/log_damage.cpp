@@ -34,7 +34,7 @@ bool is_tick(const Pair &later, const Pair &first) {
 bool has_known_words(const Head &head) {
   uint32_t bytes = head.by_processor ? log_form::bytes_by_processor : log_form::bytes_by_wall;
   return head.by_processor <= 1 && head.record_bytes == bytes && head.counter <= log_form::Counter::TimeStamp &&
-         head.how_ended <= log_form::HowEnded::InsideARegion && head.stopped <= log_form::Stopped::Memory;
+         head.how_ended <= log_form::HowEnded::InsideARegion && head.stopped <= log_form::Stopped::End;
 }
 
 bool has_times(const Head &head) {

@@ -9,12 +9,11 @@
 
 namespace log_form {
 constexpr char magic[8] = {'S', 'P', 'A', 'N', 'P', 'L', 'O', 'G'};
-constexpr uint32_t version = 4, without_paths = 3;  // the same, but for call paths
+constexpr uint32_t version = 4;
 constexpr const char *log_folder = "/log";  // of a recording
 constexpr const char *head_file = "/head", *modules_file = "/modules", *thread_file = "/thread.", *last_block = ".last";
 constexpr const char *paths_file = "/paths";  // of creations, where call paths were asked for
 constexpr const char *samples_file = "/samples.";  // of a thread
-constexpr const char *measured_file = "/online";  // where a run was measured while it went on, in the place of records
 
 // In machine order. Kinds are those of `Told`. Where the first eight bytes are 0 no record is written yet, and the
 // block's records end there. A record by the processor's clock has eight bytes more: that clock of the thread, in
@@ -76,7 +75,7 @@ constexpr Told told_by(uint64_t word) { return static_cast<Told>(word >> code_bi
 
 enum class Counter : uint32_t { ClockGettime, TimeStamp };
 enum class HowEnded : uint32_t { Not, ByRuntime, InsideARegion };  // Not: killed, or it goes on
-enum class Stopped : uint32_t { Not, Full, Unwritable, Numbers, End, Memory };  // Full: the disk is
+enum class Stopped : uint32_t { Not, Full, Unwritable, Numbers, End };  // Full: the disk is
 
 enum Off : unsigned { slept = 1, taken = 2 };  // bits: how the thread lost its processor while both clocks passed
 

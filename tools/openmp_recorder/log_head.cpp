@@ -5,7 +5,6 @@
 #include <sys/file.h>
 #include <sys/mman.h>
 #include <sys/stat.h>
-#include <time.h>
 #include <unistd.h>
 
 #include <atomic>
@@ -17,7 +16,6 @@
 
 #include "known_stacks.hpp"
 #include "log_modules.hpp"
-#include "online_life.hpp"
 #include "path_numbers.hpp"
 #include "samples.hpp"
 #include "say.hpp"
@@ -45,12 +43,6 @@ log_form::Pair first{}, second{};
 double tick = 1;  // nanoseconds
 int64_t in_a_record = 0;
 uint64_t beginning_took = 0;  // and is not told yet
-
-int64_t time_of_day() {
-  timespec t;
-  clock_gettime(CLOCK_REALTIME, &t);
-  return int64_t{t.tv_sec} * 1000000000 + t.tv_nsec;
-}
 
 // The file stays open and locked as long as the process lives: who converts the log sees by that whether it is whole.
 Head *map_head(const std::string &path) {
@@ -103,7 +95,6 @@ bool make_log() {
   fill_head();
   tell_modules(beginning.folder);
   if (beginning.call_paths) begin_paths(beginning.folder);
-  if (measures) write_measured(beginning.folder, false);
   return true;
 }
 
@@ -122,7 +113,6 @@ const char *word_of(Stopped why) {
   switch (why) {
     case Stopped::Full: return "the disk is full, and what follows is not recorded";
     case Stopped::Numbers: return "there are more tasks than numbers, and what follows is not recorded";
-    case Stopped::Memory: return "there is no memory left, and what follows is not measured";
     default: return "the log cannot be written, and what follows is not recorded";
   }
 }
@@ -142,11 +132,10 @@ int64_t wall_time_at(uint64_t ticks) {
 
 void begin_log(const Beginning &how, void (*call)()) {
   beginning = how;
-  if (beginning.online) begin_measuring(costs_by_processor ? 0 : beginning.program_start);
-  only_records = by_time_stamp && !costs_by_processor && !measures;
+  only_records = by_time_stamp && !costs_by_processor;
   if (first.wall) return;  // it is known from before a fork
   measure_ticks();
-  if (!beginning.online) in_a_record = time_of_record(call);
+  in_a_record = time_of_record(call);
 }
 
 void set_time_of_beginning(uint64_t took) { beginning_took = took; }
@@ -169,18 +158,17 @@ ThreadLog *make_thread_log() {
   is_made = true;
   thread_log = new ThreadLog(next_thread++);
   thread_log->is_slow = true;
-  if (measures) thread_log->online = &thread_to_measure();
-  else if (beginning.call_paths) thread_log->stacks = new KnownStacks;
+  if (beginning.call_paths) thread_log->stacks = new KnownStacks;
   if (beginning_took) thread_log->tell_stood_still(std::exchange(beginning_took, 0));
-  if (!measures) sample_thread(*thread_log, beginning.folder);
+  sample_thread(*thread_log, beginning.folder);
   return thread_log;
 }
 
-// By the processor's clock, which each thread begins anew, and where the run is measured, it stays the thread's.
+// By the processor's clock, which each thread begins anew, it stays the thread's.
 void leave_thread_log() {
   ThreadLog *log = std::exchange(thread_log, nullptr);
   leave_samples(*log);
-  if (costs_by_processor || measures) return;
+  if (costs_by_processor) return;
   delete std::exchange(log->stacks, nullptr);
   std::lock_guard<std::mutex> guard(making);
   of_ended.push_back(log);
@@ -208,13 +196,9 @@ void stop_log(Stopped why) {
 
 void end_log(log_form::HowEnded how) {
   Moment now = moment_now();
-  if (thread_log && !measures && !is_stopped()) thread_log->look_at_clocks(now);  // no record may follow
+  if (thread_log && !is_stopped()) thread_log->look_at_clocks(now);  // no record may follow
   stop_log(Stopped::End);
   if (!head) return;
-  if (measures) {
-    if (thread_log) thread_log->online->stop(thread_log->own_clock(now));
-    write_measured(beginning.folder, how == log_form::HowEnded::ByRuntime && log_stopped == Stopped::End);
-  }
   head->end = read_pair();
   head->end_processor = processor_time();
   head->end_thread = thread_log ? thread_log->number : UINT32_MAX;

@@ -11,7 +11,6 @@ struct Beginning {
   bool is_child = false;
   uint32_t unseen = 0;
   int64_t program_start = 0;
-  bool online = false;  // the run is measured, and no record is made
   bool call_paths = false;  // of what creates tasks
 };
 

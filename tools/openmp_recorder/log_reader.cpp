@@ -11,7 +11,6 @@
 #include <cstring>
 #include <filesystem>
 #include <fstream>
-#include <iterator>
 #include <stdexcept>
 
 #include "log_damage.hpp"
@@ -38,7 +37,7 @@ Head read_head(const std::string &path) {
   if (!head.magic[0]) throw std::runtime_error("the program ended before recording began");
   if (!file || std::memcmp(head.magic, log_form::magic, sizeof head.magic))
     throw std::runtime_error("no log of the recorder");
-  if (head.version != log_form::version && head.version != log_form::without_paths)
+  if (head.version != log_form::version)
     throw std::runtime_error("version " + std::to_string(head.version) + " of the log, and this is for version " +
                              std::to_string(log_form::version));
   head.program[sizeof head.program - 1] = 0;
@@ -73,11 +72,6 @@ void look_at_last_block(const std::string &thread, const Head &head) {
   bool is_known = head.how_ended != log_form::HowEnded::Not && head.stopped == log_form::Stopped::End;
   if (is_known && !is_whole) throw DamagedLog(name + " is not as long as a block");
 }
-
-std::string all_bytes(const std::string &path) {
-  std::ifstream file(path, std::ios::binary);
-  return {std::istreambuf_iterator<char>(file), std::istreambuf_iterator<char>()};
-}
 }  // namespace
 
 TickTime::TickTime(const Head &head) : first(head.first) {
@@ -91,7 +85,6 @@ LogFolder::LogFolder(const std::string &path) : head(read_head(path + log_form::
   runs = is_held(path + log_form::head_file);
   modules.read(path + log_form::modules_file, head.program);
   paths.read(path + log_form::paths_file);
-  measured = all_bytes(path + log_form::measured_file);
   unsigned long count = threads_in(path);
   for (unsigned i = 0; i < count; i++) {
     std::string thread = path + log_form::thread_file + std::to_string(i);

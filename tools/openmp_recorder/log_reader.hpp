@@ -20,7 +20,6 @@ class LogFolder {
   ModulesOfRun modules;
   LoggedPaths paths;
   Stacks stacks;  // of the samples
-  std::string measured;  // while the program ran; empty where it was recorded
   bool is_running() const { return runs; }  // the program that writes it
   int64_t wall(const log_form::Pair &pair) const;
 

@@ -42,17 +42,6 @@ void flag(const char *name, const char *no, const char *yes, bool &into) {
   else if (std::string(value) == no) into = false;
   else wrong(name, value, (std::string(no) + " or " + yes).c_str());
 }
-
-void parts(Parts &into) {
-  const char *value = getenv("SPANPROF_PARTS");
-  if (!value) return;
-  std::string name = value;
-  if (name == "heavy") into = Parts::Heavy;
-  else if (name == "all") into = Parts::All;
-  else if (name == "none") into = Parts::None;
-  else if (name == "all-or-none") into = Parts::AllOrNone;
-  else wrong("SPANPROF_PARTS", value, "heavy, all, none or all-or-none");
-}
 }  // namespace
 
 RecordingOptions read_recording_options() {
@@ -61,7 +50,6 @@ RecordingOptions read_recording_options() {
   flag("SPANPROF_CLOCK", "wall", "cpu", chosen.processor_clock);
   flag("SPANPROF_QUIET", "0", "1", chosen.quiet);
   flag("SPANPROF_TIME_STAMP", "0", "1", chosen.time_stamp);
-  flag("SPANPROF_ONLINE", "0", "1", chosen.online);
   flag("SPANPROF_CALL_PATHS", "0", "1", chosen.call_paths);
   return chosen;
 }
@@ -72,9 +60,8 @@ Options read_options() {
   flag("SPANPROF_LINES", "0", "1", chosen.lines);
   number("SPANPROF_REGIONS", chosen.regions);
   if (const char *region = getenv("SPANPROF_REGION")) chosen.region = region;
-  parts(chosen.parts);
+  flag("SPANPROF_PARTS", "none", "heavy", chosen.bare_parts);
   flag("SPANPROF_WHOLE", "0", "1", chosen.whole);
-  flag("SPANPROF_ONLINE", "0", "1", chosen.online);
   flag("SPANPROF_TIMES", "0", "1", chosen.times);
   return chosen;
 }

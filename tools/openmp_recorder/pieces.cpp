@@ -113,10 +113,6 @@ void join(Chunk &chunk, Chunk &more) {
   more.task->pieces = 0;
 }
 
-bool ends_a_segment(const Step &step) {
-  return step.kind == Kind::Create || step.kind == Kind::Wait || step.kind == Kind::GroupEnd;
-}
-
 // The steps of a part, without the creation of what is no task any more.
 void leave_out_joined(Task &part, JoinedTimes &times) {
   ShortList<Step> steps;
@@ -174,12 +170,6 @@ uint64_t all_turns(const Chunk &chunk) {
   if (!loop.told || loop.told >= loop.count) return chunk.turns;
   double of_one = static_cast<double>(loop.count) / static_cast<double>(loop.told);
   return static_cast<uint64_t>(static_cast<double>(chunk.turns) * of_one + 0.5);
-}
-
-int64_t own_cost(const Task &t) {
-  int64_t cost = 0;
-  for (const Step &step : t.steps) cost += step.kind == Kind::Work ? step.cost() : 0;
-  return cost;
 }
 
 size_t let_go(const WholeProgram &whole) { return whole.before ? whole.before->chunks.back() : 0; }

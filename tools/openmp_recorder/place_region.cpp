@@ -5,7 +5,7 @@
 
 void add_step(Task &t, Step step) {
   t.steps.push_back(step);
-  t.segment += step.kind != Kind::GroupBegin && step.kind != Kind::Work;
+  t.segment += ends_a_segment(step);
   t.children += step.kind == Kind::Create;
 }
 

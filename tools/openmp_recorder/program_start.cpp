@@ -1,7 +1,6 @@
 #include "program_start.hpp"
 
 #include <pthread.h>
-#include <time.h>
 #include <unistd.h>
 
 #include <algorithm>
@@ -19,12 +18,6 @@ __attribute__((constructor)) void library_is_loaded() {
   pthread_atfork(nullptr, nullptr, look_at_start);
 }
 
-int64_t read(clockid_t id) {
-  timespec t;
-  clock_gettime(id, &t);
-  return int64_t{t.tv_sec} * 1000000000 + t.tv_nsec;
-}
-
 // How long ago the process began, by the kernel's ticks: at most one of them too much. 0 where it does not tell.
 int64_t age_in_ticks(int64_t tick) {
   FILE *file = fopen("/proc/self/stat", "r");
@@ -35,7 +28,7 @@ int64_t age_in_ticks(int64_t tick) {
                       "%*d %*d %*d %*d %*d %*d %llu",
                       &start);
   fclose(file);
-  return fields == 1 ? read(CLOCK_BOOTTIME) - static_cast<int64_t>(start) * tick : 0;
+  return fields == 1 ? read_clock(CLOCK_BOOTTIME) - static_cast<int64_t>(start) * tick : 0;
 }
 }  // namespace
 
@@ -44,7 +37,7 @@ const Look &look_at_load() { return at_load; }
 // It began before this library was loaded, and at least as long ago as it has computed.
 int64_t program_start() {
   int64_t tick = 1000000000 / sysconf(_SC_CLK_TCK), age = age_in_ticks(tick), now = wall_time();
-  int64_t least = std::max(read(CLOCK_PROCESS_CPUTIME_ID), at_load.at.wall ? now - at_load.at.wall : 0);
+  int64_t least = std::max(read_clock(CLOCK_PROCESS_CPUTIME_ID), at_load.at.wall ? now - at_load.at.wall : 0);
   if (age > 0) least = std::clamp(least, std::max<int64_t>(age - tick, 0), age);
   return now - least;
 }

@@ -12,7 +12,6 @@ constexpr RemarkLine lines[] = {
     {Remark::OneThread, "one thread", Not, High},
     {Remark::MutexInOutSet, "mutexinoutset", Not, Low},
     {Remark::MutexAsInOut, "mutexinoutset as inout", Not, High},
-    {Remark::MutexBeside, "mutexinoutset as inoutset", Not, Low},
     {Remark::AllMemory, "all memory", Not, Low},
     {Remark::UnknownItem, "unknown item", Not, High},
     {Remark::ItemsLeftOut, "items left out", Not, Low},

@@ -11,7 +11,6 @@ enum class Remark : uint8_t {
   OneThread,
   MutexInOutSet,
   MutexAsInOut,
-  MutexBeside,
   AllMemory,
   UnknownItem,
   ItemsLeftOut,

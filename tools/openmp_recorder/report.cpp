@@ -263,7 +263,7 @@ int64_t outside_regions(const Job &job, const Run &run, const ProgramTime &time,
 std::vector<Region *> compose_all(Run &run, const Options &options) {
   std::vector<Region *> with_tasks;
   for (auto &[number, region] : run.regions)
-    if (compose(*region, options.parts)) {
+    if (compose(*region, options.bare_parts)) {
       with_tasks.push_back(region.get());
       region->place = with_tasks.size();
     }

@@ -1,5 +1,4 @@
-// How LLVM's runtime tells constructs, as far as both readers of it have to know: of records, and of a run that goes
-// on.
+// How LLVM's runtime tells constructs.
 #pragma once
 #include <omp-tools.h>
 

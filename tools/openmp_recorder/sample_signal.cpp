@@ -36,8 +36,7 @@ bool is_asked() {
     const char *value = getenv(name);
     return value && !strcmp(value, word);
   };
-  return getenv("SPANPROF_OUT") && !is("SPANPROF_SAMPLES", "0") && !is("SPANPROF_RECORD", "0") &&
-         !is("SPANPROF_ONLINE", "1");
+  return getenv("SPANPROF_OUT") && !is("SPANPROF_SAMPLES", "0") && !is("SPANPROF_RECORD", "0");
 }
 
 bool stands_before_the_system() { return dlsym(RTLD_DEFAULT, "sigaction") == reinterpret_cast<void *>(sigaction); }

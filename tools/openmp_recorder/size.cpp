@@ -55,6 +55,12 @@ void add_up_steps(Task &t) {
 }
 }  // namespace
 
+int64_t own_cost(const Task &t) {
+  int64_t cost = 0;
+  for (const Step &step : t.steps) cost += step.kind == Kind::Work ? step.cost() : 0;
+  return cost;
+}
+
 void Size::add(const Size &next) {
   tasks += next.tasks;
   segments += next.segments - 1;  // the root's first

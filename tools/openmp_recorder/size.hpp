@@ -4,7 +4,7 @@
 
 #include "run.hpp"
 
-constexpr uint64_t most_tasks = 4096, most_segments = 16384;  // of the ten commands of spanprof
+constexpr uint64_t most_tasks = 4096;  // of the ten commands of spanprof
 constexpr uint64_t most_blocks = 1048576, most_items = 32;  // of spanprof_large
 
 struct Size {
@@ -13,6 +13,7 @@ struct Size {
   void add(const Size &next);  // part of the same text
 };
 
+int64_t own_cost(const Task &t);  // of its code alone
 void add_up(Region &region);  // the totals of its tasks
 Size size_of(Region &region);  // of one that is added up; says which of its tasks are written
 

@@ -45,9 +45,7 @@ bool let_go(const void *lock) {
   return true;
 }
 
-bool is_told(const void *place) {
-  return thread_log && !is_stopped() && !in_runtime(place) && !recorder_code.has(place);
-}
+bool is_told(const void *place) { return thread_log && !is_stopped() && !in_runtime(place); }
 
 template <class Lock>
 __attribute__((noinline)) int wait_for(Lock *lock, int (*systems)(Lock *), unsigned kind, const void *place) {

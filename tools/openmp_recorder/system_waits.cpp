@@ -36,20 +36,20 @@ class Waiting {
   uint64_t began = 0;
   double took() const { return static_cast<double>(read_ticks(After::Itself) - began) * nanoseconds_of_tick(); }
   __attribute__((noinline)) void tell() const {
-    bool is_of_program = !in_runtime(place) && !recorder_code.has(place);
-    if (is_of_program && samples == own_samples) samples->put_wait(function, static_cast<int64_t>(took()));
+    if (!in_runtime(place) && samples == own_samples) samples->put_wait(function, static_cast<int64_t>(took()));
   }
 };
 }  // namespace
 
-#define WAITS_BY(version, result, name, parameters, ...)                                    \
+#define WAITS_BY(version, before, result, name, parameters, ...)                            \
   ENTRY result name parameters {                                                            \
     static Systems<result(*) parameters> systems(#name, version);                           \
+    before;                                                                                 \
     auto function = systems.get();                                                          \
     Waiting waiting(reinterpret_cast<const void *>(function), __builtin_return_address(0)); \
     return function(__VA_ARGS__);                                                           \
   }
-#define WAITS(result, name, parameters, ...) WAITS_BY(nullptr, result, name, parameters, __VA_ARGS__)
+#define WAITS(result, name, parameters, ...) WAITS_BY(nullptr, , result, name, parameters, __VA_ARGS__)
 
 WAITS(ssize_t, read, (int file, void *bytes, size_t count), file, bytes, count)
 WAITS(ssize_t, write, (int file, const void *bytes, size_t count), file, bytes, count)
@@ -76,21 +76,8 @@ WAITS(int, pthread_join, (pthread_t thread, void **value), thread, value)
 WAITS(int, sem_wait, (sem_t * semaphore), semaphore)
 
 // The system has older functions of these names, for programs of before 2003.
-namespace {
-constexpr const char *newer = "GLIBC_2.3.2";
-}
-ENTRY int pthread_cond_wait(pthread_cond_t *condition, pthread_mutex_t *mutex) {
-  static Systems<decltype(&pthread_cond_wait)> systems("pthread_cond_wait", newer);
-  leave_for_wait(mutex, __builtin_return_address(0));
-  auto function = systems.get();
-  Waiting waiting(reinterpret_cast<const void *>(function), __builtin_return_address(0));
-  return function(condition, mutex);
-}
-
-ENTRY int pthread_cond_timedwait(pthread_cond_t *condition, pthread_mutex_t *mutex, const timespec *until) {
-  static Systems<decltype(&pthread_cond_timedwait)> systems("pthread_cond_timedwait", newer);
-  leave_for_wait(mutex, __builtin_return_address(0));
-  auto function = systems.get();
-  Waiting waiting(reinterpret_cast<const void *>(function), __builtin_return_address(0));
-  return function(condition, mutex, until);
-}
+#define WAITS_WITH_LOCK(name, parameters, ...) \
+  WAITS_BY("GLIBC_2.3.2", leave_for_wait(mutex, __builtin_return_address(0)), int, name, parameters, __VA_ARGS__)
+WAITS_WITH_LOCK(pthread_cond_wait, (pthread_cond_t * condition, pthread_mutex_t *mutex), condition, mutex)
+WAITS_WITH_LOCK(pthread_cond_timedwait, (pthread_cond_t * condition, pthread_mutex_t *mutex, const timespec *until),
+                condition, mutex, until)

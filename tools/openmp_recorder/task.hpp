@@ -30,6 +30,9 @@ class Step {
   Step(Kind what, uint64_t that) : kind(what), value(that) {}
 };
 static_assert(sizeof(Step) == 8, "a task has one to several");
+inline bool ends_a_segment(const Step &step) {
+  return step.kind == Kind::Create || step.kind == Kind::Wait || step.kind == Kind::GroupEnd;
+}
 
 // What a task of the text is in the program.
 enum class Origin : uint8_t { Task, Turns, Section };  // `Turns` of a worksharing loop

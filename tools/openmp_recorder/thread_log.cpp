@@ -180,18 +180,6 @@ void ThreadLog::wait_ends(const Moment &now) {
   both.wait_ends(times(now));
 }
 
-int64_t ThreadLog::own_clock(const Moment &now) const {
-  return costs_by_processor ? now.processor - static_cast<int64_t>(stood_still) : wall_time_at(now.at - stood_still);
-}
-
-void ThreadLog::stand_still(const Moment &since) { stood_still += time_since(since); }
-
-void ThreadLog::stand_still_for_lock(const Moment &now) {
-  Moment since = std::exchange(asked, {});
-  if (!since.at) return;
-  stood_still += costs_by_processor ? static_cast<uint64_t>(now.processor - since.processor) : now.at - since.at;
-}
-
 uint64_t time_since(const Moment &began) {
   Moment now = moment_now();
   return costs_by_processor ? static_cast<uint64_t>(now.processor - began.processor) : now.at - began.at;
@@ -213,8 +201,7 @@ void ThreadLog::tell_slow(const Moment &began) {
 }
 
 void ThreadLog::tell_stood_still(uint64_t took) {
-  if (online) stood_still += took;
-  else put(moment_now(), Told::StoodStill, static_cast<uint32_t>(took), static_cast<uint32_t>(took >> 32), 0, 0);
+  put(moment_now(), Told::StoodStill, static_cast<uint32_t>(took), static_cast<uint32_t>(took >> 32), 0, 0);
 }
 
 // The median of many, so that what else the machine does is in none of it.

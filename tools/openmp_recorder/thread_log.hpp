@@ -12,7 +12,7 @@
 #include "told.hpp"
 
 struct Implicit {
-  uint64_t task, region;  // numbers, or where they are measured their addresses
+  uint64_t task, region;  // numbers
 };
 
 // When the runtime called: by the counter, and by the processor's clock where costs are read on it.
@@ -61,7 +61,6 @@ class LikeRecords {
 };
 
 class KnownStacks;
-class OnlineThread;
 class Samples;
 
 class alignas(64) ThreadLog {
@@ -85,7 +84,6 @@ class alignas(64) ThreadLog {
   bool is_slow = false;  // more was done than to write records
   KnownStacks *stacks = nullptr;  // where call paths are asked for
   Samples *samples = nullptr;  // where there are any
-  OnlineThread *online = nullptr;  // where the run is measured while it goes on: then no record is put
   uint64_t region() const { return implicit.empty() ? 0 : implicit.back().region; }
   void begin_implicit(const Implicit &one) {
     implicit.push_back(one);
@@ -99,12 +97,6 @@ class alignas(64) ThreadLog {
     if (!numbers.are_left()) take_numbers(numbers);
     return numbers.are_left() ? ++numbers.last : 0;
   }
-
-  // On the clock of costs, which stands still while the recorder works and while the thread waits for a lock.
-  int64_t own_clock(const Moment &now) const;
-  void stand_still(const Moment &since);  // until now
-  void ask_for_lock(const Moment &now) { asked = now; }
-  void stand_still_for_lock(const Moment &now);
 
   void put(const Moment &now, Told told, uint32_t task, uint32_t other, uint64_t code, unsigned detail) {
     if (!costs_by_processor) return put_by_wall(now.at, told, task, other, code, detail);
@@ -174,8 +166,6 @@ class alignas(64) ThreadLog {
   char *block = nullptr;
   uint64_t written = 0;  // bytes of full blocks
   BothClocks both;
-  uint64_t stood_still = 0;  // where the run is measured; in ticks, or nanoseconds of the processor
-  Moment asked;  // for a lock
 
   void compare_clocks(const Moment &now);
   void tell_passed(const Moment &now, const Passed &passed);

@@ -7,12 +7,6 @@
 #include "stretches.hpp"
 
 namespace {
-int64_t own_cost(const Task &t) {
-  int64_t cost = 0;
-  for (const Step &step : t.steps) cost += step.kind == Kind::Work ? step.cost() : 0;
-  return cost;
-}
-
 // Whether a part creates tasks of the program, beside pieces of loops.
 bool makes_tasks(const Task &part) {
   return part.children && std::any_of(part.steps.begin(), part.steps.end(), [](const Step &step) {

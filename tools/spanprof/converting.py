@@ -19,8 +19,7 @@ LIBRARY = Product("librecorder.so", "the recorder", "clang-19 libomp-19-dev make
 RECORDERS = builds_in("openmp_recorder")
 LOADERS = ("LD_PRELOAD", "OMP_TOOL_LIBRARIES")  # of the recorded program alone
 STEM = "program"
-FILES = {".tasks": TEXT, ".times": TIMES, ".regions": REGIONS, ".off": "off", ".locks": "locks", ".calls": "calls",
-         ".online.json": "online.json"}
+FILES = {".tasks": TEXT, ".times": TIMES, ".regions": REGIONS, ".off": "off", ".locks": "locks", ".calls": "calls"}
 FAILED = ("fault", "unwritten")
 DIED = {signal.SIGKILL: "it was killed, as the system does where memory is short",
         signal.SIGXFSZ: "a file would be longer than `ulimit -f` allows"}

@@ -15,7 +15,7 @@ from spanprof.head import head_text
 SCHEMA = 1
 ENDING = ".spanprof"
 META, TEXT, TIMES, LOG, REGIONS = "recording.json", "program.tasks", "times", "log", "regions"
-CHECKED = (TEXT, TIMES, REGIONS, "off", "locks", "calls", "online.json")    # the log is checked by its converter
+CHECKED = (TEXT, TIMES, REGIONS, "off", "locks", "calls")    # the log is checked by its converter
 AGAIN = "spanprof-convert %s writes it anew"
 PIECE = 1 << 20
 
@@ -106,10 +106,7 @@ def in_folder(folder):
     check_files_of(folder, meta)
     text = os.path.join(folder, TEXT)
     if TEXT not in meta["files"]:
-        why = "%s: the recording has a log and no text; " % folder
-        if "online.json" in meta["files"]:
-            why = "%s: the run was measured with --online, and no text was kept; " % folder
-        raise Fault(why + "record it again" if "online.json" in meta["files"] else why + AGAIN % folder)
+        raise Fault("%s: the recording has a log and no text; %s" % (folder, AGAIN % folder))
     times = os.path.join(folder, TIMES) if TIMES in meta["files"] else ""
     return Recording(text, times, folder, log_of(folder), meta)
 

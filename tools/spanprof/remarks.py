@@ -12,7 +12,6 @@ WORDS = {
     "one thread": ("on one thread every task is undeferred (if(0))", ""),
     "mutexinoutset": ("mutexinoutset", "and too high in the text .inout.tasks of spanprof-convert --region"),
     "mutexinoutset as inout": ("mutexinoutset, written as inout", ""),
-    "mutexinoutset as inoutset": ("mutexinoutset, treated as inoutset", ""),
     "all memory": ("dependence on all memory, left out", ""),
     "unknown item": ("depend item of an unknown type, written as inout", ""),
     "items left out": ("depend item beyond the 32nd of its task, left out", ""),

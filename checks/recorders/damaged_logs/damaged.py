@@ -24,7 +24,7 @@ from spanprof import client  # noqa: E402
 from spanprof.errors import Fault  # noqa: E402
 
 SECONDS, MEGABYTES = 30, 1500
-WAYS = ({"SPANPROF_TIMES": "1"}, {"SPANPROF_WHOLE": "1", "SPANPROF_TIMES": "1"}, {"SPANPROF_ONLINE": "1"})
+WAYS = ({"SPANPROF_TIMES": "1"}, {"SPANPROF_WHOLE": "1", "SPANPROF_TIMES": "1"})
 CHECKED = {"ASAN_OPTIONS": "detect_leaks=0:hard_rss_limit_mb=%d:allocator_may_return_null=0" % MEGABYTES,
            "UBSAN_OPTIONS": "print_stacktrace=1"}
 

@@ -7,7 +7,7 @@ import sys
 from dataclasses import dataclass
 
 sys.path.append(os.path.join(os.path.dirname(os.path.abspath(__file__)), "..", "..", "llvm"))
-from recording import texts  # noqa: E402
+from recording import made_texts, texts  # noqa: E402
 from versions import Version, asked  # noqa: E402
 
 SECONDS = 60  # for one run
@@ -120,14 +120,29 @@ def replay(tools, folder, name):
     return "" if (events, finished) == (2 * segments, segments) else "%d of %d segments finished" % (finished, segments)
 
 
-def account(folder, name):
-    """What spanprof_large says against the times of the run; nothing where they are legal, or it is not there."""
+def refusal(document):
+    """What spanprof_large says against times; nothing where they are legal, or it is not there."""
     program = os.environ.get("SPANPROF_LARGE") or LARGE
-    path = os.path.join(folder, name + ".timed")
     if not os.path.exists(program):
         return ""
-    if not os.path.exists(path):
-        return "no timed document"
+    done = subprocess.run([program, "account"], input=document, capture_output=True)
+    return done.stdout.decode().strip() if done.returncode else ""
+
+
+def content(path):
     with open(path, "rb") as file:
-        done = subprocess.run([program, "account"], stdin=file, capture_output=True, text=True)
-    return done.stdout.strip() if done.returncode else ""
+        return file.read()
+
+
+def account(folder, name):
+    path = os.path.join(folder, name + ".timed")
+    return refusal(content(path)) if os.path.exists(path) else "no timed document"
+
+
+def account_of_whole(folder):
+    """The same of the whole program's text, where it has times."""
+    whole = os.path.join(folder, "whole")
+    made_texts(os.path.join(folder, "out"), {"SPANPROF_WHOLE": "1", "SPANPROF_TIMES": "1"}, whole)
+    if not os.path.exists(whole + ".times"):
+        return ""
+    return refusal(content(whole + ".tasks") + b"---\n" + content(whole + ".times"))

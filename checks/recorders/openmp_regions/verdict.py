@@ -95,7 +95,8 @@ def judge_run(tools, drawn, threads, program, folder):
         told = toolchain.account(folder, name)
         if told:
             return "refused", "%s.timed: %s" % (name, told)
-    return "right", ""
+    told = toolchain.account_of_whole(folder)
+    return ("refused", "the whole program's times: " + told) if told else ("right", "")
 
 
 def judge(tools, drawn, folder, runs=1):

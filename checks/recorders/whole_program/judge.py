@@ -42,7 +42,7 @@ def record(program, shape, threads, folder):
     """The text, and the lines of the summary."""
     out = os.path.join(folder, "%s_%d" % (shape, threads))
     options = ["--out", out, "--unit", "us", "--clock", "cpu", "--threads", str(threads)]
-    done = ended([RECORD, *options, "--", program, shape])
+    done = ended([RECORD, "--all", *options, "--", program, shape])
     return os.path.join(out + ".spanprof", "program.tasks"), done.stderr.splitlines()
 
 

@@ -5,7 +5,6 @@
 #include "../callbacks.hpp"
 #include "../callers.hpp"
 #include "../life.hpp"
-#include "../online_life.hpp"
 #include "../program_start.hpp"
 #include "own.hpp"
 
@@ -19,7 +18,7 @@ void begin_initial(Here &own, const Look &met) {
   on_implicit_task(ompt_scope_begin, nullptr, nullptr, 1, 0, ompt_task_initial);
   own.log = own_log();
   bool is_first = getpid() == gettid();
-  if (own.log && !measures && !is_stopped() && is_first) thread_log->look_back(look_at_load(), met, moment_now());
+  if (own.log && !is_stopped() && is_first) thread_log->look_back(look_at_load(), met, moment_now());
 }
 
 bool begin_runtime() {

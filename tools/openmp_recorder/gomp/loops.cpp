@@ -9,14 +9,6 @@
 namespace {
 using Unsigned = unsigned long long;
 
-void begin_divided(ompt_work_t what, uint64_t turns, const void *place) {
-  Here &own = here();
-  end_divided();
-  own.in_divided = true;
-  own.divided = what;
-  on_work(what, ompt_scope_begin, nullptr, own.task, turns, place);
-}
-
 void tell_chunk(ompt_dispatch_t kind, uint64_t turns) {
   DispatchedChunk chunk{0, turns};
   ompt_data_t instance;
@@ -62,6 +54,14 @@ unsigned got_section(unsigned number) {
   return number;
 }
 }  // namespace
+
+void begin_divided(ompt_work_t what, uint64_t turns, const void *place) {
+  Here &own = here();
+  end_divided();
+  own.in_divided = true;
+  own.divided = what;
+  on_work(what, ompt_scope_begin, nullptr, own.task, turns, place);
+}
 
 void end_divided() {
   Here &own = here();

@@ -6,6 +6,7 @@
 #include "here.hpp"
 #include "own.hpp"
 #include "turns.hpp"
+#include "waits.hpp"
 
 namespace {
 using Code = void (*)(void *);
@@ -42,11 +43,8 @@ void begin_part(Here &own, Team &team) {
   own.in_divided = false;
   own.copied = &team.copied;
   on_implicit_task(ompt_scope_begin, &team.region, nullptr, threads_here(), 0, ompt_task_implicit);
-  if (!team.divided.what) return;
-  own.in_divided = true;
-  own.divided = team.divided.what;
   own.step = team.divided.step;
-  on_work(own.divided, ompt_scope_begin, nullptr, own.task, team.divided.turns, team.place);
+  if (team.divided.what) begin_divided(team.divided.what, team.divided.turns, team.place);
 }
 
 void run_part(void *of) {

@@ -5,14 +5,6 @@
 #include "own.hpp"
 #include "waits.hpp"
 
-namespace {
-void wait_for_all(const void *place) {
-  static const auto own_barrier = reinterpret_cast<void (*)()>(own_function("GOMP_barrier"));
-  Barrier barrier(ompt_sync_region_barrier_implicit_workshare, place);
-  own_barrier();
-}
-}  // namespace
-
 ENTRY void *GOMP_single_copy_start() {
   PASS_ON(GOMP_single_copy_start);
   static const auto is_chosen = reinterpret_cast<bool (*)()>(own_function("GOMP_single_start"));

@@ -29,6 +29,12 @@ void wait_for(void **depend, const void *place) {
   tell_waited_for();
 }
 
+void wait_for_all(const void *place) {
+  static const auto own_barrier = reinterpret_cast<void (*)()>(own_function("GOMP_barrier"));
+  Barrier barrier(ompt_sync_region_barrier_implicit_workshare, place);
+  own_barrier();
+}
+
 namespace {
 class GroupEnd {
  public:
@@ -101,14 +107,11 @@ BARRIER(bool, GOMP_sections_end_cancel, ompt_sync_region_barrier_implicit_worksh
 // The group of a construct with reductions for tasks ends, and then the construct, with a barrier.
 ENTRY void GOMP_workshare_task_reduction_unregister(bool is_cancelled) {
   ENTER(GOMP_workshare_task_reduction_unregister, is_cancelled);
-  static const auto own_barrier = reinterpret_cast<void (*)()>(own_function("GOMP_barrier"));
   {
     GroupEnd end(PLACE);
     own_GOMP_workshare_task_reduction_unregister(true);
   }
-  if (is_cancelled) return;
-  Barrier barrier(ompt_sync_region_barrier_implicit_workshare, PLACE);
-  own_barrier();
+  if (!is_cancelled) wait_for_all(PLACE);
 }
 
 ENTRY void GOMP_scope_start(uintptr_t *reductions) {

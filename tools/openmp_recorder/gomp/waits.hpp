@@ -10,7 +10,9 @@ void begin_group(const void *place);
 void tell_wait_for(void **depend, int flags, const void *place);
 void tell_waited_for();
 void wait_for(void **depend, const void *place);  // and tell it
-void end_divided();  // a loop or sections, if the thread is in any
+void begin_divided(ompt_work_t what, uint64_t turns, const void *place);  // a loop or sections
+void end_divided();  // if the thread is in any
+void wait_for_all(const void *place);  // at a barrier of a construct
 
 // While it stands the thread is at a barrier.
 class Barrier {

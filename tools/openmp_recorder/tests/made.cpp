@@ -5,7 +5,6 @@
 #include "../compose.hpp"
 #include "../events.hpp"
 #include "../size.hpp"
-#include "../online_replay.hpp"
 #include "check.hpp"
 
 Made::Made(unsigned many) : count(many) {
@@ -86,25 +85,14 @@ Made &Made::sample(unsigned thread, uint32_t stack, uint32_t microseconds, bool 
   return add(thread, Told::Sample, 0, microseconds, slept).path(thread, stack);
 }
 
-std::vector<Records *> Made::from_the_beginning() {
+Run Made::read(Ending ending, const HowToRead &how) {
+  if (!ending.wall) threads[0]->log.regions[0].end = time;
   std::vector<Records *> all;
   for (auto &thread : threads) {
     thread->begin_again();
     all.push_back(thread.get());
   }
-  return all;
-}
-
-Run Made::read(Ending ending, const HowToRead &how) {
-  if (!ending.wall) threads[0]->log.regions[0].end = time;
-  return read_run(from_the_beginning(), ending, how);
-}
-
-OnlineSums Made::measure(const HowToRead &how) {
-  HowToRead known = how;
-  known.last = &threads[0]->log;
-  Ending ending;
-  return measure_log(from_the_beginning(), known, ending);
+  return read_run(all, ending, how);
 }
 
 DependItem item(ompt_dependence_type_t type, uint64_t address) { return {address, static_cast<uint64_t>(type)}; }

@@ -6,7 +6,6 @@
 #include <string>
 #include <vector>
 
-#include "../online_sums.hpp"
 #include "../run.hpp"
 #include "../text.hpp"
 
@@ -40,14 +39,12 @@ class Made {
   Made &sample(unsigned thread, uint32_t stack, uint32_t microseconds, bool slept = false);
   int64_t now() const { return time; }
   Run read(Ending ending = {}, const HowToRead &how = {});
-  OnlineSums measure(const HowToRead &how);  // the same records, as a run that goes on
 
  private:
   std::vector<std::unique_ptr<Kept>> threads;
   unsigned count;
   uint32_t order = 0, still = 0;
   int64_t time = 1000;
-  std::vector<Records *> from_the_beginning();
 };
 
 DependItem item(ompt_dependence_type_t type, uint64_t address);

@@ -171,13 +171,6 @@ TEST(a_creation_has_the_path_that_is_listed) {
   EXPECT(reinterpret_cast<uint64_t>(found[2].place()), 99u);
 }
 
-TEST(a_log_without_paths_is_of_the_version_before) {
-  MadeLog log;
-  log.head.version = 3;
-  log.last({raw(10, Told::Create, 1, 2, 99)});
-  EXPECT(log.records().size(), 1u);
-}
-
 TEST(a_recording_of_an_earlier_run_stays) {
   MadeLog log;
   log.open();
@@ -284,7 +277,7 @@ TEST(what_is_no_log_is_refused) {
   MadeLog other, later, empty;
   other.head.magic[0] = 'X';
   empty.head = {};
-  later.head.version = 5;
+  later.head.version = log_form::version + 1;
   EXPECT(why(other), "no log of the recorder");
   EXPECT(why(empty), "the program ended before recording began");
   EXPECT(why(later), "version 5 of the log, and this is for version 4");

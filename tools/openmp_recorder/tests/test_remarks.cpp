@@ -36,8 +36,8 @@ TEST(the_direction_of_each_remark) {
     for (Remark remark : remarks) EXPECT(line_of(remark).work == work && line_of(remark).span == span, true);
   };
   moves({Remark::OneThread, Remark::MutexAsInOut, Remark::UnknownItem, Remark::TurnsTogether}, Not, High);
-  moves({Remark::MutexInOutSet, Remark::MutexBeside, Remark::AllMemory, Remark::ItemsLeftOut, Remark::Detach,
-         Remark::UnseenDetach, Remark::EqualTurns, Remark::HeldLock},
+  moves({Remark::MutexInOutSet, Remark::AllMemory, Remark::ItemsLeftOut, Remark::Detach, Remark::UnseenDetach,
+         Remark::EqualTurns, Remark::HeldLock},
         Not, Low);
   moves({Remark::Target, Remark::UnseenTarget, Remark::NestedWaits, Remark::LeftInside, Remark::RecordsFull,
          Remark::Unfinished, Remark::ToldElsewhere, Remark::PartsLeftOut, Remark::OtherThread, Remark::Slept},

@@ -13,7 +13,6 @@ from spanprof.folders import PREFIX, TOOLS
 from spanprof.record.calibrate import calibrate
 from spanprof.record.console import CONSOLE, say, tell
 from spanprof.record.full import full_facts
-from spanprof.record.online import ONLINE, online_summary
 from spanprof.record.options import parse
 from spanprof.record.run import end_as
 from spanprof.record.runs import record_often
@@ -65,15 +64,6 @@ def report_all(session, recorded, scale):
         show(named("true times", table_lines(scale)) if scale else [])
 
 
-def tell_measured(session, recorded):
-    """Of a run that was measured while it went on."""
-    paths = [os.path.join(folder, ONLINE) for folder in recorded.found]
-    news = session.notes + recorded.said.without(paths).news(session.out)
-    for path in paths:
-        show(online_summary(path, news))
-        news = []
-
-
 def record_as_asked(session):
     """What was recorded, and a scale where it was asked for."""
     if session.options.scale:
@@ -91,10 +81,7 @@ def record_and_report(options):
         with session.begun():
             recorded, scale = record_as_asked(session)
         status = recorded.status
-        if options.online:
-            tell_measured(session, recorded)
-        else:
-            report_all(session, recorded, scale)
+        report_all(session, recorded, scale)
         if is_slower(session.comparison, options.fail_above):
             return status or SLOWER
         return status if recorded.found else status or OWN_FAULT

@@ -31,8 +31,6 @@ def parser():
     add("--unit", type=unit, help="what a cost of 1 is: ns (without it), us, ms, or a number of nanoseconds")
     add("--region", metavar="FILE:LINE", help="a text of the region there; of several, of the one with the median work")
     add("--text", action="store_true", help="print the text, and write none")
-    add("--online", action="store_true",
-        help="in place of a text online.json: work and span by place, in the memory of what is open at one time")
     add("--version", action=Version)
     add("recording", metavar="NAME.spanprof", help="the recording, or the folder of a log")
     return out
@@ -43,9 +41,6 @@ def parse(words):
     chosen = reader.parse_args(words)
     if chosen.out is not None:
         check_name(reader, chosen.out)
-    kept = [name for name in ("unit", "region", "text") if getattr(chosen, name)] if chosen.online else []
-    if kept:
-        reader.error("--online writes no text, which --%s is for" % kept[0])
     return chosen
 
 
@@ -78,8 +73,8 @@ def log_of(path):
 def variables(chosen, folder):
     """What the converter takes; the unit is that of the text that is there, where no other is asked for."""
     unit_there = str(old_meta(folder).get("unit", "")).partition(" ")[0]
-    asked = {"SPANPROF_UNIT": chosen.unit or unit_there, "SPANPROF_ONLINE": chosen.online and 1}
-    return dict(os.environ, **{name: str(value) for name, value in asked.items() if value})
+    unit_asked = chosen.unit or unit_there
+    return dict(os.environ, **({"SPANPROF_UNIT": unit_asked} if unit_asked else {}))
 
 
 def tell_all(told, made="", name=""):

@@ -17,7 +17,6 @@ run, 127 where there is none. The recorder's own variables (SPANPROF_LINES) and 
 MOST_RUNS = 99
 RUNS_OF_A_SCALE = 5
 MOST_THREADS = 1024
-NEEDS_A_TEXT = ("unit", "runs", "scale", "full", "call-paths", "html", "open", "json")
 
 
 class Parser(argparse.ArgumentParser):
@@ -70,8 +69,6 @@ def parser():
         "the speedup, and what costs more on more threads; without it the program runs once")
     add("--calibrate", action="store_true",
         help="without a program: measure what the runtime takes for tasks on this machine, for spanprof-predict")
-    add("--online", action="store_true",
-        help="measure work and span by place while it runs, in the memory of what is open at a time, and keep no text")
     add("--call-paths", action="store_true",
         help="tell the callers of a function apart that makes tasks: record which calls led to each")
     add("--runtime", metavar="llvm|gnu|FILE", help="run the program on LLVM's runtime or on gcc's, or on that of this "
@@ -121,9 +118,6 @@ def parse(words):
         reader.error("--fail-above needs --against, with which it compares")
     if chosen.full and (chosen.scale or chosen.runs):
         reader.error("--full runs the program as often as it has to, without --scale and --runs")
-    kept = [name for name in NEEDS_A_TEXT if getattr(chosen, name.replace("-", "_"))] if chosen.online else []
-    if kept:
-        reader.error("--online keeps no text, which --%s needs" % kept[0])
     chosen.runs = chosen.runs or (RUNS_OF_A_SCALE if chosen.scale else 1)
     if chosen.open and not chosen.html:
         chosen.html = chosen.out + ".html"

@@ -24,9 +24,8 @@ def environment(base, options, library, preload, out):
         new["LD_PRELOAD"] = with_others(preload, base.get("LD_PRELOAD"))
     asked = {"SPANPROF_UNIT": options.unit, "SPANPROF_CLOCK": options.clock, "OMP_NUM_THREADS": options.threads}
     new.update((name, str(value)) for name, value in asked.items() if value is not None)
-    for name in ("online", "call_paths"):
-        if getattr(options, name):
-            new["SPANPROF_" + name.upper()] = "1"
+    if options.call_paths:
+        new["SPANPROF_CALL_PATHS"] = "1"
     return new
 
 

@@ -24,7 +24,7 @@ from spanprof.record.work import Work, taken
 
 @dataclass
 class Recorded:
-    """How the program ended, its recordings with a text (or, measured while it ran, without), and what is told."""
+    """How the program ended, its recordings with a text, and what is told."""
     status: int
     found: List[str] = field(default_factory=list)
     said: Told = None
@@ -147,8 +147,7 @@ class Session:
         for folder in moved.values():
             if not os.path.exists(os.path.join(folder, META)):
                 say("%s has the log alone; spanprof-convert makes its text, with --out elsewhere" % folder)
-        wanted = "online.json" if self.options.online else TEXT
-        found = [final for final in moved.values() if os.path.exists(os.path.join(final, wanted))]
+        found = [final for final in moved.values() if os.path.exists(os.path.join(final, TEXT))]
         return found, said.moved(moved)
 
     def note_end(self, status):
@@ -156,8 +155,7 @@ class Session:
             self.notes = self.notes + ["the program ended by " + signal_name(status)]
 
     def tell_nothing(self, status, said):
-        nothing = "nothing is measured" if self.options.online else "nothing is recorded"
-        what = "the run is recorded, and its text is not made" if has_failed(said.things) else nothing
+        what = "the run is recorded, and its text is not made" if has_failed(said.things) else "nothing is recorded"
         say("%s: %s" % (what, why_nothing(status, said, self.out)))
 
     def write_regions(self, folder, out):

@@ -50,7 +50,6 @@ WORDS = {
     "outside": lambda told: "task outside of a parallel region, not recorded, " + seen(told),
     "no tasks": lambda told: "no parallel region with tasks" +
                              (", and the program ended inside a region" if told["inside"] else ""),
-    "online": lambda told: "%(file)s has work and span by place, as they were measured" % told,
     "unwritten": lambda told: "%s cannot be written%s" % (told["file"], ": " + told["why"] if "why" in told else ""),
     "killed": killed,
     "running": lambda told: "the program still runs: the log is that of its first %s" % milliseconds(told["recorded"]),
@@ -80,7 +79,7 @@ class Told:
     def without(self, texts):
         """All but that these were written."""
         return Told(self.loaded, [one for one in self.things
-                                  if not (one["told"] in ("text", "online") and one["file"] in texts)])
+                                  if not (one["told"] == "text" and one["file"] in texts)])
 
     def news(self, out, texts=(), remarks=()):
         """What the summary would not show, without the path of the files; two conversions may tell the same."""

@@ -66,8 +66,6 @@ class Folders(InFolder):
     def test_without_a_text(self):
         made(self.folder, **{"program.tasks": None, "times": None})
         self.refused("has a log and no text; " + AGAIN)
-        made(self.folder, **{"program.tasks": None, "times": None, "online.json": "{}"})
-        self.refused("measured with --online, and no text was kept; record it again")
 
 
 class PlainTexts(InFolder):

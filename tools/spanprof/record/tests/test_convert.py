@@ -101,8 +101,6 @@ class Converts(InFolder):
 
     def test_arguments_that_exclude_each_other(self):
         self.assertIn("--out x/: the name of a recording, and no folder", self.refused("--out", "x/", self.recording))
-        self.assertIn("--online writes no text, which --region is for",
-                      self.refused("--online", "--region", "a.c:1", self.recording))
 
     def test_a_folder_that_is_not_there(self):
         self.assertIn("there is no folder /none", self.refused("--out", "/none/x", self.recording))

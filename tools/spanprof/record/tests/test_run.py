@@ -13,7 +13,7 @@ from spanprof.record.target import find
 
 
 def options(**given):
-    known = dict(unit=None, clock=None, threads=None, online=False, call_paths=False)
+    known = dict(unit=None, clock=None, threads=None, call_paths=False)
     return argparse.Namespace(**dict(known, **given))
 
 

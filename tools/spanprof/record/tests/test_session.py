@@ -57,7 +57,7 @@ class Runs(InFolder):
 
     def session(self, statuses, runs=1, times=(30, 10, 20)):
         made = session.Session.__new__(session.Session)
-        made.options = argparse.Namespace(runs=runs, online=False, force=False, json=None, full=False, command=["./m"])
+        made.options = argparse.Namespace(runs=runs, force=False, json=None, full=False, command=["./m"])
         made.out, made.notes, made.rank = os.path.join(self.folder, "mine"), [], None
         made.converter = "/convert"
         left, times = iter(statuses), iter(times)
@@ -139,7 +139,7 @@ class Statuses(unittest.TestCase):
             made.return_value.options.scale, made.return_value.options.runs = None, 1
             made.return_value.record_once.side_effect = [recorded]
             made.return_value.comparison = mock.Mock(is_other=True, change=change)
-            return command.record_and_report(argparse.Namespace(**dict(dict(online=False, fail_above=None), **options)))
+            return command.record_and_report(argparse.Namespace(**dict(dict(fail_above=None), **options)))
 
     def test_slower_than_an_earlier_recording(self):
         self.assertEqual(self.status(Recorded(0, ["a"]), change=0.07, fail_above=5), 3)
