@@ -3,7 +3,7 @@ from dataclasses import dataclass, field
 from typing import List
 
 from spanprof.diagnosis.causes import BY_KIND, EFFICIENT, MOST, SECOND
-from spanprof.diagnosis.losses import NO_CAUSE, OF_SHAPE, Loss, code_on_one, least_of, losses
+from spanprof.diagnosis.losses import NO_CAUSE, OF_SHAPE, Loss, code_on_one, least_of, losses, merged
 from spanprof.diagnosis.plan import best_of, bounds, step_of, steps_after
 
 POOL = 0.25     # of what the shape lost, that a change wins back of whose kind it is then
@@ -29,13 +29,6 @@ class Diagnosis:
         facts = self.facts
         least = self.now * self.code_on_one * facts.target / (facts.whole_time * facts.usable or 1)
         return min(self.now, int(least))
-
-
-def merged(found):
-    together = {}
-    for loss in found:
-        together[loss.kind, loss.place] = together.get((loss.kind, loss.place), 0) + loss.time
-    return sorted((Loss(*key, time) for key, time in together.items()), key=lambda loss: -loss.time)
 
 
 def as_won_back(facts, found, steps):

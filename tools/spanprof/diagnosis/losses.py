@@ -271,15 +271,19 @@ def crowded_region(facts):
     return max(facts.regions, key=lambda region: region.threads).place if facts.regions else ""
 
 
-def losses(facts):
+def merged(found):
     """The largest first; parts of one kind and place are one."""
+    together = {}
+    for loss in found:
+        together[loss.kind, loss.place] = together.get((loss.kind, loss.place), 0) + loss.time
+    return sorted((Loss(*key, time) for key, time in together.items() if time), key=lambda loss: -loss.time)
+
+
+def losses(facts):
     found = idle_losses(facts) + off_losses(facts) + in_code_losses(facts) + \
         [Loss("recorder", "", facts.recorder), Loss("startup", "", facts.outside)]
-    together, one_place = {}, {"too_many_threads": crowded_region(facts), **dict.fromkeys(FINE, heaviest_name(facts))}
-    for loss in found:
-        key = (loss.kind, one_place.get(loss.kind, loss.place))
-        together[key] = together.get(key, 0) + loss.time
-    return sorted((Loss(*key, time) for key, time in together.items() if time), key=lambda loss: -loss.time)
+    one_place = {"too_many_threads": crowded_region(facts), **dict.fromkeys(FINE, heaviest_name(facts))}
+    return merged(loss._replace(place=one_place.get(loss.kind, loss.place)) for loss in found)
 
 
 def useful_time(facts, found):

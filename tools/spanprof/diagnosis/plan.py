@@ -134,7 +134,7 @@ def steps_after(facts, bench, found, first, ranked):
     plan, made = [first], list(first.change.requests if first.change else ())
     done = {(first.kind, first.place)}
     while len(plan) < STEPS and bench.has_time():
-        now, before = plan[-1].after, bench.end(made) if made else facts_end(bench)
+        now, before = plan[-1].after, bench.end(made)
         tried = bench.tries([step.change for step in ranked if step.change and step.change != first.change][:2 * STEPS],
                             made)
         steps = [step_of(facts, bench.seen, now, before, one) for one in tried] + bounds(facts, now, found)
@@ -145,8 +145,3 @@ def steps_after(facts, bench, found, first, ranked):
         done.add((step.kind, step.place))
         made += step.change.requests if step.change else ()
     return plan
-
-
-def facts_end(bench):
-    """Where the greedy run of the text ends as it is, on as many threads as the run could have had."""
-    return bench.end([])

@@ -26,10 +26,6 @@ def several(number, what):
     return "%s %s%s" % (grouped(number), what, "s" * (number != 1))
 
 
-def place_of(facts, name):
-    return facts.places.get(name)
-
-
 def words_of_place(facts, names, place):
     """Those of a place of code."""
     shared = most_shared(place)
@@ -79,7 +75,7 @@ def words_of_sleep(facts, name):
 
 def words(facts, names, name):
     """What a sentence may have, of a place, a wait, a lock or a region."""
-    place = place_of(facts, name)
+    place = facts.places.get(name)
     out = dict(words_of_run(facts), where=names.place(name), at=names.at(name), item="",
                in_what=words_of_sleep(facts, name), tasks="", many="", largest="", average="", dearer="", times="",
                got="", alone="the other threads wait")

@@ -45,10 +45,7 @@ def by_the_model(paths, numbers=None):
 
 def told_of(chosen):
     """For a summary, lines and JSON. There is nothing without a model of the machine."""
-    try:
-        told = by_the_model(chosen.paths)
-    except Fault as why:
-        return ["unavailable: %s" % why], {"none": str(why)}
+    told = by_the_model(chosen.paths)
     return (lines(*told, chosen.notes), as_json(*told, chosen.notes)) if told else ([], None)
 
 

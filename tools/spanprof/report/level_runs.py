@@ -8,16 +8,12 @@ HEADER = "times "
 PIECE = 1 << 20     # bytes of the file that are read at a time
 
 
-class NoTimes(Exception):
-    """Why there is no timeline."""
-
-
 def columns(path):
     """Segments, threads, begins and ends, in a file of times or a document with a text before them."""
     out = [array("q") for _ in range(4)]
     with open(path, encoding="utf-8", errors="replace") as file:
         if not any(line.startswith(HEADER) for line in file):
-            raise NoTimes("%s has no times" % path)
+            raise ValueError("no times")
         while lines := file.readlines(PIECE):
             words = "".join(lines).split()
             if len(words) != 4 * len(lines):
@@ -39,11 +35,11 @@ def levels_of(view, threads, segments, lanes, starts, ends):
 
 
 def levels_in(path, view):
-    """In nanoseconds."""
+    """In nanoseconds; None where the file has no times of the text."""
     try:
         return levels_of(view, view.answers.head.threads or 1, *columns(path))
-    except (IndexError, ValueError) as wrong:
-        raise NoTimes("%s has no times of %s" % (path, view.name)) from wrong
+    except (IndexError, ValueError):
+        return None
 
 
 def levels_of_greedy(view):

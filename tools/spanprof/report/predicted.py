@@ -17,7 +17,6 @@ MOST_CHANGES = 8    # of which a time is predicted; a simulation of thousands of
 class Predicted(NamedTuple):
     """`found` has pairs of an estimate and its least end; without them `why_not` says why, where that is worth it."""
     found: List[Tuple[Any, int]]
-    machine: Any = None
     why_not: str = ""
 
 
@@ -29,7 +28,7 @@ def predicted(answers):
         found = by_the_model(texts(answers.path).paths, [answers.threads, 2 * answers.threads])
     except Fault as why:
         return Predicted([], why_not=str(why))
-    return Predicted(found[2], found[1]) if found else Predicted([])
+    return Predicted(found[2]) if found else Predicted([])
 
 
 def change_of(request, surveyed):

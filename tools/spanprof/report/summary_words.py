@@ -3,7 +3,6 @@ from spanprof.claims import (gain_may_be_less, gain_may_be_more, is_partial, loc
                              why_not_of_more_threads)
 from spanprof.report.figures import MEASURED, PROVED, badge
 from spanprof.report.markup import tag
-from spanprof.report.part_diagnosis import first_screen
 
 
 def recorded_words(view):
@@ -106,8 +105,3 @@ def what_pays(view, trials):
                " less, and the span be ", show.time(span, what_if, PROVED), ", ",
                show.share(answers.span - span, answers.span, "span span - %s / span span" % what_if, PROVED), " less ",
                badge(PROVED), ".")
-
-
-def diagnosis_words(view):
-    """What to read first."""
-    return first_screen(view.diagnosis) if view.diagnosis else ""

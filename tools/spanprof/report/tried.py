@@ -23,6 +23,6 @@ def tried(answers, most=MOST_PLACES):
         text = Text(answers.path, version_of(answers.path))
         seen = survey(text.statements())
         costs = costs_for(text.head, seen)
-        return Tried(trials(text, seen, costs, answers.threads, None, most), costs)
+        return Tried(trials(text, seen, costs, answers.threads, most), costs)
     except (Fault, OSError):
         return None

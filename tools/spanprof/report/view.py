@@ -11,7 +11,7 @@ from spanprof.recording import folder_of, open_recording
 from spanprof.regions import place_name, program_of
 from spanprof.report.colours import BARS
 from spanprof.report.figures import DECLARED, MEASURED, RECORDED, Figures
-from spanprof.report.level_runs import NoTimes, levels_in, levels_of_greedy
+from spanprof.report.level_runs import levels_in, levels_of_greedy
 from spanprof.report.markup import tag
 from spanprof.report.places import places, task_places
 from spanprof.report.predicted import of_changes, predicted
@@ -106,10 +106,7 @@ class View:
         if not times:
             return None
         self.answers.tell("reading " + os.path.basename(times))
-        try:
-            return levels_in(times, self)
-        except NoTimes:
-            return None
+        return levels_in(times, self)
 
     @cached_property
     def tried(self):

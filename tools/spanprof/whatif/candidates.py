@@ -34,7 +34,7 @@ def first(counted, most, what, left_out):
     return names[:most]
 
 
-def candidates(seen, parts, kinds=KINDS, most=MOST_PLACES):
+def candidates(seen, parts, most=MOST_PLACES):
     """`parts` is how many tasks a split makes."""
     left_out = []
     code = first(seen.costs, most, "places of code", left_out)
@@ -49,5 +49,5 @@ def candidates(seen, parts, kinds=KINDS, most=MOST_PLACES):
     if len(seen.items) > MOST_NAMES:
         words["drop-name"] = []
         left_out.append("all %d names of depend items" % len(seen.items))
-    requests = tuple(Request(kind, word) for kind in kinds for word in words[kind])
+    requests = tuple(Request(kind, word) for kind in KINDS for word in words[kind])
     return Candidates(requests, tuple(left_out))

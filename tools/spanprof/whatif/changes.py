@@ -1,4 +1,5 @@
-"""Changes of one thing in a text: a place's costs, its waits, its depend items. Each takes statements and gives others.
+"""Changes of one thing in a text: a place's costs, its waits, its depend items, whether its tasks are deferred. Each
+takes statements and gives others.
 
 A change counts in `count` what it has changed.
 """
@@ -70,3 +71,27 @@ class DropName(Change):
             kept = tuple(item for item in one.items if item[1] != self.place)
             self.count += len(one.items) - len(kept)
             yield one if len(kept) == len(one.items) else one._replace(items=kept)
+
+
+class InForInout(Change):
+    """Tasks have `in` for `inout` of a name."""
+    what = "%d depend item%s changed to in: of the name %s"
+
+    def __call__(self, stream):
+        for one in stream:
+            changed = tuple(("in", name) if name == self.place and kind == "inout" else (kind, name)
+                            for kind, name in one.items)
+            self.count += sum(now != was for now, was in zip(changed, one.items))
+            yield one._replace(items=tuple(dict.fromkeys(changed))) if changed != one.items else one
+
+
+class Defer(Change):
+    """The undeferred tasks of a place are deferred."""
+    what = "%d undeferred task%s deferred: %s"
+
+    def __call__(self, stream):
+        for one in stream:
+            if one.is_undeferred and one.name == self.place:
+                self.count += 1
+                one = one._replace(is_undeferred=False)
+            yield one

@@ -4,8 +4,7 @@ from difflib import get_close_matches
 from typing import NamedTuple
 
 from spanprof.errors import Fault
-from spanprof.whatif.access import Defer, InForInout
-from spanprof.whatif.changes import DropDepend, DropName, DropWait, Factor
+from spanprof.whatif.changes import Defer, DropDepend, DropName, DropWait, Factor, InForInout
 from spanprof.whatif.join import Join
 from spanprof.whatif.shapes import Cutoff, Grain, OwnTask, Split
 

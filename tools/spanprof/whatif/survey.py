@@ -11,9 +11,8 @@ from spanprof.text import is_programs, is_share, is_shared_out
 
 @dataclass
 class Survey:
-    """Counts by name; `costs` and `pieces` are of the code at a place."""
+    """Counts by name; `costs` are of the code at a place."""
     costs: Counter = field(default_factory=Counter)
-    pieces: Counter = field(default_factory=Counter)
     tasks: Counter = field(default_factory=Counter)
     waits: Counter = field(default_factory=Counter)         # taskwaits and taskgroups
     ordered: Counter = field(default_factory=Counter)       # of these, those of tasks that depend items order too
@@ -47,7 +46,6 @@ class Surveyor:
 
     def work(self, one):
         self.out.costs[one.name] += one.cost
-        self.out.pieces[one.name] += 1
         self.since = None if self.since is None else self.since + one.cost
 
     def task(self, one):

@@ -12,10 +12,9 @@ from spanprof.errors import Fault
 from spanprof.head import counted
 from spanprof.text import text_lines
 from spanprof.text_file import TextFile
-from spanprof.whatif.candidates import candidates
+from spanprof.whatif.candidates import MOST_PLACES, candidates
 from spanprof.whatif.numbers import Numbers, numbers_of
 from spanprof.whatif.requests import Request, applied, changes
-from spanprof.whatif.survey import Survey
 from spanprof.whatif.texts import ENCODING
 
 LEAST_CHANGE = 0.001    # of an end; what changes less counts as no change
@@ -25,7 +24,6 @@ LEAST_SECONDS = 10      # in which a long text is surveyed and changes of it are
 @dataclass
 class Trial:
     request: Request
-    words: str      # what is changed
     numbers: Numbers
 
 
@@ -36,7 +34,6 @@ class Trials:
     before: Numbers
     made: List[Trial] = field(default_factory=list)
     left_out: List[str] = field(default_factory=list)
-    seen: Survey = field(default_factory=Survey)
     late: int = 0       # changes for which there was no time
 
     def end(self, numbers):
@@ -141,18 +138,17 @@ class Trying:
         try:
             made = changes([request], self.seen, self.costs)
             with changed(self.text, made, self.is_long) as text:
-                return Trial(request, made[0].words(), numbers_of(text, self.threads)) if made[0].count else None
+                return Trial(request, numbers_of(text, self.threads)) if made[0].count else None
         except Fault as fault:
             return fault
 
 
-def trials(text, seen, costs, threads, kinds=None, most=None):
-    """Of a text of version 1 that spanprof takes."""
-    limits = dict(filter(lambda pair: pair[1], (("kinds", kinds), ("most", most))))
-    tried, both = candidates(seen, threads, **limits), threads_of(threads)
+def trials(text, seen, costs, threads, most=MOST_PLACES):
+    """Of a text of version 1 that spanprof takes, at so many places of each kind."""
+    tried, both = candidates(seen, threads, most), threads_of(threads)
     trying = Trying(text, seen, costs, both)
     requests = best_first(tried.requests) if trying.is_long else tried.requests
-    out = Trials(both, trying.before, left_out=list(tried.left_out), seen=seen)
+    out = Trials(both, trying.before, left_out=list(tried.left_out))
     ask = map if trying.is_long else client.at_once     # of a long text one is enough for the memory
     for request, one in zip(requests, ask(trying.trial, requests)):
         if isinstance(one, NoTime):

@@ -142,9 +142,8 @@ class Command(InAFolder):
                 mock.patch("spanprof.client.ask", return_value="segments 9\nwork 40800\nspan 10200\n"):
             lines, told = predictions.told_of(Chosen([path]))
             self.assertEqual((len(lines), len(told["predicted"])), (4, 2))
-            lines, told = predictions.told_of(Chosen([self.write("b.tasks", TEXT % 1)]))
-            self.assertRegex(lines[0], "^unavailable: b.tasks is of one thread")
-            self.assertIn("b.tasks", told["none"])
+            with self.assertRaisesRegex(Fault, "^b.tasks is of one thread"):
+                predictions.told_of(Chosen([self.write("b.tasks", TEXT % 1)]))
         with mock.patch.dict(os.environ, SPANPROF_MACHINE=self.machine + ".none"):
             self.assertEqual((predictions.told_of(Chosen([path])), predictions.changed_told(path, str, 2)),
                              (([], None), ([], None)))
