@@ -9,7 +9,7 @@ from spanprof.account import Account, completed, read_rows
 from spanprof.account_program import NoAccount, ask
 from spanprof.client import named_numbers
 from spanprof.diagnosis.asked import head_of, numbers_at, with_lines
-from spanprof.diagnosis.calls import Sampled, calls_of
+from spanprof.diagnosis.calls import Sampled, calls_of, plain
 from spanprof.diagnosis.lock_times import locks_of
 from spanprof.diagnosis.places import read_program
 from spanprof.recording import document
@@ -100,9 +100,8 @@ class Facts:
 
 
 def function_in(words):
-    """The name in `in sort, inlined into main at sort.c:9`, without arguments and what it is inlined into."""
-    name = re.sub(r"^in ", "", words).partition(", inlined into")[0]
-    return re.sub(r"(\.omp_outlined.*|\(.*|\.part\.\d+|\.constprop\.\d+)$", "", name)
+    """The name in `in sort, inlined into main at sort.c:9`, as a person knows it."""
+    return plain(re.sub(r"^in ", "", words).partition(", inlined into")[0])
 
 
 def breakdown(program, head, work, timed):

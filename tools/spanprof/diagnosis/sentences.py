@@ -1,6 +1,6 @@
 """What is told of a run on a terminal: at most eight lines of at most 100 columns."""
 from spanprof.account_words import lasting
-from spanprof.diagnosis.calls import asleep_in, together
+from spanprof.diagnosis.calls import OFFSET, asleep_in, together
 from spanprof.diagnosis.causes import BY_KIND
 from spanprof.diagnosis.losses import average_task, has_many_faults, most_shared
 from spanprof.diagnosis.places import SERIAL
@@ -165,8 +165,10 @@ def lost_lines(found, names):
         yield shortened(line, WIDTH)
 
 
-def unsure(facts):
-    """What one run cannot tell."""
+def unsure(facts, lost):
+    """What one run cannot tell, or a program without the names of its functions."""
+    if any(OFFSET.search(word) for line in lost for word in line.replace(":", " ").split()):
+        return "the names of its functions: build it with -g, or install its debug symbols"
     if facts.target == 1:
         return "what more threads would bring: record on more"
     if facts.cost_on_one is None and facts.true_one is None and facts.threads > 1:
@@ -185,12 +187,12 @@ def sure_words(found):
     return list(filter(None, parts))
 
 
-def sure_lines(found, more):
+def sure_lines(found, lost, more):
     """How much of it is known, and where the rest is."""
-    facts = found.facts
+    rest = unsure(found.facts, lost)
     told = "%-*s%s" % (LABEL, "sure", ", ".join(sure_words(found)))
     return [shortened(line, WIDTH) for line in filter(None, [
-        told, "%-*s%s" % (LABEL, "", "not known: " + unsure(facts)) if unsure(facts) else "",
+        told, "%-*s%s" % (LABEL, "", "not known: " + rest) if rest else "",
         "%-*s%s" % (LABEL, "more", more) if more else ""])]
 
 
@@ -205,5 +207,5 @@ def short_lines(found, names, more="", news=()):
     plan = [change_line(label, found.facts, names, step)
             for label, step in zip(("do", "then", "then"), found.plan)]
     lost = list(lost_lines(found, names))
-    last = note_lines(list(news)) + sure_lines(found, more)
+    last = note_lines(list(news)) + sure_lines(found, lost, more)
     return [shortened(first_line(found), WIDTH)] + lost + plan[:MOST_LINES - 1 - len(lost) - len(last)] + last
