@@ -8,7 +8,7 @@ from typing import Tuple
 from spanprof import client
 from spanprof.diagnosis.asked import numbers_at
 from spanprof.diagnosis.losses import kind_of_starved, most_shared
-from spanprof.diagnosis.places import OF_THREADS, SERIAL, SHARE
+from spanprof.diagnosis.places import OF_THREADS, SERIAL, SHARE, in_text
 from spanprof.errors import Fault
 from spanprof.text import BARRIER, text_lines
 from spanprof.whatif.creating import costs_for
@@ -51,9 +51,9 @@ def splits(facts):
     """Of the code while which threads had nothing to run, and of the code with the most cost."""
     idle = [name for name in facts.starved_by if name in facts.places]
     heavy = sorted(facts.places, key=lambda name: -facts.places[name].cost)
-    for name in list(dict.fromkeys(idle[:MOST] + heavy[:2])):
-        if kind_of_starved(facts, name) != "loop_schedule":
-            yield single("split", "%s=%d" % (name, max(2, facts.usable)))
+    tried = [name for name in idle[:MOST] + heavy[:2] if kind_of_starved(facts, name) != "loop_schedule"]
+    for name in dict.fromkeys(map(in_text, tried)):
+        yield single("split", "%s=%d" % (name, max(2, facts.usable)))
 
 
 def readers(facts):

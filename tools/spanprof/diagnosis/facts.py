@@ -11,7 +11,7 @@ from spanprof.client import named_numbers
 from spanprof.diagnosis.asked import head_of, numbers_at, with_lines
 from spanprof.diagnosis.calls import Sampled, calls_of, plain
 from spanprof.diagnosis.lock_times import locks_of
-from spanprof.diagnosis.places import read_program
+from spanprof.diagnosis.places import in_text, read_program
 from spanprof.recording import document
 from spanprof.regions import program_of
 
@@ -95,6 +95,11 @@ class Facts:
     def on_one(self):
         return int(statistics.median(self.true_one)) if self.true_one else None
 
+    def key(self, name):
+        """Of a place of the text: of those that it names alike that for which threads waited most."""
+        same = [key for key in self.places if in_text(key) == name]
+        return max(same, key=lambda key: self.starved_by.get(key, 0), default=name)
+
     def share(self, time):
         return time / self.whole_time if self.whole_time else 0.0
 
@@ -152,11 +157,10 @@ def set_off(facts, off, program, head):
 def set_costs(places, program, unit, lost):
     """In nanoseconds, without what segments lost."""
     for place in places.values():
-        place.cost = place.largest = 0
-    for segment, (name, cost) in enumerate(zip(program.names, program.costs)):
-        place, left = places[name], max(0, cost * unit - lost.get(segment, 0))
-        place.cost += left
-        place.largest = max(place.largest, left)
+        place.cost = place.largest = place.longest = 0
+        place.phase = (0, 0)
+    for segment, (name, cost, phase) in enumerate(zip(program.names, program.costs, program.phases)):
+        places[name].add(max(0, cost * unit - lost.get(segment, 0)), phase)
 
 
 def runtime_name(runtime):
@@ -203,7 +207,7 @@ def mark_places(facts, head, unit):
     """Costs in nanoseconds, and which tasks exclude each other: the text has inoutset for these."""
     is_excluding = any(remark.name == EXCLUDING for remark in head.remarks)
     for place in facts.places.values():
-        place.cost, place.largest = place.cost * unit, place.largest * unit
+        place.cost, place.largest, place.longest = place.cost * unit, place.largest * unit, place.longest * unit
         place.exclusive = place.inoutset if is_excluding else 0
 
 

@@ -3,7 +3,7 @@ import re
 
 from spanprof.diagnosis.calls import NO_NAME, OFFSET, innermost, plain
 from spanprof.diagnosis.directives import construct_of, directive_line, is_of_some_turns
-from spanprof.diagnosis.places import OF_THREADS, SERIAL, lines_between
+from spanprof.diagnosis.places import OF_THREADS, OWN, SERIAL, lines_between
 from spanprof.source_lines import LONGEST, STRING, after_directive, code_lines, line_of, statement_end
 from spanprof.text import BEGINNING
 
@@ -153,7 +153,7 @@ class Names:
         place = self.facts.places.get(name)
         if not place:
             return self.other(name)
-        if place.tasks and line_of(place.at) and not name.startswith("code of"):
+        if place.tasks and line_of(place.at) and not name.startswith(OWN):
             function, line = self.called(place), self.begin(name, place.at)
             return "%s:%d%s" % (*line, " (%s)" % function if function not in ("", "main") else "")
         ran = self.ran(place)

@@ -50,7 +50,7 @@ def holder(facts, name):
 
 def cause_of(facts, change):
     """The kind of the loss that a change wins back, and its place."""
-    place = change.place
+    place = facts.key(change.place)
     if change.kind == "in-for-inout":
         return "dependence", holder(facts, place).name
     if change.kind == "split":

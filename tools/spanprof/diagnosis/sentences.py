@@ -114,8 +114,8 @@ def change_sentence(facts, names, step):
         return BY_KIND[step.kind].change.format(**words(facts, names, step.place))
     kind, place = step.change.kind, step.change.place
     if kind == "split":
-        kind = step.kind if facts.places[place].tasks else "serial"
-        return SPLIT[kind].format(**words(facts, names, place))
+        kind = step.kind if facts.places[step.place].tasks else "serial"
+        return SPLIT[kind].format(**words(facts, names, step.place))
     found = words(facts, names, step.place)
     if kind == "in-for-inout":
         item = names.item(holder(facts, place), ("inout", place))
