@@ -275,7 +275,9 @@ def losses(facts):
     """The largest first; parts of one kind and place are one."""
     found = idle_losses(facts) + off_losses(facts) + in_code_losses(facts) + \
         [Loss("recorder", "", facts.recorder), Loss("startup", "", facts.outside)]
-    together, one_place = {}, {"too_many_threads": crowded_region(facts), **dict.fromkeys(FINE, heaviest_name(facts))}
+    missing = missing_threads(facts)
+    together, one_place = {}, {"too_many_threads": crowded_region(facts), **dict.fromkeys(FINE, heaviest_name(facts)),
+                               "too_few_threads": max(missing, key=missing.get, default="")}
     for loss in found:
         key = (loss.kind, one_place.get(loss.kind, loss.place))
         together[key] = together.get(key, 0) + loss.time

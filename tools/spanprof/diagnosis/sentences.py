@@ -2,7 +2,7 @@
 from spanprof.account_words import lasting
 from spanprof.diagnosis.calls import OFFSET, asleep_in, together
 from spanprof.diagnosis.causes import BY_KIND
-from spanprof.diagnosis.losses import average_task, has_many_faults, most_shared
+from spanprof.diagnosis.losses import average_task, has_many_faults, missing_threads, most_shared
 from spanprof.diagnosis.places import SERIAL
 from spanprof.diagnosis.plan import holder
 
@@ -79,17 +79,33 @@ def words_of_sleep(facts, name):
     return "in %s%s" % (function, ", called by " + caller if caller else "")
 
 
+def who_asked(facts, region):
+    """For fewer threads than the run could have had, as far as it is known."""
+    if not region.asked or region.asked >= facts.target:
+        return "OMP_DYNAMIC, OMP_THREAD_LIMIT" if region.asked else "num_threads, OMP_NUM_THREADS"
+    return "the program itself asks for %d" % region.asked
+
+
+def words_of_region(facts, names, name):
+    """Of one with too few threads."""
+    others = len(set(missing_threads(facts)) - {name})
+    out = {"got": "", "who_asked": "", "others": " and in %s" % several(others, "other") if others else "",
+           "in_region": "in the region at " + names.place(name) if name else "in some region"}
+    for region in facts.regions:
+        if region.place == name:
+            out.update(got=several(region.threads, "thread"), who_asked=who_asked(facts, region))
+    return out
+
+
 def words(facts, names, name):
     """What a sentence may have, of a place, a wait, a lock or a region."""
     place = place_of(facts, name)
     out = dict(words_of_run(facts), where=names.place(name), at=names.at(name), item="",
                in_what=words_of_sleep(facts, name), tasks="", many="", largest="", average="", dearer="", times="",
-               got="", alone="the other threads wait")
+               alone="the other threads wait", **words_of_region(facts, names, name))
     if place:
         out.update(words_of_place(facts, names, place), alone=words_of_alone(facts, names, place))
     out.update({"times": grouped(lock.times) for lock in facts.locks if name in (lock.place, lock.kind)})
-    out["in_region"] = "in the region at " + name if name else "in some region"
-    out.update({"got": several(region.threads, "thread") for region in facts.regions if region.place == name})
     return out
 
 

@@ -9,11 +9,11 @@ from spanprof.diagnosis.facts import Region
 from spanprof.diagnosis.lock_times import Held
 from spanprof.diagnosis.losses import Loss
 from spanprof.diagnosis.names import Names, block_end, items_in
-from spanprof.diagnosis.places import SERIAL
+from spanprof.diagnosis.places import OF_THREADS, OWN, SERIAL
 from spanprof.diagnosis.plan import Step
 from spanprof.diagnosis.schema import as_json
 from spanprof.diagnosis.sentences import (WIDTH, change_sentence, lost_sentence, short_lines, shortened, speed_words,
-                                          waits)
+                                          waits, who_asked)
 from spanprof.diagnosis.tests.worked import MS, facts, place
 
 SOURCE = """static void tone(float *d, int n) {
@@ -165,6 +165,32 @@ class Sentences(unittest.TestCase):
             change = single(option, word)
             step = Step(kind, TASKS if option == "in-for-inout" else change.place, 2, 1, 1, 1, 1.0, change)
             self.assertEqual(change_sentence(run, Names(run, SOURCES), step), told)
+
+    def test_who_asked_for_too_few_threads(self):
+        few = [Region("image.c:20", 1, 80 * MS, 1), Region("image.c:30", 2, 20 * MS, 4),
+               Region("image.c:40", 4, 9 * MS, 4)]
+        run = facts([tone()], regions=few, asked=4)
+        self.assertEqual([who_asked(run, region) for region in few[:2]],
+                         ["the program itself asks for 1", "OMP_DYNAMIC, OMP_THREAD_LIMIT"])
+        self.assertEqual(who_asked(run, Region("image.c:20", 2, MS)), "num_threads, OMP_NUM_THREADS")
+        self.assertEqual(lost_sentence(run, Names(run, None), Loss("too_few_threads", "image.c:20", MS)),
+                         "1 thread in the region at image.c:20 and in 1 other: 4 can run")
+
+    def test_places_without_lines_by_their_functions(self):
+        loop = place(OWN + " at void A::tone<..>(int)+0x7f", OF_THREADS, tasks=4)
+        nameless = place("after the barrier of the region at [image]+0x3a", SERIAL, tasks=0)
+        start = place("the beginning", SERIAL, tasks=0)
+        start.ends["[image]+0x3a"] = 1
+        task = place("task at sort.part.3+0x7e")
+        run = facts([loop, nameless, start, task])
+        names = Names(run, None)
+        self.assertEqual([names.at(loop.name), names.at(task.name), names.place(task.name)],
+                         ["A::tone", "sort", "sort"])
+        self.assertEqual([names.place(one.name) for one in (nameless, start)],
+                         ["code after image+0x3a", "code before image+0x3a"])
+        self.assertEqual(names.place("taskwait at f(int)+0x1"), "the taskwait at f")
+        told = Diagnosis(run, [], [Loss("serial", nameless.name, 50 * MS)], [], [], 1)
+        self.assertIn("not known: the names of its functions", "".join(short_lines(told, names)))
 
     def test_several_waits_by_their_lines(self):
         names = Names(facts(), None)
