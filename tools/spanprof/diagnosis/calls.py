@@ -31,12 +31,14 @@ class Sampled(NamedTuple):
 
 @lru_cache(maxsize=4096)
 def plain(function):
-    """As a person knows it: without its type, arguments, those of templates, what a compiler adds, and an offset."""
+    """As a person knows it: with its class or namespace, and without its type, arguments, those of templates, what a
+    compiler adds, and an offset."""
     function = OFFSET.sub("", function)
     function = FORTRAN.sub(r"\1::\2", function).replace("(anonymous namespace)::", "").replace("<..>", "")
     function = ARGUMENTS.sub("", OF_COMPILERS.sub("", function))
     before, operator, rest = function.partition("operator ")
-    return (before.rpartition(" ")[2] + operator + rest.strip()) or function
+    name = before.rpartition(" ")[2] + operator + rest.strip()
+    return "::".join(name.split("::")[-2:]) or function
 
 
 def calls_of(path, names):
@@ -61,7 +63,7 @@ def asleep_in(sampled):
     """The function that code slept in most of the time, and what called it, each empty where it is not known."""
     found = Counter()
     for calls, time in sampled.items():
-        found[calls[-1].partition(OF_SYSTEM)[0], calls[-2] if len(calls) > 1 else ""] += time
+        found[calls[-1].partition(OF_SYSTEM)[0], caller_of(calls, len(calls) - 1)] += time
     return max(found, key=lambda pair: (found[pair], pair), default=("", ""))
 
 

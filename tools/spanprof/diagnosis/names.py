@@ -11,6 +11,7 @@ FUNCTION = re.compile(r"^[A-Za-z_][\w\s:*&<>,~]*\b%s\s*\(")
 CALL = re.compile(r"^(?:[\w.\[\]>-]+\s*[-+*/]?=\s*)?([A-Za-z_]\w*)\s*\(")
 DEPEND = re.compile(r"depend\s*\(\s*(\w+)\s*:\s*((?:[^()]|\([^()]*\))*)\)")
 LINE = re.compile(r"[^\s:/]+:\d+$")
+LONGEST_CALLED = 50     # columns of a function and its caller
 NO_CALLS = ("if", "for", "while", "switch", "return", "sizeof")
 WRITES = {"out": "inout"}       # as the recorder writes it
 
@@ -122,9 +123,9 @@ class Names:
         if at:
             return functions.get("%s:%d" % at, "")
         begin, end = code_at(place.at), code_at(place.last_end)
-        if place.kind == SERIAL and OFFSET.search(begin or end):
-            return "code %s %s" % ("after" if begin else "before", begin or end)
-        return begin or end or "main" * (place.kind == SERIAL)
+        if place.kind != SERIAL:
+            return begin or end
+        return "code %s %s" % ("after" if begin else "before", begin or end) if begin or end else "main"
 
     def line(self, name):
         """The same of a wait, a lock or a region."""
@@ -158,7 +159,8 @@ class Names:
             return "%s:%d%s" % (*line, " (%s)" % function if function not in ("", "main") else "")
         ran = self.ran(place)
         if ran:
-            return "%s (called by %s)" % (ran.function, ran.caller) if ran.caller else ran.function
+            called = "%s (called by %s)" % (ran.function, ran.caller) if ran.caller else ran.function
+            return called if len(called) <= LONGEST_CALLED else ran.function
         file, first, last = self.stretch(place)
         function = self.function(place) or "code"
         if not file:
