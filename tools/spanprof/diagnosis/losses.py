@@ -8,9 +8,11 @@ from spanprof.diagnosis.places import OF_THREADS, OWN, SERIAL, SHARE
 from spanprof.text import BEGINNING
 
 SMALL = 5000            # nanoseconds of code in a task, below which creating and starting it costs much beside it
+A_TASK = 10000          # nanoseconds that each thread loses at most by making, waking for and starting one task
 A_CREATION = 1000       # nanoseconds: a thread with less code for each task mostly waits for the runtime to create it
 MANY = 8                # tasks for each thread, from which on to make them may cost much
 LITTLE = 0.025          # of the threads' time, below which nothing is a cause
+MUCH = 0.1              # of the run's time, from which on handling tasks may be what is lost
 SEVERAL = 1.5           # of the largest pieces: from which on several threads run a place at once
 UNEVEN = 1.5            # of the average piece: from which on the largest one is uneven
 A_FAULT = 4000          # nanoseconds, with the page that it clears
@@ -61,8 +63,9 @@ def at_heaviest(facts):
 
 
 def mostly_small(facts):
-    """Whether the code of an average task is so short that creating it costs much."""
-    return facts.tasks > MANY * facts.threads and 0 < average_task(facts) < SMALL
+    """Whether the code of an average task is so short that creating it costs much, and tasks so many that it counts."""
+    is_short = facts.tasks > MANY * facts.threads and 0 < average_task(facts) < SMALL
+    return is_short and facts.tasks * A_TASK > MUCH * facts.elapsed
 
 
 def average_task(facts):
