@@ -60,15 +60,15 @@ def words_of_run(facts):
 
 
 def words_of_alone(facts, names, place):
-    """How much of all serial code the function has that this code ran, by samples."""
-    ran = names.ran(place)
-    if not ran:
-        return "the other threads wait"
+    """How much of all serial code this code is, or, by samples, the function that it ran."""
     serial = [one for one in facts.places.values() if one.kind == SERIAL]
-    sampled = together(facts.calls.ran, [one.name for one in serial] or [place.name])
-    having = sum(time for calls, time in sampled.items() if ran.function in calls)
-    share = 100 * having / max(sum(sampled.values()), 1)
-    return "%.0f %% of %s of serial code" % (share, lasting(sum(one.cost for one in serial)))
+    part, whole, ran = place.cost, sum(one.cost for one in serial), names.ran(place)
+    if place.kind != SERIAL or part == whole and not ran:
+        return "the other threads wait"
+    if ran:
+        sampled = together(facts.calls.ran, [one.name for one in serial])
+        part = whole * sum(time for calls, time in sampled.items() if ran.function in calls) / sum(sampled.values())
+    return "%.0f %% of %s of serial code" % (100 * part / max(whole, 1), lasting(whole))
 
 
 def words_of_sleep(facts, name):

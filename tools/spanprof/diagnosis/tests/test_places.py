@@ -32,8 +32,9 @@ class Places(unittest.TestCase):
     def test_threads_code_has_its_region(self):
         lines = ["omptasks 1\n"]
         for at in ("a.c:3", "a.c:9", "a.c:3"):
-            lines += ["taskgroup {  # %s\n" % at, "task {  # one of the region's threads\n", "work 5\n", "taskgroup {\n",
-                      "}\n", "}\n", "task {  # one of the region's threads\n", "work 4\n", "}\n", "}\n"]
+            lines += ["taskgroup {  # %s\n" % at, "task {  # one of the region's threads\n", "work 5\n",
+                      "taskgroup {\n", "}\n", "}\n", "task {  # one of the region's threads\n", "work 4\n"]
+            lines += ["}\n", "}\n"]
         own = {name: place for name, place in read_program(lines).places.items() if in_text(name) == OWN}
         self.assertEqual({name: (place.cost, place.longest) for name, place in own.items()},
                          {OWN + " at a.c:3": (18, 10), OWN + " at a.c:9": (9, 5)})

@@ -233,7 +233,10 @@ class BySamples(unittest.TestCase):
         self.assertEqual(self.told(Loss("serial", "the beginning", 9), ran=ran).partition(": ")[0],
                          "plasma (called by convert) runs alone")
         self.assertRegex(self.told(Loss("serial", "the beginning", 9), ran=ran), ": 95 % of .* of serial code$")
-        self.assertRegex(self.told(Loss("serial", "the beginning", 9)), "runs alone: the other threads wait$")
+        self.assertRegex(self.told(Loss("serial", "the beginning", 9)), "runs alone: 56 % of 90.0 ms of serial code$")
+        own = facts([place(OWN + " at image.c:6", OF_THREADS)])
+        self.assertRegex(lost_sentence(own, Names(own, SOURCES), Loss("serial", OWN + " at image.c:6", 9)),
+                         "runs alone: the other threads wait$")
 
     def test_sleep_has_the_function_that_sleeps(self):
         slept = {"the beginning": {("main", "load", "read"): 9000}}
