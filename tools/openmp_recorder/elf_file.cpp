@@ -61,11 +61,11 @@ void ElfFile::read_functions(const std::vector<Elf64_Shdr> &sections, const Elf6
   }
 }
 
-std::string_view ElfFile::function_at(uint64_t address) const {
+std::optional<ElfFile::Symbol> ElfFile::function_at(uint64_t address) const {
   auto is_behind = [](uint64_t at, const Function &one) { return at < one.begin; };
   auto behind = std::upper_bound(functions.begin(), functions.end(), address, is_behind);
   if (behind == functions.begin() || (behind - 1)->end <= address) return {};
-  return (behind - 1)->name;
+  return Symbol{(behind - 1)->name, address - (behind - 1)->begin};
 }
 
 void ElfFile::read_symbols(const std::vector<Elf64_Shdr> &sections, const Elf64_Shdr &dynamic) {
@@ -83,18 +83,6 @@ void ElfFile::read_symbols(const std::vector<Elf64_Shdr> &sections, const Elf64_
 std::string_view ElfFile::name_of(const Elf64_Sym &symbol) const {
   std::string_view rest = names.substr(std::min<size_t>(symbol.st_name, names.size()));
   return rest.substr(0, rest.find('\0'));
-}
-
-// The innermost one, as `dladdr` has it.
-std::optional<ElfFile::Symbol> ElfFile::symbol_at(uint64_t address) const {
-  const Elf64_Sym *best = nullptr;
-  for (const Elf64_Sym &one : symbols) {
-    if (one.st_shndx == SHN_UNDEF || ELF64_ST_TYPE(one.st_info) == STT_TLS || address < one.st_value) continue;
-    bool has = one.st_size ? address - one.st_value < one.st_size : address == one.st_value;
-    if (has && (!best || best->st_value < one.st_value)) best = &one;
-  }
-  if (!best) return {};
-  return Symbol{name_of(*best), address - best->st_value};
 }
 
 bool ElfFile::defines(std::string_view name) const {

@@ -16,8 +16,7 @@ class ElfFile {
     std::string_view name;
     uint64_t offset;  // of the address, in it
   };
-  std::optional<Symbol> symbol_at(uint64_t address) const;  // among those that other modules may see
-  std::string_view function_at(uint64_t address) const;  // among all that it has; empty where none has the address
+  std::optional<Symbol> function_at(uint64_t address) const;
   bool defines(std::string_view name) const;
   std::string_view import_at(uint64_t address) const;  // the function of another module whose address is put there
   std::string_view bytes_at(uint64_t address, uint64_t count) const;  // less where the file has less

@@ -31,12 +31,14 @@ std::string called_as(std::string name) {
   return name;
 }
 
-// That of the file where the function has none, as those of a program without symbols.
+bool has_no_symbol(const std::string &name) { return name[0] == '['; }
+
+// That of the file, in brackets, where the function has none, as those of a program without symbols.
 Names names_of(const void *code, const Places &places) {
   Names out;
   if (std::string library = library_of_system(code, places); !library.empty()) {
     std::string name = called_as(places.function(code));
-    return {(name.empty() ? library : name) + of_system + library};
+    return {(name.empty() || has_no_symbol(name) ? library : name) + of_system + library};
   }
   for (const Frame &frame : places.frames(code))
     if (!frame.function.empty()) out.push_back(frame.function);
@@ -47,6 +49,7 @@ Names names_of(const void *code, const Places &places) {
 
 bool is_of_system(const std::string &name) { return name.find(of_system) != std::string::npos; }
 bool begins_the_program(const std::string &name) { return is_of_system(name) || name == "_start"; }
+bool calls_main(const std::string &name) { return !name.rfind("libc_start", 0); }
 
 // The functions of the system that stand in the recorder's library are called as without it.
 bool is_recorder(const void *code, const Places &places) {
@@ -90,6 +93,9 @@ std::string named_calls(const Calls &calls, const Places &places) {
     if (is_runtime && !all.empty()) break;
     if (!is_runtime && !is_recorder(code, places)) add_names(all, names_of(code, places));
   }
+  auto start = std::find_if(all.begin(), all.end(), calls_main);
+  bool is_nameless = start != all.begin() && start != all.end() && has_no_symbol(*(start - 1));
+  if (is_nameless) all.erase(start, all.end()), all.push_back("main");
   while (all.size() > 1 && begins_the_program(all.back())) all.pop_back();
   return joined(all);
 }

@@ -31,12 +31,17 @@ bool is_known(const std::string &answer) {
   return answer[colon + 1] != '0' && answer[colon + 1] != '?';
 }
 
+// For code in no function that has a symbol.
+std::string nameless(const ModuleOfRun &module) { return "[" + base_name(module.path) + "]"; }
+
 std::string symbol(const void *code, const ModuleOfRun &module) {
   char text[64];
-  auto found = module.file ? module.file->symbol_at(reinterpret_cast<uint64_t>(code) - module.base) : std::nullopt;
-  snprintf(text, sizeof text, "+0x%zx", static_cast<size_t>(found ? found->offset : in_file(code, module)));
-  return (found ? short_name(demangled(std::string(found->name))) : base_name(module.path)) + text;
+  uint64_t at = in_file(code, module);
+  auto found = module.file ? module.file->function_at(at) : std::nullopt;
+  snprintf(text, sizeof text, "+0x%zx", static_cast<size_t>(found ? found->offset + 1 : at));
+  return (found ? short_name(demangled(std::string(found->name))) : nameless(module)) + text;
 }
+
 // What a compiler makes of a construct's code: `main.omp_outlined`, `main._omp_fn.0`, `f(int) [clone .omp_outlined]`.
 Frame frame_of(std::string name, std::string at) {
   auto has = [&](const char *part) { return name.find(part) != std::string::npos; };
@@ -128,8 +133,8 @@ const std::vector<Frame> &Places::frames(const void *code) const {
 std::string Places::function(const void *code) const {
   const ModuleOfRun *module = code && of_run ? of_run->of(code) : nullptr;
   if (!module) return {};
-  std::string_view name = module->file ? module->file->function_at(in_file(code, *module)) : std::string_view();
-  return name.empty() ? base_name(module->path) : frame_of(demangled(std::string(name)), "").function;
+  auto found = module->file ? module->file->function_at(in_file(code, *module)) : std::nullopt;
+  return found ? frame_of(demangled(std::string(found->name)), "").function : nameless(*module);
 }
 
 std::vector<Frame> Places::calls(const void *code) const {

@@ -24,6 +24,7 @@ class Region(NamedTuple):
     code: int
     inside: int     # whether it was met inside another one
     place: str
+    asked: int = 0  # threads; 0 where that is not known
 
     @property
     def elapsed(self):
@@ -109,8 +110,9 @@ class Program:
 
 
 def row_of(heads, line):
+    """A table of an older version does not say how many threads were asked for."""
     row = dict(zip(heads, line.split(",", len(heads) - 1)))
-    return Region(*(int(row[name]) for name in COLUMNS[:-1]), row["place"])
+    return Region(*(int(row[name]) for name in COLUMNS[:-1]), row["place"], int(row.get("asked", 0)))
 
 
 def read_regions(path):

@@ -13,12 +13,18 @@ ompt_data_t implicit_task = {0};
 TellCreation tell_creation = on_create;
 
 namespace {
+// The process's beginning; how often its thread had lost its processor by then is known since the library was loaded.
+Look look_at_beginning() {
+  Look load = look_at_load();
+  return {{this_log().program_start, 0}, load.given_up, load.taken};
+}
+
 // What the recorder does while it begins is no code of the program: `met` is the look before.
 void begin_initial(Here &own, const Look &met) {
   on_implicit_task(ompt_scope_begin, nullptr, nullptr, 1, 0, ompt_task_initial);
   own.log = own_log();
   bool is_first = getpid() == gettid();
-  if (own.log && !is_stopped() && is_first) thread_log->look_back(look_at_load(), met, moment_now());
+  if (own.log && !is_stopped() && is_first) thread_log->look_back(look_at_beginning(), met, moment_now());
 }
 
 bool begin_runtime() {

@@ -369,7 +369,7 @@ TEST(a_file_tells_its_symbols) {
   ElfFile libc("/lib/x86_64-linux-gnu/libc.so.6"), none("/no/such/file");
   EXPECT(libc.defines("printf"), true);
   EXPECT(libc.defines("no_such_function"), false);
-  EXPECT(none.symbol_at(16).has_value(), false);
+  EXPECT(none.function_at(16).has_value(), false);
   EXPECT(none.bytes_at(0, 4).empty(), true);
 }
 

@@ -84,13 +84,17 @@ TEST(samples_belong_to_the_segment_that_runs) {
   EXPECT(off_lines(*made.found.whole, made.found.whole->off), "");
 }
 
-TEST(calls_end_where_the_system_called_the_program) {
+static std::string calls_of(const std::vector<const char *> &innermost_first) {
   Places places;
-  const char *names[] = {"f", "f", "main", "_start"};
   Calls calls;
-  for (uint64_t i = 0; i < 4; i++) {
-    calls.push_back(code(100 + i));
-    places.put_frames(calls.back(), {{names[i], "a.c:1"}});
+  for (const char *name : innermost_first) {
+    calls.push_back(code(100 + calls.size()));
+    places.put_frames(calls.back(), {{name, "a.c:1"}});
   }
-  EXPECT(named_calls(calls, places), "main;f");
+  return named_calls(calls, places);
+}
+
+TEST(calls_end_where_the_system_called_the_program) {
+  EXPECT(calls_of({"f", "f", "main", "_start"}), "main;f");
+  EXPECT(calls_of({"inflate", "[tool]", "libc_start_main@libc.so.6", "[tool]"}), "main;[tool];inflate");
 }

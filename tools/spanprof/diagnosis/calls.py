@@ -1,13 +1,19 @@
-"""The functions that code ran, by samples of the calls on its threads' stacks."""
+"""The functions that code ran, by samples of the calls on its threads' stacks, and their names as people know them."""
+import re
 from collections import Counter, defaultdict
+from functools import lru_cache
 from typing import NamedTuple
 
 LEAST = 5           # samples, below which they say nothing
 A_SAMPLE = 4000     # microseconds
 SHARES = (0.8, 0.5, 0.3)    # of the samples that a function has to have, tried one after the other
 OF_SYSTEM = "@"     # behind a function of the system's libraries
-NO_NAME = ".so"     # in the name of a library, which stands for a function that has no symbol
+NO_NAME = "["       # before the name of a file, which stands for a function that has no symbol
 OUTERMOST = ("main", "_start")
+OF_COMPILERS = re.compile(r"(\.omp_outlined|\._omp_fn|\.part\.|\.constprop\.|\.isra\.|\.cold|\.lto_priv| \[clone ).*$")
+ARGUMENTS = re.compile(r"(?<!operator)(?<!^)\(.*$")
+OFFSET = re.compile(r"\+0x[0-9a-f]+$")
+FORTRAN = re.compile(r"__(\w+?)_MOD_(\w+)$")
 
 
 class Ran(NamedTuple):
@@ -23,6 +29,18 @@ class Sampled(NamedTuple):
     slept: dict
 
 
+@lru_cache(maxsize=4096)
+def plain(function):
+    """As a person knows it: with its class or namespace, and without its type, arguments, those of templates, what a
+    compiler adds, and an offset."""
+    function = OFFSET.sub("", function)
+    function = FORTRAN.sub(r"\1::\2", function).replace("(anonymous namespace)::", "").replace("<..>", "")
+    function = ARGUMENTS.sub("", OF_COMPILERS.sub("", function))
+    before, operator, rest = function.partition("operator ")
+    name = before.rpartition(" ")[2] + operator + rest.strip()
+    return "::".join(name.split("::")[-2:]) or function
+
+
 def calls_of(path, names):
     """A line of the file has a segment, what it did, how long and in which calls: `12 ran 8000 main;sort;compare`."""
     found = Sampled(defaultdict(Counter), defaultdict(Counter))
@@ -31,26 +49,32 @@ def calls_of(path, names):
             for line in lines:
                 number, did, time, calls = line.rstrip("\n").split(" ", 3)
                 if int(number) < len(names):
-                    getattr(found, did)[names[int(number)]][tuple(calls.split(";"))] += int(time)
+                    getattr(found, did)[names[int(number)]][known(calls)] += int(time)
     return Sampled(dict(found.ran), dict(found.slept))
+
+
+@lru_cache(maxsize=4096)
+def known(calls):
+    """Names of functions of the system stay as they are, with their library's."""
+    return tuple(one if OF_SYSTEM in one else plain(one) for one in calls.split(";"))
 
 
 def asleep_in(sampled):
     """The function that code slept in most of the time, and what called it, each empty where it is not known."""
     found = Counter()
     for calls, time in sampled.items():
-        found[calls[-1].partition(OF_SYSTEM)[0], calls[-2] if len(calls) > 1 else ""] += time
+        found[calls[-1].partition(OF_SYSTEM)[0], caller_of(calls, len(calls) - 1)] += time
     return max(found, key=lambda pair: (found[pair], pair), default=("", ""))
 
 
 def is_of_program(function):
-    """Whether a person looks for time there: in no function of the system, nor in the outermost ones."""
-    return function not in OUTERMOST and OF_SYSTEM not in function and NO_NAME not in function
+    """Whether a person looks for time there: in no function of the system or without a name, nor in the outermost."""
+    return function not in OUTERMOST and OF_SYSTEM not in function and not function.startswith(NO_NAME)
 
 
 def caller_of(calls, at):
     """The next function outwards that has a name."""
-    return next((name for name in calls[:at][::-1] if NO_NAME not in name or OF_SYSTEM in name), "")
+    return next((name for name in calls[:at][::-1] if not name.startswith(NO_NAME)), "")
 
 
 def innermost(sampled):

@@ -4,8 +4,9 @@ from dataclasses import dataclass
 from typing import Tuple
 
 from spanprof import client
+from spanprof.diagnosis.calls import innermost
 from spanprof.diagnosis.losses import kind_of_starved, most_shared
-from spanprof.diagnosis.places import OF_THREADS, SERIAL, SHARE
+from spanprof.diagnosis.places import OF_THREADS, SERIAL, SHARE, in_text
 from spanprof.errors import Fault
 from spanprof.text import BARRIER, text_lines
 from spanprof.whatif.creating import costs_for
@@ -15,6 +16,7 @@ from spanprof.whatif.survey import survey
 from spanprof.whatif.trials import best_first, seconds_for
 
 MOST = 4            # places of a kind that are tried
+MOST_TOGETHER = 8   # of one function
 LARGE = 40000       # statements, from which on changes are tried one by one, while there is time
 LEAST_HOLDERS = 3   # tasks that hold an item to write
 
@@ -45,13 +47,24 @@ def single(option, word):
     return Change((Request(option, word),))
 
 
+def by_function(facts, names):
+    """Serial code in which the same function ran is changed together."""
+    found = {}
+    for name in names:
+        ran = innermost(facts.calls.ran.get(name, {})) if facts.places[name].kind == SERIAL else None
+        found.setdefault(ran.function if ran else name, []).append(name)
+    return found.values()
+
+
 def splits(facts):
     """Of the code while which threads had nothing to run, and of the code with the most cost."""
-    idle = [name for name in facts.starved_by if name in facts.places]
-    heavy = sorted(facts.places, key=lambda name: -facts.places[name].cost)
-    for name in list(dict.fromkeys(idle[:MOST] + heavy[:2])):
-        if kind_of_starved(facts, name) != "loop_schedule":
-            yield single("split", "%s=%d" % (name, max(2, facts.usable)))
+    idle = list(by_function(facts, [name for name in facts.starved_by if name in facts.places]))[:MOST]
+    heavy = sorted(facts.places, key=lambda name: -facts.places[name].cost)[:2]
+    for names in idle + [[name] for name in heavy if not any(name in names for names in idle)]:
+        tried = [name for name in names[:MOST_TOGETHER] if kind_of_starved(facts, name) != "loop_schedule"]
+        if tried:
+            yield Change(tuple(Request("split", "%s=%d" % (name, max(2, facts.usable)))
+                               for name in dict.fromkeys(map(in_text, tried))))
 
 
 def readers(facts):

@@ -54,6 +54,11 @@ def machine_of(facts, found):
     return [Loss("machine", "", machine)] if is_cause else []
 
 
+def with_alike(loss, found):
+    """Serial code is one cause, wherever it runs: at its place it is named, and all of it counts."""
+    return loss._replace(time=sum(one.time for one in found if one.kind == "serial")) if loss.kind == "serial" else loss
+
+
 def causes_of(facts, found, steps, code):
     """A busy machine; or else the first is that of the step that is worth most, and a second one where it may bring a
     tenth of the run's time."""
@@ -62,6 +67,7 @@ def causes_of(facts, found, steps, code):
         return machine
     for step in steps:
         loss = matching(step, found)
+        loss = loss and with_alike(loss, found)
         if not loss or step.kind in seen or loss.time < least_of(facts, found, BY_KIND[step.kind].least):
             continue
         if not out or step.worth >= SECOND * facts.now:
@@ -70,7 +76,8 @@ def causes_of(facts, found, steps, code):
     if out:
         return out[:2]
     ran = facts.whole_time - sum(loss.time for loss in found if loss.kind in NO_CAUSE)
-    largest = [loss for loss in found if loss.kind in BY_KIND and facts.share(loss.time) >= BY_KIND[loss.kind].least]
+    named = [with_alike(loss, found) for loss in found if loss.kind in BY_KIND]
+    largest = [loss for loss in named if facts.share(loss.time) >= BY_KIND[loss.kind].least]
     return [Loss("efficient", "", ran - code)] if code >= EFFICIENT * ran or not largest else largest[:1]
 
 

@@ -6,9 +6,9 @@ from typing import Dict, List, Optional
 
 from spanprof.account import account_of
 from spanprof.account_program import NoAccount
-from spanprof.diagnosis.calls import Sampled, calls_of
+from spanprof.diagnosis.calls import Sampled, calls_of, plain
 from spanprof.diagnosis.lock_times import locks_of
-from spanprof.diagnosis.places import read_program
+from spanprof.diagnosis.places import in_text, read_program
 from spanprof.head import head_of
 from spanprof.recording import document
 from spanprof.regions import program_of
@@ -26,6 +26,7 @@ class Region:
     place: str
     threads: int
     elapsed: int
+    asked: Optional[int] = None
 
 
 @dataclass
@@ -93,14 +94,18 @@ class Facts:
     def on_one(self):
         return int(statistics.median(self.true_one)) if self.true_one else None
 
+    def key(self, name):
+        """Of a place of the text: of those that it names alike that for which threads waited most."""
+        same = [key for key in self.places if in_text(key) == name]
+        return max(same, key=lambda key: self.starved_by.get(key, 0), default=name)
+
     def share(self, time):
         return time / self.whole_time if self.whole_time else 0.0
 
 
 def function_in(words):
-    """The name in `in sort, inlined into main at sort.c:9`, without arguments and what it is inlined into."""
-    name = re.sub(r"^in ", "", words).partition(", inlined into")[0]
-    return re.sub(r"(\.omp_outlined.*|\(.*|\.part\.\d+|\.constprop\.\d+)$", "", name)
+    """The name in `in sort, inlined into main at sort.c:9`, as a person knows it."""
+    return plain(re.sub(r"^in ", "", words).partition(", inlined into")[0])
 
 
 def set_breakdown(facts, found):
@@ -141,11 +146,10 @@ def set_off(facts, off, program, head):
 def set_costs(places, program, unit, lost):
     """In nanoseconds, without what segments lost."""
     for place in places.values():
-        place.cost = place.largest = 0
-    for segment, (name, cost) in enumerate(zip(program.names, program.costs)):
-        place, left = places[name], max(0, cost * unit - lost.get(segment, 0))
-        place.cost += left
-        place.largest = max(place.largest, left)
+        place.cost = place.largest = place.longest = 0
+        place.phase = (0, 0)
+    for segment, (name, cost, phase) in enumerate(zip(program.names, program.costs, program.phases)):
+        places[name].add(max(0, cost * unit - lost.get(segment, 0)), phase)
 
 
 def runtime_name(runtime):
@@ -168,7 +172,8 @@ def regions_of(path):
     """By place; those inside others are left out, since their threads are not of the team."""
     program = program_of(path)
     places = [place for place in program.places if not place.is_inside] if program else []
-    return [Region(place.name, max(region.threads for region in place.regions), place.outermost) for place in places]
+    return [Region(place.name, max(region.threads for region in place.regions), place.outermost,
+                   max(region.asked for region in place.regions) or None) for place in places]
 
 
 def of_text(head, program, numbers):
@@ -190,7 +195,7 @@ def mark_places(facts, head, unit):
     """Costs in nanoseconds, and which tasks exclude each other: the text has inoutset for these."""
     is_excluding = any(remark.name == EXCLUDING for remark in head.remarks)
     for place in facts.places.values():
-        place.cost, place.largest = place.cost * unit, place.largest * unit
+        place.cost, place.largest, place.longest = place.cost * unit, place.largest * unit, place.longest * unit
         place.exclusive = place.inoutset if is_excluding else 0
 
 

@@ -4,14 +4,16 @@ Threads x elapsed time = code as on one thread + the losses.
 """
 from typing import NamedTuple
 
-from spanprof.diagnosis.places import OF_THREADS, SERIAL, SHARE
+from spanprof.diagnosis.places import OF_THREADS, OWN, SERIAL, SHARE
 from spanprof.text import BEGINNING
 
 SMALL = 5000            # nanoseconds of code in a task, below which creating and starting it costs much beside it
+A_TASK = 10000          # nanoseconds that each thread loses at most by making, waking for and starting one task
 A_CREATION = 1000       # nanoseconds: a thread with less code for each task mostly waits for the runtime to create it
 MANY = 8                # tasks for each thread, from which on to make them may cost much
 LITTLE = 0.025          # of the threads' time, below which nothing is a cause
-SEVERAL = 1.5           # of the largest piece: from which on several threads run a place at once
+MUCH = 0.1              # of the run's time, from which on handling tasks may be what is lost
+SEVERAL = 1.5           # of the largest pieces: from which on several threads run a place at once
 UNEVEN = 1.5            # of the average piece: from which on the largest one is uneven
 A_FAULT = 4000          # nanoseconds, with the page that it clears
 MUCH_SYSTEM = 0.25      # of the processor time, from which on time in the kernel is a loss
@@ -61,8 +63,9 @@ def at_heaviest(facts):
 
 
 def mostly_small(facts):
-    """Whether the code of an average task is so short that creating it costs much."""
-    return facts.tasks > MANY * facts.threads and 0 < average_task(facts) < SMALL
+    """Whether the code of an average task is so short that creating it costs much, and tasks so many that it counts."""
+    is_short = facts.tasks > MANY * facts.threads and 0 < average_task(facts) < SMALL
+    return is_short and facts.tasks * A_TASK > MUCH * facts.elapsed
 
 
 def average_task(facts):
@@ -123,7 +126,7 @@ def kind_of_starved(facts, name):
         return fine_kind(facts)
     if place.tasks > MANY * facts.threads and keeps_waiting(facts):
         return "creation"
-    if place.kind == OF_THREADS and place.name.startswith("code of") and place.cost > SEVERAL * place.largest:
+    if place.kind == OF_THREADS and place.name.startswith(OWN) and place.cost > SEVERAL * place.longest:
         return "loop_schedule"
     return "serial" if place.kind in (SERIAL, OF_THREADS) else kind_of_task(facts, place)
 
@@ -282,7 +285,9 @@ def merged(found):
 def losses(facts):
     found = idle_losses(facts) + off_losses(facts) + in_code_losses(facts) + \
         [Loss("recorder", "", facts.recorder), Loss("startup", "", facts.outside)]
-    one_place = {"too_many_threads": crowded_region(facts), **dict.fromkeys(FINE, heaviest_name(facts))}
+    missing = missing_threads(facts)
+    one_place = {"too_many_threads": crowded_region(facts), **dict.fromkeys(FINE, heaviest_name(facts)),
+                 "too_few_threads": max(missing, key=missing.get, default="")}
     return merged(loss._replace(place=one_place.get(loss.kind, loss.place)) for loss in found)
 
 

@@ -1,9 +1,9 @@
 """How places, waits and depend items are named to people: functions, lines, and items as the source spells them."""
 import re
 
-from spanprof.diagnosis.calls import innermost
+from spanprof.diagnosis.calls import NO_NAME, OFFSET, innermost, plain
 from spanprof.diagnosis.directives import construct_of, directive_line, is_of_some_turns
-from spanprof.diagnosis.places import OF_THREADS, SERIAL, lines_between
+from spanprof.diagnosis.places import OF_THREADS, OWN, SERIAL, lines_between
 from spanprof.source_lines import LONGEST, STRING, after_directive, code_lines, line_of, statement_end
 from spanprof.text import BEGINNING
 
@@ -12,8 +12,18 @@ COMMENT = re.compile(r"\s*//.*")
 CALL = re.compile(r"^(?:[\w.\[\]>-]+\s*[-+*/]?=\s*)?([A-Za-z_]\w*)\s*\(")
 DEPEND = re.compile(r"depend\s*\(\s*(\w+)\s*:\s*((?:[^()]|\([^()]*\))*)\)")
 LINE = re.compile(r"[^\s:/]+:\d+$")
+LONGEST_CALLED = 50     # columns of a function and its caller
 NO_CALLS = ("if", "for", "while", "switch", "return", "sizeof")
 WRITES = {"out": "inout"}       # as the recorder writes it
+
+
+def code_at(name):
+    """The function of a place without a line, such as `taskwait at sort+0x12`; file and offset where it has no name.
+    Empty for other places."""
+    code = name.rpartition(" at ")[2]
+    if not OFFSET.search(code):
+        return ""
+    return code.replace("[", "").replace("]", "") if code.startswith(NO_NAME) else plain(code)
 
 
 def split_items(words):
@@ -75,9 +85,12 @@ class Names:
         return next((lock for lock in self.facts.locks if name and name in (lock.place, lock.kind)), None)
 
     def spelt(self, name):
-        """With the line of its directive."""
-        line = self.begin(name, name)
-        return LINE.sub("%s:%d" % line, name) if line else name
+        """With the line of its directive, or the name of its function."""
+        line, function = self.begin(name, name), code_at(name)
+        if line:
+            return LINE.sub("%s:%d" % line, name)
+        what, at, _ = name.rpartition(" at ")
+        return what + at + function if function else name
 
     def is_of_some_turns(self, wait):
         line = self.begin(wait, wait)
@@ -108,7 +121,12 @@ class Names:
         """That which the place's code is in; that of the construct that ends it where it begins with none."""
         functions = self.facts.functions
         at = line_of(place.at) or line_of(place.last_end)
-        return functions.get("%s:%d" % at, "") if at else "main" * (place.kind == SERIAL)
+        if at:
+            return functions.get("%s:%d" % at, "")
+        begin, end = code_at(place.at), code_at(place.last_end)
+        if place.kind != SERIAL:
+            return begin or end
+        return "code %s %s" % ("after" if begin else "before", begin or end) if begin or end else "main"
 
     def line(self, name):
         """The same of a wait, a lock or a region."""
@@ -137,24 +155,28 @@ class Names:
         place = self.facts.places.get(name)
         if not place:
             return self.other(name)
-        if place.tasks and line_of(place.at) and not name.startswith("code of"):
+        if place.tasks and line_of(place.at) and not name.startswith(OWN):
             function, line = self.called(place), self.begin(name, place.at)
             return "%s:%d%s" % (*line, " (%s)" % function if function not in ("", "main") else "")
         ran = self.ran(place)
         if ran:
-            return "%s (called by %s)" % (ran.function, ran.caller) if ran.caller else ran.function
+            called = "%s (called by %s)" % (ran.function, ran.caller) if ran.caller else ran.function
+            return called if len(called) <= LONGEST_CALLED else ran.function
         file, first, last = self.stretch(place)
         function = self.function(place) or "code"
         if not file:
-            return function if function != "code" else name
+            return function if function != "code" else self.spelt(name)
         if first and last > first:
             return "%s (%s:%d-%d)" % (function, file, first, last)
         return "%s (%s%s:%d)" % (function, "" if first else "before ", file, first or last)
 
     def at(self, name):
-        """The file and line of a place's construct; its name where it has none."""
-        line = self.begin(name, self.facts.places[name].at if name in self.facts.places else name)
-        return "%s:%d" % line if line else self.place(name).partition(" (")[0]
+        """The file and line of a place's construct; or else the function that has it, or the place's name."""
+        place = self.facts.places.get(name)
+        line = self.begin(name, place.at if place else name)
+        if line:
+            return "%s:%d" % line
+        return place and place.kind != SERIAL and code_at(place.at) or self.place(name).partition(" (")[0]
 
     def ran(self, place):
         """The function in which serial code, or that of a thread, spent most of its time; None if it is not known."""

@@ -5,9 +5,10 @@ from typing import List, Tuple
 
 from spanprof.segment_table import Cutter
 from spanprof.source_lines import ends_by_segment, line_of
-from spanprof.text import BARRIER, OF_A_THREAD, is_share, statements, where
+from spanprof.text import BARRIER, OF_A_THREAD, is_share, named, statements, where
 
 SERIAL, OF_THREADS, TASK, SHARE = "serial", "of threads", "task", "share"
+OWN = named("task", OF_A_THREAD)    # the name of a thread's own code, in a text the same in all regions
 
 
 @dataclass
@@ -20,12 +21,20 @@ class Place:
     cost: int = 0
     pieces: int = 0
     largest: int = 0        # the cost of one piece
+    longest: int = 0        # the cost of the largest pieces, one of each phase of a region
+    phase: Tuple[int, int] = (0, 0)     # the last one, and its largest piece
     tasks: int = 0          # that begin with it
     undeferred: int = 0     # of these
     inoutset: int = 0       # of these, with such an item
     exclusive: int = 0      # of these, that exclude each other
     items: Counter = field(default_factory=Counter)     # depend items of these tasks, by type and name
     positions: dict = field(default_factory=dict)       # of an item: its place among those of its type in a task
+
+    def add(self, cost, phase):
+        """One more piece: those of one phase of a region run at once."""
+        before = self.phase[1] if self.phase[0] == phase else 0
+        self.cost, self.largest = self.cost + cost, max(self.largest, cost)
+        self.longest, self.phase = self.longest + max(0, cost - before), (phase, max(before, cost))
 
     @property
     def last_end(self):
@@ -49,7 +58,8 @@ class Walker(Cutter):
         super().__init__()
         self.groups = []            # the places of the open groups
         self.closed = ""           # that of the last group that was closed
-        self.kinds, self.at = [SERIAL], [""]
+        self.kinds, self.at, self.phases = [SERIAL], [""], [0]
+        self.open, self.begun = [0], 0      # the numbers of the open groups, and of the last that began
         self.of_task = {}           # the statement of each task
         self.last = None
 
@@ -69,6 +79,8 @@ class Walker(Cutter):
         self.last = one
         if one.kind == "taskgroup":
             self.groups.append(where(one.name))
+            self.begun += 1
+            self.open.append(self.begun)
         super().take(one)
 
     def begin(self, kind, comment):
@@ -79,6 +91,7 @@ class Walker(Cutter):
     def end(self):
         if self.blocks[-1][0] == "taskgroup":
             self.closed = self.groups.pop()
+            self.open.pop()
         super().end()
 
     def go_on(self, after, comment):
@@ -86,6 +99,7 @@ class Walker(Cutter):
         at = comment if after else self.running[-1][1]
         self.kinds.append(self.kind())
         self.at.append(self.region() if at.startswith((OF_A_THREAD, BARRIER)) else at)
+        self.phases.append(self.open[-1])
 
 
 @dataclass
@@ -93,6 +107,7 @@ class Program:
     """The segments of a text, and its places by their names."""
     names: List[str]                # of each segment's place
     costs: List[int]
+    phases: List[int]
     tasks: int
     places: dict
 
@@ -112,13 +127,23 @@ def add_task(place, task):
 
 def add_segment(place, walker, number, end):
     segment = walker.code[number]
-    place.cost += segment.cost
     place.pieces += 1
     if segment.cost >= place.largest:
-        place.largest, place.at = segment.cost, walker.at[number]
+        place.at = walker.at[number]
+    place.add(segment.cost, walker.phases[number])
     place.ends[end] += segment.cost
     if not segment.after and segment.task:
         add_task(place, walker.of_task[segment.task])
+
+
+def in_text(name):
+    """As the text has it: there the code of all regions' threads has one name."""
+    return OWN if name.startswith(OWN) else name
+
+
+def names_of(code, at):
+    """Of the segments' places; those of threads' own code have their regions too."""
+    return ["%s at %s" % (OWN, region) if name == OWN and region else name for name, region in zip(code.places, at)]
 
 
 def read_program(lines):
@@ -126,11 +151,11 @@ def read_program(lines):
     walker = Walker()
     for one in statements(lines):
         walker.take(one)
-    names, ends, places = list(walker.code.places), ends_by_segment(walker.code, walker.at), {}
+    names, ends, places = names_of(walker.code, walker.at), ends_by_segment(walker.code, walker.at), {}
     for number, name in enumerate(names):
         place = places.setdefault(name, Place(name, walker.kinds[number]))
         add_segment(place, walker, number, ends[number])
-    return Program(names, list(walker.code.cost), walker.tasks, places)
+    return Program(names, list(walker.code.cost), walker.phases, walker.tasks, places)
 
 
 def lines_between(place) -> Tuple[str, int, int]:

@@ -4,7 +4,7 @@ from typing import Optional
 
 from spanprof.diagnosis.causes import BY_KIND, WORTH_A_CHANGE
 from spanprof.diagnosis.changes import Change
-from spanprof.diagnosis.losses import (IN_CODE, kind_of_task, least_of, losses, most_shared,
+from spanprof.diagnosis.losses import (IN_CODE, begun, kind_of_task, least_of, losses, most_shared,
                                        share_of_start)
 from spanprof.diagnosis.places import SERIAL, TASK
 from spanprof.text import BEGINNING
@@ -50,7 +50,7 @@ def holder(facts, name):
 
 def cause_of(facts, change):
     """The kind of the loss that a change wins back, and its place."""
-    place = change.place
+    place = facts.key(change.place)
     if change.kind == "in-for-inout":
         return "dependence", holder(facts, place).name
     if change.kind == "split":
@@ -98,13 +98,20 @@ def least_time(facts, now, code):
     return int(now * code / max(facts.usable * facts.elapsed, 1))
 
 
+def started(facts, change):
+    """Of the code that is divided, the share in which the program and its runtime start."""
+    divided = [one.word.rpartition("=")[0] for one in change.requests]
+    whole = sum(facts.places[facts.key(name)].cost for name in divided)
+    return share_of_start(facts) * begun(facts) / max(whole, 1) if BEGINNING in divided else 0.0
+
+
 def step_of(facts, seen, now, before, tried):
     """Of a change that was tried; `before` is where the greedy run ended without it."""
     after = min(now, max(predicted(now, before, tried.end, machine_share(facts)),
                          least_time(facts, facts.now, facts.work)))
     kind, place = cause_of(facts, tried.change)
-    if place == BEGINNING and tried.change.kind == "split":
-        after += int((now - after) * share_of_start(facts))
+    if tried.change.kind == "split":
+        after += int((now - after) * started(facts, tried.change))
     return Step(kind, place, now, after, int(after * (1 - SPREAD)), min(now, int(after * (1 + SPREAD))),
                 likely(facts, seen, tried.change), tried.change)
 

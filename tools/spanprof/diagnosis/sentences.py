@@ -1,8 +1,8 @@
 """What is told of a run on a terminal: at most eight lines of at most 100 columns."""
 from spanprof.account_words import lasting
-from spanprof.diagnosis.calls import asleep_in, together
+from spanprof.diagnosis.calls import OFFSET, asleep_in, together
 from spanprof.diagnosis.causes import BY_KIND, NAMES
-from spanprof.diagnosis.losses import average_task, has_many_faults, most_shared
+from spanprof.diagnosis.losses import average_task, has_many_faults, missing_threads, most_shared
 from spanprof.diagnosis.places import SERIAL
 from spanprof.diagnosis.plan import holder
 from spanprof.head import grouped
@@ -54,15 +54,15 @@ def words_of_run(facts):
 
 
 def words_of_alone(facts, names, place):
-    """How much of all serial code the function has that this code ran, by samples."""
-    ran = names.ran(place)
-    if not ran:
-        return "the other threads wait"
+    """How much of all serial code this code is, or, by samples, the function that it ran."""
     serial = [one for one in facts.places.values() if one.kind == SERIAL]
-    sampled = together(facts.calls.ran, [one.name for one in serial] or [place.name])
-    having = sum(time for calls, time in sampled.items() if ran.function in calls)
-    share = 100 * having / max(sum(sampled.values()), 1)
-    return "%.0f %% of %s of serial code" % (share, lasting(sum(one.cost for one in serial)))
+    part, whole, ran = place.cost, sum(one.cost for one in serial), names.ran(place)
+    if place.kind != SERIAL or part == whole and not ran:
+        return "the other threads wait"
+    if ran:
+        sampled = together(facts.calls.ran, [one.name for one in serial])
+        part = whole * sum(time for calls, time in sampled.items() if ran.function in calls) / sum(sampled.values())
+    return "%.0f %% of %s of serial code" % (100 * part / max(whole, 1), lasting(whole))
 
 
 def words_of_sleep(facts, name):
@@ -73,17 +73,33 @@ def words_of_sleep(facts, name):
     return "in %s%s" % (function, ", called by " + caller if caller else "")
 
 
+def who_asked(facts, region):
+    """For fewer threads than the run could have had, as far as it is known."""
+    if not region.asked or region.asked >= facts.target:
+        return "OMP_DYNAMIC, OMP_THREAD_LIMIT" if region.asked else "num_threads, OMP_NUM_THREADS"
+    return "the program itself asks for %d" % region.asked
+
+
+def words_of_region(facts, names, name):
+    """Of one with too few threads."""
+    others = len(set(missing_threads(facts)) - {name})
+    out = {"got": "", "who_asked": "", "others": " and in %s" % several(others, "other") if others else "",
+           "in_region": "in the region at " + names.place(name) if name else "in some region"}
+    for region in facts.regions:
+        if region.place == name:
+            out.update(got=several(region.threads, "thread"), who_asked=who_asked(facts, region))
+    return out
+
+
 def words(facts, names, name):
     """What a sentence may have, of a place, a wait, a lock or a region."""
     place = facts.places.get(name)
     out = dict(words_of_run(facts), where=names.place(name), at=names.at(name), item="",
                in_what=words_of_sleep(facts, name), tasks="", many="", largest="", average="", dearer="", times="",
-               got="", alone="the other threads wait")
+               alone="the other threads wait", **words_of_region(facts, names, name))
     if place:
         out.update(words_of_place(facts, names, place), alone=words_of_alone(facts, names, place))
     out.update({"times": grouped(lock.times) for lock in facts.locks if name in (lock.place, lock.kind)})
-    out["in_region"] = "in the region at " + name if name else "in some region"
-    out.update({"got": several(region.threads, "thread") for region in facts.regions if region.place == name})
     return out
 
 
@@ -108,8 +124,8 @@ def change_sentence(facts, names, step):
         return BY_KIND[step.kind].change.format(**words(facts, names, step.place))
     kind, place = step.change.kind, step.change.place
     if kind == "split":
-        kind = step.kind if facts.places[place].tasks else "serial"
-        return SPLIT[kind].format(**words(facts, names, place))
+        kind = step.kind if facts.places[step.place].tasks else "serial"
+        return SPLIT[kind].format(**words(facts, names, step.place))
     found = words(facts, names, step.place)
     if kind == "in-for-inout":
         item = names.item(holder(facts, place), ("inout", place))
@@ -174,8 +190,10 @@ def sum_lines(found, names):
     return ["%.1f %% %s (measured)" % (100 * share, name) for name, share in shown + [("the rest", rest)]]
 
 
-def unsure(facts):
-    """What one run cannot tell."""
+def unsure(facts, lost):
+    """What one run cannot tell, or a program without the names of its functions."""
+    if any(OFFSET.search(word) for line in lost for word in line.replace(":", " ").split()):
+        return "the names of its functions: build it with -g, or install its debug symbols"
     if facts.target == 1:
         return "what more threads would bring: record on more"
     if facts.cost_on_one is None and facts.true_one is None and facts.threads > 1:
@@ -194,12 +212,12 @@ def sure_words(found):
     return list(filter(None, parts))
 
 
-def sure_lines(found, more):
+def sure_lines(found, lost, more):
     """How much of it is known, and where the rest is."""
-    facts = found.facts
+    rest = unsure(found.facts, lost)
     told = "%-*s%s" % (LABEL, "sure", ", ".join(sure_words(found)))
     return [shortened(line, WIDTH) for line in filter(None, [
-        told, "%-*s%s" % (LABEL, "", "not known: " + unsure(facts)) if unsure(facts) else "",
+        told, "%-*s%s" % (LABEL, "", "not known: " + rest) if rest else "",
         "%-*s%s" % (LABEL, "more", more) if more else ""])]
 
 
@@ -214,5 +232,5 @@ def short_lines(found, names, more="", news=()):
     plan = [change_line(label, found.facts, names, step)
             for label, step in zip(("do", "then", "then"), found.plan)]
     lost = list(lost_lines(found, names))
-    last = note_lines(list(news)) + sure_lines(found, more)
+    last = note_lines(list(news)) + sure_lines(found, lost, more)
     return [shortened(first_line(found), WIDTH)] + lost + plan[:MOST_LINES - 1 - len(lost) - len(last)] + last

@@ -1,6 +1,7 @@
 """Prints the diagnosis of a recording, and all that is known of the run where that is asked for; of several processes
 of MPI of the one with the most work, and of the others a line each."""
 import os
+import shlex
 from typing import NamedTuple
 
 from spanprof import client
@@ -76,7 +77,8 @@ def print_diagnosis(session, recording, news):
     """And how it differs from an earlier recording; answers it, or none and why."""
     diagnosis, why = diagnosed(recording)
     if diagnosis:
-        show(diagnosis.lines(MORE % recording.name, news))
+        paths = os.path.relpath(recording.folder), os.path.abspath(recording.folder)
+        show(diagnosis.lines(MORE % shlex.quote(min(paths, key=len)), news))
     if diagnosis and session.options.against:
         session.comparison = compared(told_of(open_recording(session.options.against)), diagnosis)
         show(comparison_lines(session.comparison))

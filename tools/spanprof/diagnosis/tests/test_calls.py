@@ -4,7 +4,7 @@ import tempfile
 import unittest
 from collections import Counter
 
-from spanprof.diagnosis.calls import Ran, Sampled, asleep_in, calls_of, innermost, together
+from spanprof.diagnosis.calls import Ran, Sampled, asleep_in, calls_of, innermost, plain, together
 
 MAIN = ("main", "convert", "plasma")
 
@@ -27,8 +27,18 @@ class Innermost(unittest.TestCase):
         self.assertIsNone(innermost({("main", "memset@libc.so.6"): 60000}))
 
     def test_functions_without_a_symbol_are_passed_over(self):
-        self.assertEqual(innermost({("gm", "ReadImage", "libGM.so.3", "PlasmaImage", "libGM.so.3"): 60000}),
+        self.assertEqual(innermost({("gm", "ReadImage", "[libGM.so.3]", "PlasmaImage", "[libGM.so.3]"): 60000}),
                          Ran("PlasmaImage", "ReadImage", 1.0))
+        self.assertIsNone(innermost({("main", "[libGM.so.3]"): 60000}))
+
+    def test_names_as_people_know_them(self):
+        for symbol, name in (
+                ("void A::f<..>(int, B<..>&)", "A::f"), ("(anonymous namespace)::f(int)", "f"), ("A::~A()", "A::~A"),
+                ("bool operator==<..>(A const&, B)", "operator=="), ("T::operator()(int) const", "T::operator()"),
+                ("f(int)::{lambda(int)#1}::operator()(int) const", "f"), ("T::operator bool()", "T::operator bool"),
+                ("main._omp_fn.0+0x1d", "main"), ("sum.constprop.0", "sum"), ("__scf_MOD_run", "scf::run"),
+                ("f(int) [clone .omp_outlined]", "f"), ("sort", "sort")):
+            self.assertEqual(plain(symbol), name)
 
     def test_too_few_samples_or_no_function(self):
         self.assertIsNone(innermost({MAIN: 12000}))
@@ -58,7 +68,7 @@ class Files(unittest.TestCase):
             found = calls_of(path, ["serial", "task", "serial"])
         self.assertEqual(found.slept, {"serial": Counter({("main", "load", "read"): 900})})
         self.assertEqual(found.ran,
-                         {"serial": Counter({("main", "operator new (unsigned long)"): 8000, ("main", "b"): 8000})})
+                         {"serial": Counter({("main", "operator new"): 8000, ("main", "b"): 8000})})
         self.assertEqual(together(found.ran, ["serial", "task"]), found.ran["serial"])
 
     def test_no_file(self):

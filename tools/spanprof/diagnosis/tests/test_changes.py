@@ -3,7 +3,9 @@ from collections import Counter
 from types import SimpleNamespace
 
 from spanprof.diagnosis import changes as module
+from spanprof.diagnosis.calls import Sampled
 from spanprof.diagnosis.changes import Bench, candidates, single
+from spanprof.diagnosis.places import SERIAL
 from spanprof.diagnosis.tests.worked import TEXT, facts, place, program
 from spanprof.errors import Fault
 from spanprof.head import read_head
@@ -30,6 +32,14 @@ class Candidates(unittest.TestCase):
         one = place(TASKS)
         one.items.update({("inout", "a0"): 8, ("in", "a1"): 8, ("inout", "a2"): 1})
         self.assertEqual(list(module.readers(facts([one]))), [single("in-for-inout", "a0")])
+
+    def test_serial_code_of_one_function_is_divided_together(self):
+        places = [place(name, SERIAL, tasks=0) for name in ("after a", "after b", "after c")]
+        ran = {name: {("main", function, "sin@libm.so.6"): 90000} for name, function in
+               (("after a", "quantize"), ("after b", "write"), ("after c", "quantize"))}
+        run = facts(places, starved_by={"after a": 3, "after b": 2, "after c": 1}, calls=Sampled(ran, {}))
+        self.assertEqual([[one.word for one in change.requests] for change in module.splits(run)],
+                         [["after a=4", "after c=4"], ["after b=4"]])
 
     def test_all_waits_of_a_function_that_items_order_together(self):
         seen = SimpleNamespace(waits=Counter({"taskwait at a.c:3": 2, "taskwait at a.c:5": 2, "taskwait at a.c:9": 1,

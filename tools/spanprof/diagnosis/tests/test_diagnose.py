@@ -43,6 +43,13 @@ def idle(name, **more):
 
 
 class Diagnoses(unittest.TestCase):
+    def test_all_serial_code_is_one_cause(self):
+        after = ["after the barrier of the region at a.c:%d" % i for i in range(8)]
+        found = facts([place(name, SERIAL, tasks=0, pieces=1) for name in after], starved=120 * MS,
+                      starved_by={name: 15 * MS for name in after})
+        told = diagnose(found)
+        self.assertEqual([(loss.kind, loss.place, loss.time) for loss in told.causes], [("serial", after[0], 120 * MS)])
+
     def test_a_needless_dependence_comes_before_a_split(self):
         found = idle(TASKS)
         found.places[TASKS].items[("inout", "a0")] = 8

@@ -57,6 +57,10 @@ class Kinds(unittest.TestCase):
         found.places[making.name] = making
         self.assertEqual(self.first(found), "small_tasks")
 
+    def test_a_few_small_tasks_cost_little(self):
+        self.assertEqual(self.first(delayed_at(small(200))), "machine")
+        self.assertEqual(self.first(delayed_at(small(2000))), "small_tasks")
+
     def test_creation(self):
         for each, kind in ((2000, "creation"), (200, "small_tasks")):
             making = place("after creating a task at image.c:25", OF_THREADS, tasks=0, pieces=4000, cost=4000 * each)

@@ -1,6 +1,7 @@
 import unittest
 
-from spanprof.diagnosis.places import OF_THREADS, SERIAL, SHARE, TASK, lines_between, read_program
+from spanprof.diagnosis.places import (OF_THREADS, OWN, SERIAL, SHARE, TASK, Place, in_text, lines_between,
+                                       read_program)
 from spanprof.diagnosis.tests.worked import TEXT, program
 from spanprof.tests.columns import segments_of
 
@@ -9,7 +10,7 @@ class Places(unittest.TestCase):
     def test_the_kind_of_each(self):
         kinds = {name: place.kind for name, place in program().places.items()}
         self.assertEqual(kinds, {
-            "the beginning": SERIAL, "code of one of the region's threads": OF_THREADS, "task at image.c:25": TASK,
+            "the beginning": SERIAL, OWN + " at image.c:20": OF_THREADS, "task at image.c:25": TASK,
             "after creating a task at image.c:25": OF_THREADS, "after taskwait at image.c:30": OF_THREADS,
             "task at image.c:33": TASK, "after creating a task at image.c:33": OF_THREADS,
             "starting one of the region's threads": SERIAL,
@@ -22,10 +23,26 @@ class Places(unittest.TestCase):
         self.assertEqual(place.positions[("in", "a2")], 0)
         self.assertEqual(program().places["task at image.c:33"].undeferred, 1)
 
+    def test_the_largest_pieces_of_the_phases_of_a_region(self):
+        place = Place(OWN)
+        for cost, phase in ((5, 1), (7, 1), (6, 1), (4, 3), (2, 3)):
+            place.add(cost, phase)
+        self.assertEqual((place.cost, place.largest, place.longest), (24, 7, 11))
+
+    def test_threads_code_has_its_region(self):
+        lines = ["omptasks 1\n"]
+        for at in ("a.c:3", "a.c:9", "a.c:3"):
+            lines += ["taskgroup {  # %s\n" % at, "task {  # one of the region's threads\n", "work 5\n",
+                      "taskgroup {\n", "}\n", "}\n", "task {  # one of the region's threads\n", "work 4\n"]
+            lines += ["}\n", "}\n"]
+        own = {name: place for name, place in read_program(lines).places.items() if in_text(name) == OWN}
+        self.assertEqual({name: (place.cost, place.longest) for name, place in own.items()},
+                         {OWN + " at a.c:3": (18, 10), OWN + " at a.c:9": (9, 5)})
+
     def test_the_lines_between_two_constructs(self):
         places = program().places
         self.assertEqual(lines_between(places["the beginning"]), ("image.c", 0, 20))
-        self.assertEqual(lines_between(places["code of one of the region's threads"]), ("image.c", 20, 25))
+        self.assertEqual(lines_between(places[OWN + " at image.c:20"]), ("image.c", 20, 25))
         self.assertEqual(lines_between(places["after taskwait at image.c:30"]), ("image.c", 30, 33))
         self.assertEqual(lines_between(places["after the barrier of the region at image.c:20"]), ("image.c", 20, 0))
 
@@ -37,7 +54,7 @@ class Places(unittest.TestCase):
     def test_each_segment_has_a_name_and_a_cost(self):
         found = program()
         self.assertEqual(sum(found.costs), 132)
-        self.assertEqual(found.names, [segment.place() for segment in segments_of(TEXT)])
+        self.assertEqual([in_text(name) for name in found.names], [segment.place() for segment in segments_of(TEXT)])
         self.assertEqual(len(found.names), len(found.costs))
         self.assertEqual(found.tasks, 4)
 

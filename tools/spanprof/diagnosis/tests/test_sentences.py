@@ -9,11 +9,11 @@ from spanprof.diagnosis.facts import Region
 from spanprof.diagnosis.lock_times import Held
 from spanprof.diagnosis.losses import Loss
 from spanprof.diagnosis.names import Names, block_end, items_in
-from spanprof.diagnosis.places import SERIAL
+from spanprof.diagnosis.places import OF_THREADS, OWN, SERIAL
 from spanprof.diagnosis.plan import Step
 from spanprof.diagnosis.schema import as_json
 from spanprof.diagnosis.sentences import (WIDTH, change_sentence, lost_sentence, short_lines, shortened, speed_words,
-                                          sum_lines, waits)
+                                          sum_lines, waits, who_asked)
 from spanprof.diagnosis.tests.worked import MS, facts, place
 
 SOURCE = """static void tone(float *d, int n) {
@@ -173,6 +173,32 @@ class Sentences(unittest.TestCase):
         self.assertIn("50.0 % dependences: image.c:9 (tone) (measured)", told)
         self.assertAlmostEqual(sum(float(line.split()[0]) for line in told), 100, places=0)
 
+    def test_who_asked_for_too_few_threads(self):
+        few = [Region("image.c:20", 1, 80 * MS, 1), Region("image.c:30", 2, 20 * MS, 4),
+               Region("image.c:40", 4, 9 * MS, 4)]
+        run = facts([tone()], regions=few, asked=4)
+        self.assertEqual([who_asked(run, region) for region in few[:2]],
+                         ["the program itself asks for 1", "OMP_DYNAMIC, OMP_THREAD_LIMIT"])
+        self.assertEqual(who_asked(run, Region("image.c:20", 2, MS)), "num_threads, OMP_NUM_THREADS")
+        self.assertEqual(lost_sentence(run, Names(run, None), Loss("too_few_threads", "image.c:20", MS)),
+                         "1 thread in the region at image.c:20 and in 1 other: 4 can run")
+
+    def test_places_without_lines_by_their_functions(self):
+        loop = place(OWN + " at void A::tone<..>(int)+0x7f", OF_THREADS, tasks=4)
+        nameless = place("after the barrier of the region at [image]+0x3a", SERIAL, tasks=0)
+        start = place("the beginning", SERIAL, tasks=0)
+        start.ends["[image]+0x3a"] = 1
+        task = place("task at sort.part.3+0x7e")
+        run = facts([loop, nameless, start, task])
+        names = Names(run, None)
+        self.assertEqual([names.at(loop.name), names.at(task.name), names.place(task.name)],
+                         ["A::tone", "sort", "sort"])
+        self.assertEqual([names.place(one.name) for one in (nameless, start)],
+                         ["code after image+0x3a", "code before image+0x3a"])
+        self.assertEqual(names.place("taskwait at f(int)+0x1"), "the taskwait at f")
+        told = Diagnosis(run, [], [Loss("serial", nameless.name, 50 * MS)], [], [], 1)
+        self.assertIn("not known: the names of its functions", "".join(short_lines(told, names)))
+
     def test_several_waits_by_their_lines(self):
         names = Names(facts(), None)
         self.assertEqual(waits(names, ["taskwait at a.c:9", "taskwait at a.c:3", "taskwait at a.c:5"]),
@@ -214,7 +240,10 @@ class BySamples(unittest.TestCase):
         self.assertEqual(self.told(Loss("serial", "the beginning", 9), ran=ran).partition(": ")[0],
                          "plasma (called by convert) runs alone")
         self.assertRegex(self.told(Loss("serial", "the beginning", 9), ran=ran), ": 95 % of .* of serial code$")
-        self.assertRegex(self.told(Loss("serial", "the beginning", 9)), "runs alone: the other threads wait$")
+        self.assertRegex(self.told(Loss("serial", "the beginning", 9)), "runs alone: 56 % of 90.0 ms of serial code$")
+        own = facts([place(OWN + " at image.c:6", OF_THREADS)])
+        self.assertRegex(lost_sentence(own, Names(own, SOURCES), Loss("serial", OWN + " at image.c:6", 9)),
+                         "runs alone: the other threads wait$")
 
     def test_sleep_has_the_function_that_sleeps(self):
         slept = {"the beginning": {("main", "load", "read"): 9000}}

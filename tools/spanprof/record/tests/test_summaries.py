@@ -55,8 +55,9 @@ class Printed(InFolder):
     def test_the_diagnosis_alone_where_there_is_one(self):
         self.diagnosed.return_value = mock.Mock(lines=lambda more, news: ["now: " + more, *news],
                                                 sum_lines=lambda: ["9 % code"]), ""
-        self.assertEqual(self.told(recording(self.folder), all=False),
-                         ["now: spanprof-report mine.spanprof, spanprof-record --all", "a note"])
+        folder = recording(self.folder)
+        self.assertEqual(self.told(folder, all=False),
+                         ["now: spanprof-report %s, spanprof-record --all" % folder, "a note"])
         self.assertEqual(self.told(recording(self.folder))[-1], "losses        9 % code")
         self.diagnosed.return_value = None, "no diagnosis: no program"
         self.assertEqual(self.told(recording(self.folder), all=False)[-1], "              no diagnosis: no program")
