@@ -17,7 +17,7 @@ COMMANDS = ("", "span", "show", "slack", "greedy --threads 2", "curve --upto 3",
             "run --workers 2", "replay")
 REFUSED = ("greedy --threads 0", "curve --upto 5000", "run --workers 65", "whatif 99999=1", "whatif 1=2000000000000000")
 WRONG = ("slak", "span 1", "greedy", "greedy 4", "greedy --upto 4", "whatif", "whatif 1:9", "curve --upto -1", "Show",
-         "run --workers", "show show")
+         "run --workers", "show show", r"$(printf 'sp\377an')")
 OTHER_SPELLINGS = ("curve --upto=3", "span --", "greedy --threads=2")
 
 
@@ -57,6 +57,8 @@ def differences(program, folder):
             for by_pipe in (False, True):
                 alone, through = (ends(one, words, path, by_pipe) for one in (program, FRONT))
                 what = "`%s` of %s by a %s" % (words, name, "pipe" if by_pipe else "file")
+                if words in WRONG and alone[:2] != (2, b"error: wrong words\n"):
+                    yield "%s: status %d and %r" % (what, *alone[:2])
                 if alone[:3] != through[:3]:
                     yield "%s: status %d, %d bytes and %d left; through the script %d, %d and %d" % (
                         what, alone[0], len(alone[1]), len(alone[2]), through[0], len(through[1]), len(through[2]))

@@ -4,7 +4,7 @@
     checks/sources/crate_picture.py            fails where the picture was made from other crates
     checks/sources/crate_picture.py --write    makes it anew (Graphviz)
     checks/sources/crate_picture.py --dot      prints what Graphviz draws
-Crates of tests are left out, and so are the programs that stand a second time.
+Crates of tests are left out.
 """
 import hashlib
 import pathlib
@@ -14,7 +14,7 @@ import sys
 
 TOP = pathlib.Path(__file__).resolve().parents[2]
 PICTURE = TOP / "docs" / "crates.svg"
-LEFT_OUT = re.compile(r"_tests$|^(refused_growths|limit_tests|calling|spanprof_wrong_words|spanprof_large_refused)$")
+LEFT_OUT = re.compile(r"_tests$|^(refused_growths|limit_tests|calling)$")
 LAYERS = (  # from the texts up to the programs; each crate has to stand in one
     ("texts and programs", "#e3eefb", ("program_text", "loop_text", "task_program", "large_text", "time_text")),
     ("segments and what waits for what", "#e5f5e3", ("task_segments", "online_span", "depend_table", "open_segments")),

@@ -10,7 +10,7 @@ import subprocess
 import sys
 
 ROOT = pathlib.Path(__file__).resolve().parents[2]
-CRATES = ("worker_run", "spanprof_command", "spanprof", "spanprof_wrong_words")
+CRATES = ("worker_run", "spanprof_command", "spanprof")
 
 
 def listed(crates_txt, crate):
