@@ -1,6 +1,6 @@
 /*
- * How the workers of a run wait for tokens: crates/worker_run/src/signal.rt, with what crew.rt, station.rt,
- * look.rt and dispatcher.rt do around it, one atomic access to shared memory a step. checks/sources/waiting.sh has spin explore every
+ * How the workers of a run wait for tokens: crates/worker_run/src/signal.rt, with what crew.rt, station.rt, look.rt,
+ * desk.rt and dispatcher.rt do around it, one atomic access to shared memory a step. checks/sources/waiting.sh has spin explore every
  * interleaving.
  *
  * A comment `FILE: CODE` before a step names the line of crates/worker_run/src/FILE that the step stands for.
@@ -12,7 +12,7 @@
  * counted and not told apart. A kernel may fault, a finish may be refused, and so may the start of a thread.
  *
  * With one of these names defined the model is wrong, and spin must find it out:
- *   FLAG_FIRST       a worker reads the flag before the count of news (no code does that: Signal::turn asks for the count)
+ *   FLAG_FIRST       a worker reads the flag before the count of news (no code does that: Dispatcher::turn asks for the count)
  *   COUNT_LAST       a worker reads the count of news after it has looked at the lanes
  *   SILENT_END       the end sets the flag and wakes, and adds no news
  *   ASLEEP_FIRST     who has put tokens asks whether anyone sleeps before it adds the news
@@ -47,7 +47,7 @@ bool woken;
 byte front[WORKERS];
 byte back[WORKERS];
 
-/* The core: its lock, how many segments are ready or running, and how many are neither yet. */
+/* The desk: its lock, how many segments are ready or running, and how many are neither yet. */
 bool locked;
 byte open = 1;
 byte later = SEGMENTS - 1;
@@ -69,6 +69,14 @@ inline end_all() {
 #endif
     /* signal.rt: self.news.wake_all(); */
     d_step { wake_all(); woken = true }
+}
+
+/* Dispatcher::end_by */
+inline end_by() {
+    /* dispatcher.rt: self.lock(rt).end_by(&self.signal, end) */
+    atomic { !locked -> locked = true };
+    end_all();
+    locked = false
 }
 
 inline wake_all() {
@@ -147,11 +155,16 @@ again:  /* Crew::work */
     if :: over -> goto leave :: else fi;
     seen = news;
 #else
-    /* crew.rt: let turn = match signal.turn(signal.news()) { */
+    /* crew.rt: let turn = match self.dispatcher.turn(self.rt, signal.news()) { */
     /* news_count.rt: count: self.count.load(Ordering::SeqCst), */
     seen = news;
-    /* signal.rt: if self.is_over() { */
-    if :: over -> goto leave :: else fi;
+    /* dispatcher.rt: if self.signal.is_over() { */
+    if
+    /* dispatcher.rt: let desk = self.lock(rt); */
+    /* The run of the desk is over too, since whoever sets the flag has the lock. */
+    :: over -> atomic { !locked -> goto leave }
+    :: else
+    fi;
 #endif
 
     /* station.rt: if let Some(token) = self.take() { */
@@ -230,7 +243,7 @@ steal:  /* Station::steal: a patient worker may pass over a lane. LaneThief::try
     goto again;
 
 start:  /* Crew::run_segments, then the kernel */
-    /* crew.rt: let mut job = self.dispatcher.start(self.rt, worker, segment)?; */
+    /* crew.rt: let mut job = self.dispatcher.lock(self.rt).start(worker, segment)?; */
     atomic { !locked -> computes[me] = true; at = 0; lane = 0; passed = 0 };
 
 kernel:
@@ -238,8 +251,8 @@ kernel:
     if
     :: d_step { computes[me] = false }
     :: d_step { faults > 0 -> faults--; computes[me] = false };
-        /* crew.rt: self.dispatcher.signal.end(); */
-        end_all();
+        /* crew.rt: return Some(self.dispatcher.end_by(self.rt, end)); */
+        end_by();
         goto leave
     fi;
 
@@ -255,14 +268,14 @@ kernel:
         fi
     fi;
 
-    /* Dispatcher::hand_over with finish_in, which end all behind the lock where the run is finished or the finish is
-     * refused, and which start the next token's segment where the run goes on */
-    /* dispatcher.rt: let mut core = self.lock(rt); */
+    /* Desk::hand_over, which ends all behind the lock where the run is finished or the finish is refused, and which
+     * starts the next token's segment where the run goes on */
+    /* crew.rt: .lock(self.rt) */
     atomic { !locked -> locked = true };
-    /* dispatcher.rt: match core.finish(worker, outcome) { */
+    /* desk.rt: let ready = match self.core.finish(worker, outcome) { */
     if
     :: faults > 0 -> faults--;
-        /* dispatcher.rt: let ended = signal.end(); */
+        /* desk.rt: self.end(signal); */
         end_all();
         locked = false;
         goto leave
@@ -277,12 +290,12 @@ kernel:
             open = open + tokens
         }
     fi;
-    /* dispatcher.rt: if core.is_finished() { */
+    /* desk.rt: if self.core.is_finished() { */
     if
     :: open == 0 -> end_all()
     :: else
     fi;
-    /* dispatcher.rt: Some(segment) if !self.signal.is_over() => { */
+    /* desk.rt: Some(segment) if !self.over => Ok((ready, self.start(worker, segment))), */
     if
     :: busy && over -> busy = false
     :: else
@@ -328,8 +341,8 @@ init {
     :: next < WORKERS -> run worker(next); next++
     :: next < WORKERS && faults > 0 ->
         faults--;
-        /* crew.rt: crew.dispatcher.signal.end(); */
-        end_all();
+        /* crew.rt: .end_by(crew.rt, WorkerEnd::no_memory(worker)); */
+        end_by();
         do
         :: next < WORKERS -> d_step { ended[next] = true; next++ }
         :: else -> break

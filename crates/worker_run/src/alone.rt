@@ -99,7 +99,7 @@ fn run_segment<K: Kernel, G: Gate>(
     ensures err { IfErr result (MayAnswer core.old.table K.value_of K.may_fault 1) }
 {
     match start_segment(core, segment) {
-        Some(job) => finish_job(core, gated, 0, job),
+        Some(job) => finish_job(core, gated, job),
         None => Ok(Vec::new(alloc)),
     }
 }

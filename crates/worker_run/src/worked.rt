@@ -1,6 +1,6 @@
 //! What the workers of a run leave: the core, and how each of them ended.
 ghost use Rattle.std.specs.Prelude.{◌≡◌, ◌↔◌, IsTrue, IfOk, OnOk, IfErr, IfSome, MatchOption, map};
-ghost use Rattle.std.specs.Prelude.{length};
+ghost use Rattle.std.specs.Prelude.{length, IsOk};
 ghost use Rattle.worker_run.specs.Answer.{IsWorkerCount, MayAnswer};
 ghost use Rattle.worker_run.specs.WorkerEnds.{AreNumbered, Tells, TellNothing, IsFirstTold};
 ghost use Rattle.worker_run.specs.Jobs.{AreFinishedBefore, IsJobOf};
@@ -13,7 +13,6 @@ use crate::worker::{Ending, Job, WorkerEnd};
 use dispatch_core::dispatch::Core;
 use dispatch_core::event::Event;
 use dispatch_core::kernel::Kernel;
-use std::alloc::Global;
 use task_program::AllocFault;
 use task_segments::table::SegTable;
 
@@ -33,22 +32,19 @@ impl<K: Kernel> Worked<K> {
         Worked { core, ends, left }
     }
 
-    /// The same with a new core, where this one does not fit the table or the number of workers.
-    pub(crate) fn fitting(
-        self,
-        alloc: Global,
-        table: SegTable,
-        workers: u32,
-    ) -> Result<Worked<K>, AllocFault>
-        ensures table { IfOk result (λ worked. worked.core.table ≡ table) }
-        ensures below { IfOk result (λ worked. AreBelow workers worked.core.history) }
-        ensures kept { IfOk result (λ worked. self.core.table ≡ table
-            → AreBelow workers self.core.history → worked.core ≡ self.core) }
-        ensures ends { IfOk result (λ worked. worked.ends ≡ self.ends) }
+    /// The same, where its core has this table and its workers are below this number. No clause tells
+    /// what comes out of a lock, so the core that did is compared with a copy of its table.
+    pub(crate) fn fitting(self, table: &SegTable, workers: u32) -> Result<Worked<K>, AllocFault>
+        ensures same { IfOk result (λ worked. worked ≡ self) }
+        ensures table { OnOk result (self.core.table ≡ table.now) }
+        ensures below { OnOk result (AreBelow workers self.core.history) }
+        ensures kept { self.core.table ≡ table.now → AreBelow workers self.core.history
+            → IsOk result }
     {
-        let Worked { core, ends, left } = self;
-        let core = fitting_core(alloc, core, table, workers)?;
-        Ok(Worked { core, ends, left })
+        if !self.core.table().same(table) || !are_below(self.core.history(), workers) {
+            return Err(AllocFault);
+        }
+        Ok(self)
     }
 
     /// The core, where no end counts as a fault, and otherwise the first fault that counts.
@@ -69,29 +65,6 @@ impl<K: Kernel> Worked<K> {
             Some(fault) => Err(fault),
             None => Ok(core),
         }
-    }
-}
-
-/// The core itself, if it has this table and its workers are below this number; otherwise a new
-/// core of the table. No clause tells what comes out of a lock, so the core that did is compared
-/// with a copy of its table.
-fn fitting_core<K: Kernel>(
-    alloc: Global,
-    core: Core<K>,
-    table: SegTable,
-    workers: u32,
-) -> Result<Core<K>, AllocFault>
-    ensures table { IfOk result (λ core. core.table ≡ table) }
-    ensures below { IfOk result (λ core. AreBelow workers core.history) }
-    ensures kept { IfOk result (λ its. core.table ≡ table → AreBelow workers core.history
-        → its ≡ core) }
-{
-    if core.table().same(&table) && are_below(core.history(), workers) {
-        return Ok(core);
-    }
-    match Core::new(alloc, table) {
-        Ok(fresh) => Ok(fresh),
-        Err(_) => Err(AllocFault),
     }
 }
 

@@ -4,5 +4,5 @@ use Rattle.worker_run.proofs.run.core_after_workers.Goals as goal
 
 pub into_core-requires-clause-numbers : goal.into_core-requires-clause-numbers
 into_core-requires-clause-numbers g c κs within =
-    subst (λ ends. AreNumbered (λ e. e.worker) ends.items) (sym c.in_ok-fitting.ensures.ends)
+    subst (λ worked. AreNumbered (λ e. e.worker) worked.ends.items) (sym c.in_ok-fitting.ensures.same)
     c.in_ok-worked.ensures.numbers
