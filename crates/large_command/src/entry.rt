@@ -1,7 +1,4 @@
 //! The program's way in: words that the system may fail to hand over, and an exit status.
-//!
-//! `run_program` is all of `main`; what the process gives and takes is named by no contract, so all
-//! else is in `start`.
 ghost use Rattle.std.specs.Prelude.{◌≡◌, ◌≢◌, ◌+◌, ◌<◌, ◌≤◌, ◌^◌, IfErr, IfOk, IfSome, OnErr, map};
 ghost use Rattle.std.specs.Prelude.{false, string_bytes, true};
 ghost use Rattle.std.specs.Process.{exit_status};
@@ -19,40 +16,13 @@ ghost use Rattle.std.specs.declared.io.ErrorKind.TheVariants.{OutOfMemory};
 
 use crate::engine::command;
 use counted_io::Counted;
-use spanprof_command::{given_words, without_words};
+use spanprof_command::without_words;
 use std::alloc::AllocGlobal;
-use std::env::Env;
-use std::hash::{BuildHasher, Hasher, RandomState};
 use std::io;
-use std::io::{Input, Print, Read, Write};
+use std::io::{Read, Write};
 use std::process::ExitCode;
-use std::random::RandomSource;
 use std::thread::Threads;
 use task_program::name_key::NameKey;
-
-/// The whole program: hands the words, standard input and standard output of the process to
-/// `start`, and answers what it answers.
-pub fn run_program<H: AllocGlobal + Env + Input + Print + RandomSource + Threads + Sync>(
-    rt: &H,
-) -> ExitCode {
-    let mut reader = Counted::new(rt.reader());
-    let mut writer = Counted::new(io::writer(rt));
-    start(
-        rt,
-        key_of_names(rt),
-        given_words(rt),
-        &mut reader,
-        &mut writer,
-    )
-}
-
-// A random key, or the fixed one where the system has no random bytes.
-fn key_of_names(rt: &impl RandomSource) -> NameKey {
-    match RandomState::new(rt) {
-        Ok(state) => NameKey::of_number(state.build_hasher().finish()),
-        Err(_) => NameKey::fixed(),
-    }
-}
 
 /// Does what `command` does with the words that the system handed over, and answers the exit
 /// status: 0 where the report was written, 1 where the text or what is asked of it was refused, 2 for wrong words, and 3

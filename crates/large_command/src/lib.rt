@@ -18,5 +18,5 @@ mod text_answers;
 mod text_input;
 
 pub use engine::command;
-pub use entry::{run_program, start};
+pub use entry::start;
 pub use large_text::limits::{LARGEST_LINE, LARGEST_TEXT};
