@@ -1,71 +1,40 @@
-//! The greedy run of a graph on some threads.
+//! The greedy schedule of a graph on some threads.
 
-use crate::edges::Graph;
+use crate::graph::{Graph, Lists};
 use std::cmp::Reverse;
 use std::collections::BinaryHeap;
 
-pub struct Run {
+pub struct Schedule {
     pub starts: Vec<u64>,
     /// A segment of cost 0 has no thread.
     pub threads: Vec<Option<u32>>,
     pub end: u64,
 }
 
-/// For each segment its successors.
-pub struct Successors {
-    begins: Vec<usize>,
-    edges: Vec<u32>,
-}
-
-impl Successors {
-    pub fn new(graph: &Graph) -> Successors {
-        let mut begins = vec![0; graph.len() + 1];
-        for segment in 0..graph.len() {
-            graph.preds(segment).iter().for_each(|pred| begins[*pred as usize + 1] += 1);
-        }
-        for segment in 0..graph.len() {
-            begins[segment + 1] += begins[segment];
-        }
-        let mut next = begins.clone();
-        let mut edges = vec![0; begins[graph.len()]];
-        for segment in 0..graph.len() {
-            for pred in graph.preds(segment) {
-                edges[next[*pred as usize]] = segment as u32;
-                next[*pred as usize] += 1;
-            }
-        }
-        Successors { begins, edges }
-    }
-
-    fn of(&self, segment: usize) -> &[u32] {
-        &self.edges[self.begins[segment]..self.begins[segment + 1]]
-    }
-}
-
 struct State<'a> {
     graph: &'a Graph,
-    successors: &'a Successors,
+    successors: &'a Lists,
     /// How many predecessors of each segment have not ended.
     left: Vec<u32>,
     ready: BinaryHeap<Reverse<u32>>,
     free: BinaryHeap<Reverse<u32>>,
     running: BinaryHeap<Reverse<(u64, u32)>>,
-    /// Segments that have ended, whose successors do not know it yet.
+    /// Segments that have ended, whose successors still count them.
     ended: Vec<u32>,
-    run: Run,
+    run: Schedule,
 }
 
-/// The run that takes ready segments and free threads in ascending order.
-pub fn greedy(graph: &Graph, successors: &Successors, threads: u32) -> Run {
+/// The schedule that takes ready segments and free threads in ascending order.
+pub fn schedule(graph: &Graph, successors: &Lists, threads: u32) -> Schedule {
     let mut state = State {
         graph,
         successors,
-        left: (0..graph.len()).map(|segment| graph.preds(segment).len() as u32).collect(),
+        left: graph.segments().map(|segment| graph.preds(segment).len() as u32).collect(),
         ready: BinaryHeap::new(),
         free: (0..threads).map(Reverse).collect(),
         running: BinaryHeap::new(),
         ended: Vec::new(),
-        run: Run { starts: vec![0; graph.len()], threads: vec![None; graph.len()], end: 0 },
+        run: Schedule { starts: vec![0; graph.len()], threads: vec![None; graph.len()], end: 0 },
     };
     if graph.costs[0] > 0 {
         state.ready.push(Reverse(0));
@@ -86,7 +55,7 @@ impl State<'_> {
     fn end(&mut self, segment: u32) {
         self.ended.push(segment);
         while let Some(segment) = self.ended.pop() {
-            for next in self.successors.of(segment as usize) {
+            for next in self.successors.of(segment) {
                 let left = &mut self.left[*next as usize];
                 *left -= 1;
                 if *left > 0 {
@@ -115,8 +84,9 @@ impl State<'_> {
     }
 
     fn begin_ready(&mut self) {
-        while !self.ready.is_empty() && !self.free.is_empty() {
-            let (Reverse(segment), Reverse(thread)) = (self.ready.pop().unwrap(), self.free.pop().unwrap());
+        while let Some(Reverse(segment)) = self.ready.peek().copied() {
+            let Some(Reverse(thread)) = self.free.pop() else { return };
+            self.ready.pop();
             self.run.starts[segment as usize] = self.run.end;
             self.run.threads[segment as usize] = Some(thread);
             self.running.push(Reverse((self.run.end + self.graph.costs[segment as usize], segment)));

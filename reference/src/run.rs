@@ -1,7 +1,7 @@
 //! A run of the mixing kernel in the order of the segments' numbers. What it records is what every run records.
 
-use crate::edges::Graph;
-use std::io::Write;
+use crate::graph::Graph;
+use crate::reports::preds_line;
 
 /// The most turns that the kernel makes, whatever the cost.
 const MOST_TURNS: u64 = 4096;
@@ -18,9 +18,9 @@ fn sum(values: impl Iterator<Item = u64>) -> u64 {
 /// The value of each segment, computed on the sum of its predecessors' values.
 fn values(graph: &Graph) -> Vec<u64> {
     let mut values = Vec::with_capacity(graph.len());
-    for number in 0..graph.len() {
+    for number in graph.segments() {
         let input = sum(graph.preds(number).iter().map(|pred| values[*pred as usize]));
-        values.push(mixed(number as u64, graph.costs[number], input));
+        values.push(mixed(u64::from(number), graph.costs[number as usize], input));
     }
     values
 }
@@ -28,14 +28,7 @@ fn values(graph: &Graph) -> Vec<u64> {
 /// The text of `run`.
 pub fn run(graph: &Graph) -> Vec<u8> {
     let digest = sum(values(graph).into_iter());
-    let edges: usize = (0..graph.len()).map(|number| graph.preds(number).len()).sum();
-    let mut text = format!("segments {}\nedges {edges}\ndigest {digest}\n", graph.len()).into_bytes();
-    for number in 0..graph.len() {
-        write!(text, "preds {number}").unwrap();
-        for pred in graph.preds(number) {
-            write!(text, " {pred}").unwrap();
-        }
-        text.push(b'\n');
-    }
+    let mut text = format!("segments {}\nedges {}\ndigest {digest}\n", graph.len(), graph.edges()).into_bytes();
+    graph.segments().for_each(|segment| preds_line(graph, segment, &mut text));
     text
 }
