@@ -50,9 +50,12 @@ pub fn what_if_listed(mut graph: Graph, document: &Document) -> Result<Vec<u8>, 
     document.rest.ok_or_else(bad_form)?;
     let (was, mut work) = (earliest(&graph).1, graph.work());
     for (number, line) in document.lines() {
-        let mut words = words(line);
-        let Some(word) = words.next() else { continue };
-        let change = Change::read(word).filter(|_| words.next().is_none()).ok_or(Refusal::Line(number, "BadForm"))?;
+        let change = match words(line).take(2).collect::<Vec<_>>()[..] {
+            [] => continue,
+            [word] => Change::read(word),
+            _ => None,
+        };
+        let change = change.ok_or(Refusal::Line(number, "BadForm"))?;
         change.make(&mut graph.costs, &mut work).map_err(|why| Refusal::Line(number, why))?;
     }
     Ok(report(&graph, was))

@@ -17,34 +17,17 @@ use crate::reports;
 use crate::run::run;
 use crate::words::{read_words, Found};
 
+#[rustfmt::skip]
 const SPANPROF: [&str; 10] = [
-    "span",
-    "show",
-    "slack",
-    "greedy --threads P",
-    "curve --upto P",
-    "whatif SEG=COST",
-    "certify",
-    "check",
-    "run --workers P",
-    "replay",
+    "span", "show", "slack", "greedy --threads P", "curve --upto P", "whatif SEG=COST", "certify", "check",
+    "run --workers P", "replay",
 ];
 
 /// The first one needs no name.
+#[rustfmt::skip]
 const SPANPROF_LARGE: [&str; 13] = [
-    " --upto P",
-    "span",
-    "bounds --upto P",
-    "slack",
-    "greedy --threads P",
-    "curve --upto P",
-    "whatif SEG=COST [--listed]",
-    "graph",
-    "show",
-    "certify",
-    "account [--rows] [--path]",
-    "replay",
-    "check",
+    " --upto P", "span", "bounds --upto P", "slack", "greedy --threads P", "curve --upto P",
+    "whatif SEG=COST [--listed]", "graph", "show", "certify", "account [--rows] [--path]", "replay", "check",
 ];
 
 const HELP: &str = include_str!("help.txt");
@@ -112,10 +95,10 @@ fn answer_of(name: &str, found: &Found, program: &Program) -> Result<Vec<u8>, Re
         "curve" => reports::curve(&graph_of(program), threads(found)?),
         "whatif" => what_if(graph_of(program), &found.changes)?,
         "certify" => certify(program, &graph_of(program)),
-        "run" if !found.number.is_some_and(|workers| (1..=MOST_WORKERS).contains(&workers)) => {
-            return Err(refused("WorkerCount"));
-        }
-        "run" => run(&graph_of(program)),
+        "run" => match found.number {
+            Some(1..=MOST_WORKERS) => run(&graph_of(program)),
+            _ => return Err(refused("WorkerCount")),
+        },
         "graph" => reports::graph(&Table::of(program), &graph_of(program)),
         _ => reports::slack(&Table::of(program), &graph_of(program)),
     })

@@ -4,7 +4,7 @@ use crate::limits::Limits;
 use crate::refusal::Refusal;
 use std::fs::File;
 use std::io::{self, ErrorKind, Read, Write};
-use std::os::fd::AsFd;
+use std::os::unix::io::AsFd;
 
 const PIECE: usize = 65_536;
 

@@ -23,27 +23,26 @@ pub enum Piece<'a> {
     /// The word `taskgroup`, and its `{`.
     Group { line: usize },
     GroupOpens { line: usize },
-    /// A loop, up to its `{`; its end is the piece of this number.
-    For { from: u64, to: u64, line: usize, end: usize },
+    /// A loop, up to its `{`; its body has so many pieces.
+    For { from: u64, to: u64, line: usize, length: usize },
     Work { cost: u64, line: usize },
     Wait { line: usize },
-    End(Block),
+    EndTask,
+    EndGroup,
+    EndFor,
 }
 
-#[derive(Clone, Copy, PartialEq, Eq)]
-pub enum Block {
-    Task,
-    Group,
-    /// A loop, which is the piece of this number.
-    For(usize),
+/// An open block: the piece that opened it, by its number, and the line of its `{`.
+struct Block {
+    opening: usize,
+    line: usize,
 }
 
 pub struct Parser<'a> {
     scanner: Scanner<'a>,
     version: Version,
     most_nesting: usize,
-    /// The open blocks, each with the line of its `{`.
-    blocks: Vec<(Block, usize)>,
+    blocks: Vec<Block>,
     /// Those of the open loops, the outermost first.
     variables: Vec<&'a [u8]>,
     pub pieces: Vec<Piece<'a>>,
@@ -66,16 +65,13 @@ impl<'a> Parser<'a> {
             self.statement(token)?;
         }
         match self.blocks.last() {
-            Some((_, line)) => Err(Refusal::Line(*line, "Unclosed")),
+            Some(block) => Err(Refusal::Line(block.line, "Unclosed")),
             None => Ok(()),
         }
     }
 
     fn header(&mut self) -> Result<(), Refusal> {
-        let number = match self.version {
-            Version::One => 1,
-            Version::Two => 2,
-        };
+        let number = if self.version == Version::One { 1 } else { 2 };
         let word = self.token("BadHeader")?;
         if word.text != b"omptasks" {
             return Err(word.fault("BadHeader"));
@@ -126,7 +122,7 @@ impl<'a> Parser<'a> {
             b"taskgroup" => {
                 self.pieces.push(Piece::Group { line });
                 let brace = self.sign(b"{")?;
-                self.open(brace, Block::Group, Piece::GroupOpens { line: brace.line })?;
+                self.open(brace, Piece::GroupOpens { line: brace.line })?;
             }
             b"for" if self.version == Version::Two => self.begin_loop(line)?,
             b"}" => self.close(token)?,
@@ -135,25 +131,28 @@ impl<'a> Parser<'a> {
         Ok(())
     }
 
-    fn open(&mut self, brace: Token<'a>, block: Block, piece: Piece<'a>) -> Result<(), Refusal> {
+    fn open(&mut self, brace: Token<'a>, piece: Piece<'a>) -> Result<(), Refusal> {
         if self.blocks.len() == self.most_nesting {
             return Err(brace.fault("TooDeep"));
         }
-        self.blocks.push((block, brace.line));
+        self.blocks.push(Block { opening: self.pieces.len(), line: brace.line });
         self.pieces.push(piece);
         Ok(())
     }
 
     fn close(&mut self, brace: Token<'a>) -> Result<(), Refusal> {
-        let (block, _) = self.blocks.pop().ok_or(brace.fault("Unopened"))?;
-        if let Block::For(number) = block {
-            self.variables.pop();
-            let here = self.pieces.len();
-            if let Piece::For { end, .. } = &mut self.pieces[number] {
-                *end = here;
+        let block = self.blocks.pop().ok_or(brace.fault("Unopened"))?;
+        let pieces = self.pieces.len() - block.opening - 1;
+        let end = match &mut self.pieces[block.opening] {
+            Piece::For { length, .. } => {
+                *length = pieces;
+                self.variables.pop();
+                Piece::EndFor
             }
-        }
-        self.pieces.push(Piece::End(block));
+            Piece::GroupOpens { .. } => Piece::EndGroup,
+            _ => Piece::EndTask,
+        };
+        self.pieces.push(end);
         Ok(())
     }
 
@@ -165,7 +164,7 @@ impl<'a> Parser<'a> {
         let (from, to) = (self.number(MOST_INDEX)?.value(), self.number(MOST_INDEX)?.value());
         let brace = self.sign(b"{")?;
         self.variables.push(variable.text);
-        self.open(brace, Block::For(self.pieces.len()), Piece::For { from, to, line, end: 0 })
+        self.open(brace, Piece::For { from, to, line, length: 0 })
     }
 
     /// The clauses of a task, up to its `{`.
@@ -176,7 +175,7 @@ impl<'a> Parser<'a> {
             match token.text {
                 b"{" => {
                     let (undeferred, is_final) = (if_value == Some(0), final_value == Some(1));
-                    return self.open(token, Block::Task, Piece::TaskOpens { undeferred, is_final, line: token.line });
+                    return self.open(token, Piece::TaskOpens { undeferred, is_final, line: token.line });
                 }
                 b"if" if if_value.is_none() => if_value = Some(self.zero_or_one()?),
                 b"final" if final_value.is_none() && self.version == Version::Two => {

@@ -84,12 +84,12 @@ impl State<'_> {
     }
 
     fn begin_ready(&mut self) {
-        while let Some(Reverse(segment)) = self.ready.peek().copied() {
-            let Some(Reverse(thread)) = self.free.pop() else { return };
-            self.ready.pop();
-            self.run.starts[segment as usize] = self.run.end;
-            self.run.threads[segment as usize] = Some(thread);
-            self.running.push(Reverse((self.run.end + self.graph.costs[segment as usize], segment)));
+        while !self.ready.is_empty() && !self.free.is_empty() {
+            if let (Some(Reverse(segment)), Some(Reverse(thread))) = (self.ready.pop(), self.free.pop()) {
+                self.run.starts[segment as usize] = self.run.end;
+                self.run.threads[segment as usize] = Some(thread);
+                self.running.push(Reverse((self.run.end + self.graph.costs[segment as usize], segment)));
+            }
         }
     }
 }

@@ -16,7 +16,6 @@ mod documents;
 mod grammar;
 mod graph;
 mod greedy;
-mod jobs;
 mod limits;
 mod memory;
 mod meter;

@@ -32,7 +32,7 @@ pub struct Limits {
     pub items: usize,
     /// Turns of all loops, and lines of the canonical text behind its header.
     pub turns: u64,
-    pub lines: u64,
+    pub lines: usize,
     /// Bytes of a claim, and events of a replay document.
     pub claim: usize,
     pub events: usize,
@@ -48,7 +48,7 @@ pub const COMMANDS: Limits = Limits {
     segments: 16_384,
     items: usize::MAX,
     turns: 65_536,
-    lines: u64::MAX,
+    lines: usize::MAX,
     claim: 4_194_304,
     events: 65_536,
 };

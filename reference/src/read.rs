@@ -1,6 +1,6 @@
 //! The program of a text of either version, or the first fault of the text.
 
-use crate::grammar::{Block, Index, Parser, Piece};
+use crate::grammar::{Index, Parser, Piece};
 use crate::limits::{Limits, MOST_INDEX, MOST_ITEMS, MOST_ROWS, MOST_TEXT_BYTES, MOST_WORK};
 use crate::program::{Clauses, Item, Kind, Mark, Program};
 use crate::refusal::Refusal;
@@ -37,70 +37,51 @@ pub fn read(text: &[u8], limits: &Limits) -> Result<Program, Refusal> {
     Ok(builder.program)
 }
 
-/// A loop that is being expanded.
-struct Loop {
-    value: u64,
-    to: u64,
-}
-
 struct Builder<'a> {
     limits: &'a Limits,
     program: Program,
     numbers: HashMap<Box<[u8]>, u32>,
-    /// The loops around what comes next, the outermost first.
-    loops: Vec<Loop>,
+    /// Those of the variables of the loops around what comes next, the outermost first.
+    values: Vec<u64>,
     /// For each open task whether the tasks in it are undeferred because of `final`.
     finals: Vec<bool>,
-    open_blocks: u64,
-    segments: usize,
+    counts: Counts,
+    location: Vec<u8>,
+}
+
+/// What there is so far beyond the root and the header.
+#[derive(Default)]
+struct Counts {
     turns: u64,
+    segments: usize,
     work: u64,
+    open_blocks: usize,
     /// Bytes of the canonical text outside blanks, without the `}` of blocks that are open.
     solid: usize,
-    location: Vec<u8>,
 }
 
 impl<'a> Builder<'a> {
     fn new(version: Version, limits: &'a Limits) -> Builder<'a> {
-        Builder {
-            limits,
-            program: Program::new(version),
-            numbers: HashMap::new(),
-            loops: Vec::new(),
-            finals: Vec::new(),
-            open_blocks: 0,
-            segments: 1,
-            turns: 0,
-            work: 0,
-            solid: "omptasks2".len(),
-            location: Vec::new(),
-        }
+        let (program, counts) = (Program::new(version), Counts::default());
+        let (numbers, values, finals, location) = (HashMap::new(), Vec::new(), Vec::new(), Vec::new());
+        Builder { limits, program, numbers, values, finals, counts, location }
     }
 
     /// Takes the expansion of pieces: the body of a loop comes once for each value of its variable.
     fn expand(&mut self, pieces: &[Piece]) -> Result<(), Refusal> {
         let mut next = 0;
-        while let Some(piece) = pieces.get(next) {
-            match piece {
-                Piece::For { from, to, end, .. } if from > to => next = *end,
-                Piece::For { from, to, line, .. } => {
-                    self.turn(*line)?;
-                    self.loops.push(Loop { value: *from, to: *to });
+        while next < pieces.len() {
+            if let Piece::For { from, to, line, length } = pieces[next] {
+                let body = &pieces[next + 1..next + 1 + length];
+                for value in from..=to {
+                    self.turn(line)?;
+                    self.values.push(value);
+                    self.expand(body)?;
+                    self.values.pop();
                 }
-                Piece::End(Block::For(begin)) => {
-                    let last = self.loops.last_mut().expect("a loop is open");
-                    if last.value == last.to {
-                        self.loops.pop();
-                    } else {
-                        last.value += 1;
-                        next = *begin;
-                        if let Piece::For { line, .. } = pieces[next] {
-                            self.turn(line)?;
-                        }
-                    }
-                }
-                piece => self.take(piece)?,
+                next += 1 + length;
             }
+            self.take(&pieces[next])?;
             next += 1;
         }
         Ok(())
@@ -113,20 +94,20 @@ impl<'a> Builder<'a> {
             Piece::TaskOpens { undeferred, is_final, line } => self.open_task(*undeferred, *is_final, *line),
             Piece::Group { line } => self.add_segments(1, false, *line),
             Piece::GroupOpens { line } => self.open(Mark::Group, *line),
-            Piece::End(Block::Task) => self.close(Mark::EndTask),
-            Piece::End(_) => self.close(Mark::EndGroup),
+            Piece::EndTask => self.close(Mark::EndTask),
+            Piece::EndGroup => self.close(Mark::EndGroup),
             Piece::Work { cost, line } => self.add_work(*cost, *line),
             Piece::Wait { line } => {
                 self.add_segments(1, false, *line)?;
                 self.add(Mark::Wait, *line)
             }
-            Piece::For { .. } => unreachable!("loops are expanded"),
+            Piece::For { .. } | Piece::EndFor => Ok(()),
         }
     }
 
     fn turn(&mut self, line: usize) -> Result<(), Refusal> {
-        self.turns += 1;
-        if self.turns > self.limits.turns { Err(Refusal::Line(line, "TooManyTurns")) } else { Ok(()) }
+        self.counts.turns += 1;
+        if self.counts.turns > self.limits.turns { Err(Refusal::Line(line, "TooManyTurns")) } else { Ok(()) }
     }
 
     /// Counts the segments that a word brings.
@@ -134,11 +115,11 @@ impl<'a> Builder<'a> {
         if is_task && self.program.tasks.len() > self.limits.tasks {
             return Err(Refusal::Line(line, "TooManyTasks"));
         }
-        self.segments += more;
-        if self.segments > self.limits.segments {
+        self.counts.segments += more;
+        if self.counts.segments >= self.limits.segments {
             return Err(Refusal::Line(line, "TooManySegments"));
         }
-        if self.segments > MOST_ROWS { Err(Refusal::OutOfMemory) } else { Ok(()) }
+        if self.counts.segments >= MOST_ROWS { Err(Refusal::OutOfMemory) } else { Ok(()) }
     }
 
     /// Adds an item to the task that comes.
@@ -166,7 +147,7 @@ impl<'a> Builder<'a> {
     }
 
     fn add_index(&mut self, index: &Index) -> Result<(), Refusal> {
-        let value = index.of_loop.map_or(0, |number| self.loops[number].value);
+        let value = index.of_loop.map_or(0, |number| self.values[number]);
         let size = if index.minus { value.abs_diff(index.by) } else { value.saturating_add(index.by) };
         if size > MOST_INDEX {
             return Err(Refusal::Line(index.line, "BadNumber"));
@@ -187,7 +168,7 @@ impl<'a> Builder<'a> {
     }
 
     fn open_task(&mut self, undeferred: bool, is_final: bool, line: usize) -> Result<(), Refusal> {
-        let in_final = self.finals.last().is_some_and(|is_final| *is_final);
+        let in_final = self.finals.last() == Some(&true);
         let items = self.first_item()..self.program.items.len();
         let number = self.program.tasks.len() as u32;
         self.program.tasks.push(Clauses { undeferred: undeferred || in_final, items });
@@ -196,7 +177,7 @@ impl<'a> Builder<'a> {
     }
 
     fn open(&mut self, mark: Mark, line: usize) -> Result<(), Refusal> {
-        self.open_blocks += 1;
+        self.counts.open_blocks += 1;
         self.add(mark, line)
     }
 
@@ -204,15 +185,15 @@ impl<'a> Builder<'a> {
         if mark == Mark::EndTask {
             self.finals.pop();
         }
-        self.open_blocks -= 1;
-        self.solid += 1;
+        self.counts.open_blocks -= 1;
+        self.counts.solid += 1;
         self.program.marks.push(mark);
         Ok(())
     }
 
     fn add_work(&mut self, cost: u64, line: usize) -> Result<(), Refusal> {
-        self.work += cost;
-        if self.work > MOST_WORK {
+        self.counts.work += cost;
+        if self.counts.work > MOST_WORK {
             return Err(Refusal::Line(line, "WorkTooLarge"));
         }
         self.add(Mark::Work(cost), line)
@@ -227,10 +208,10 @@ impl<'a> Builder<'a> {
         if self.limits.solid < usize::MAX {
             let mut text = Vec::new();
             self.program.print_line(mark, &mut text);
-            self.solid += text.iter().filter(|byte| !b" \n".contains(byte)).count();
+            self.counts.solid += text.iter().filter(|byte| !b" \n".contains(byte)).count();
         }
-        let lines = self.program.marks.len() as u64 + self.open_blocks;
-        let is_long = self.solid + self.open_blocks as usize > self.limits.solid || lines > self.limits.lines;
+        let (braces, lines) = (self.counts.open_blocks, self.program.marks.len() + self.counts.open_blocks);
+        let is_long = "omptasks2".len() + self.counts.solid + braces > self.limits.solid || lines > self.limits.lines;
         if is_long { Err(Refusal::Line(line, "TooLong")) } else { Ok(()) }
     }
 }

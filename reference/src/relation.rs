@@ -40,15 +40,13 @@ impl<'a> Relation<'a> {
         if task.last != s {
             return false;
         }
-        let Some(before) = waiting.before else {
-            return self.depends(ended, waiting.task);
-        };
-        match self.table.segments[before as usize].closing {
-            Closing::Creates(child) => child == ended && task.undeferred,
-            Closing::Waits => task.parent == Some(waiting.task),
+        match waiting.before.map(|before| self.table.segments[before as usize].closing) {
+            None => self.depends(ended, waiting.task),
+            Some(Closing::Creates(child)) => child == ended && task.undeferred,
+            Some(Closing::Waits) => task.parent == Some(waiting.task),
             // The tasks that begin inside a group are numbered from its begin on.
-            Closing::EndsGroup { tasks_before } => ended >= tasks_before,
-            Closing::EndsTask => false,
+            Some(Closing::EndsGroup { tasks_before }) => ended >= tasks_before,
+            Some(Closing::EndsTask) => false,
         }
     }
 

@@ -4,7 +4,6 @@ use crate::analysis::{analyse, earliest};
 use crate::cut::Table;
 use crate::graph::Graph;
 use crate::greedy::schedule;
-use crate::jobs;
 use std::fmt::Display;
 use std::io::Write;
 
@@ -73,10 +72,10 @@ pub fn bounds(work: u64, span: u64, upto: u32) -> Vec<u8> {
 pub fn curve(graph: &Graph, upto: u32) -> Vec<u8> {
     let (work, span) = (graph.work(), earliest(graph).1);
     let successors = graph.successors();
-    let ends = jobs::each(upto as usize, |place| schedule(graph, &successors, place as u32 + 1).end);
     let mut text = b"threads,end,least,bound\n".to_vec();
-    for (p, end) in (1..).zip(ends) {
-        let (least, bound) = bounds_on(work, span, p);
+    for p in 1..=upto {
+        let end = schedule(graph, &successors, p).end;
+        let (least, bound) = bounds_on(work, span, u64::from(p));
         line(&mut text, format_args!("{p},{end},{least},{bound}"));
     }
     text

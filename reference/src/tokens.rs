@@ -87,12 +87,12 @@ impl<'a> Scanner<'a> {
     pub fn next(&mut self) -> Result<Option<Token<'a>>, Refusal> {
         self.skip_gap();
         let rest = &self.text[self.at..];
-        let Some(first) = rest.first() else {
+        if rest.is_empty() {
             return Ok(None);
-        };
+        }
         let run = rest.iter().position(|byte| !is_word_byte(*byte)).unwrap_or(rest.len());
         let token = Token { text: &rest[..run.max(1)], line: self.line };
-        if run == 0 && !self.is_sign(*first) {
+        if run == 0 && !self.is_sign(rest[0]) {
             return Err(token.fault("BadByte"));
         }
         if token.is_number() && !token.text.iter().all(u8::is_ascii_digit) {

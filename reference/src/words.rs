@@ -41,7 +41,7 @@ impl Found {
 pub fn read_words<'a>(usages: &[&'a str], words: &[String]) -> Result<(&'a str, Found), Refusal> {
     let name_of = |usage: &'a str| usage.split(' ').next().unwrap_or(usage);
     let word = words.first().filter(|word| !word.is_empty());
-    let named = usages.iter().find(|usage| word.is_some_and(|word| word == name_of(usage)));
+    let named = usages.iter().find(|usage| word.map_or(false, |word| word == name_of(usage)));
     let behind = if named.is_some() { &words[1..] } else { words };
     let usage = named.unwrap_or(&usages[0]);
     let (name, mut found) = (name_of(usage), Found::default());
