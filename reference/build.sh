@@ -1,6 +1,6 @@
 #!/usr/bin/env bash
-# Builds spanprof and spanprof_large without their proofs into reference/out, by rustc alone. `cargo build --release` builds
-# the same programs into target/release, and `cargo test` tests them.
+# Builds the reference implementation, spanprof and spanprof_large, into reference/out by rustc alone. `cargo build
+# --release` builds the same programs into target/release, and `cargo test` tests them.
 #
 #     reference/build.sh [FOLDER]      into another folder; nothing is done where the programs there are newer than src/
 set -euo pipefail

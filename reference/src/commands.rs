@@ -99,7 +99,10 @@ fn answer_of(name: &str, found: &Found, program: &Program) -> Result<Vec<u8>, Re
             Some(1..=MOST_WORKERS) => run(&graph_of(program)),
             _ => return Err(refused("WorkerCount")),
         },
-        "graph" => reports::graph(&Table::of(program), &graph_of(program)),
-        _ => reports::slack(&Table::of(program), &graph_of(program)),
+        _ => {
+            let table = Table::of(program);
+            let rows = if name == "graph" { reports::graph } else { reports::slack };
+            rows(&table, &Graph::of(program, &table))
+        }
     })
 }

@@ -1,5 +1,5 @@
-//! The earlier siblings after which each task is kept, by their generations at each name: none of a generation conflicts
-//! there with another of it, and each conflicts with all of the one before.
+//! The earlier siblings after which each task is kept, by their generations at each name: none of a generation
+//! conflicts there with another of it, and each conflicts with all of the one before.
 
 use crate::cut::Table;
 use crate::program::{Item, Kind, Program};

@@ -20,8 +20,8 @@ def places_of(program):
 
 def other_places_of(program):
     """Where it is without proofs: the reference implementation, built by cargo or build.sh, or the unproved build."""
-    builds = os.path.join(REFERENCE, "target", "release"), os.path.join(REFERENCE, "out"), os.path.join(TOP, "out", "unproved")
-    return tuple(os.path.join(folder, program) for folder in builds)
+    folders = ("reference", "target", "release"), ("reference", "out"), ("out", "unproved")
+    return tuple(os.path.join(TOP, *folder, program) for folder in folders)
 
 
 def shown_program(path):

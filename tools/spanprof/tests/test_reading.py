@@ -4,7 +4,7 @@ import unittest
 from copy import deepcopy
 from unittest import mock
 
-from spanprof import client
+from spanprof import client, folders
 from spanprof.errors import Fault
 from spanprof.head import OLDER, UNREAD, Head, read_head, said, with_function
 from spanprof.text import has_loops
