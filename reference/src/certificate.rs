@@ -7,7 +7,7 @@ use crate::graph::Graph;
 use crate::limits::{Limits, MOST_MOMENT};
 use crate::program::Program;
 use crate::read::read;
-use crate::refusal::{bad_form, refused, Refusal};
+use crate::refusal::{bad_form, ensure, refused, Refusal};
 use crate::relation::Relation;
 use std::io::Write;
 
@@ -57,10 +57,8 @@ pub fn check(document: &Document, limits: &Limits) -> Result<Vec<u8>, Refusal> {
     let rest = document.rest.filter(|rest| rest.len() <= limits.claim);
     let claim = rest.and_then(read_claim).ok_or_else(bad_form)?;
     let count = table.segments.len() as u64;
-    let numbers = claim.starts.iter().map(|(segment, _)| *segment);
-    if !numbers.eq(0..count) || claim.chain.iter().any(|segment| *segment >= count) {
-        return Err(refused("WrongCount"));
-    }
+    let is_each = claim.starts.iter().map(|(segment, _)| *segment).eq(0..count);
+    ensure(is_each && claim.chain.iter().all(|segment| *segment < count), || refused("WrongCount"))?;
     let relation = Relation::new(&program, &table);
     check_starts(&Graph::of(&program, &table), &relation, &claim)?;
     check_chain(&table, &relation, &claim)?;
@@ -78,19 +76,17 @@ fn check_starts(graph: &Graph, relation: &Relation, claim: &Claim) -> Result<(),
             return Err(refused(format!("Broken {s} {t}")));
         }
     }
-    if ends.iter().max() == Some(&claim.end) { Ok(()) } else { Err(refused("EndWrong")) }
+    ensure(ends.iter().max() == Some(&claim.end), || refused("EndWrong"))
 }
 
 /// The chain is one, and attains the end.
 fn check_chain(table: &Table, relation: &Relation, claim: &Claim) -> Result<(), Refusal> {
     for step in claim.chain.windows(2) {
         let (s, t) = (step[0] as u32, step[1] as u32);
-        if !relation.must_precede(s, t) {
-            return Err(refused(format!("ChainStep {s} {t}")));
-        }
+        ensure(relation.must_precede(s, t), || refused(format!("ChainStep {s} {t}")))?;
     }
     let sum: u64 = claim.chain.iter().map(|segment| table.segments[*segment as usize].cost).sum();
-    if sum == claim.end { Ok(()) } else { Err(refused("ChainSum")) }
+    ensure(sum == claim.end, || refused("ChainSum"))
 }
 
 #[cfg(test)]

@@ -17,14 +17,12 @@ use crate::reports;
 use crate::run::run;
 use crate::words::{read_words, Found};
 
-#[rustfmt::skip]
 const SPANPROF: [&str; 10] = [
     "span", "show", "slack", "greedy --threads P", "curve --upto P", "whatif SEG=COST", "certify", "check",
     "run --workers P", "replay",
 ];
 
 /// The first one needs no name.
-#[rustfmt::skip]
 const SPANPROF_LARGE: [&str; 13] = [
     " --upto P", "span", "bounds --upto P", "slack", "greedy --threads P", "curve --upto P",
     "whatif SEG=COST [--listed]", "graph", "show", "certify", "account [--rows] [--path]", "replay", "check",

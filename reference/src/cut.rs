@@ -8,9 +8,7 @@ pub enum Closing {
     Creates(u32),
     Waits,
     /// It ends a group that began when there were so many tasks.
-    EndsGroup {
-        tasks_before: u32,
-    },
+    EndsGroup { tasks_before: u32 },
     EndsTask,
 }
 

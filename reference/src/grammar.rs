@@ -2,7 +2,7 @@
 
 use crate::limits::{Limits, MOST_COST, MOST_INDEX, MOST_LOOP_NESTING};
 use crate::program::Kind;
-use crate::refusal::Refusal;
+use crate::refusal::{ensure, Refusal};
 use crate::tokens::{Scanner, Token, Version};
 
 /// The index of a location: a number, a variable, or both.
@@ -73,14 +73,9 @@ impl<'a> Parser<'a> {
     fn header(&mut self) -> Result<(), Refusal> {
         let number = if self.version == Version::One { 1 } else { 2 };
         let word = self.token("BadHeader")?;
-        if word.text != b"omptasks" {
-            return Err(word.fault("BadHeader"));
-        }
+        ensure(word.text == b"omptasks", || word.fault("BadHeader"))?;
         let version = self.token("BadHeader")?;
-        if !version.is_number() || version.value() != number {
-            return Err(version.fault("BadHeader"));
-        }
-        Ok(())
+        ensure(version.is_number() && version.value() == number, || version.fault("BadHeader"))
     }
 
     /// The next token, or this fault where the text ends.
@@ -101,10 +96,9 @@ impl<'a> Parser<'a> {
 
     fn number(&mut self, most: u64) -> Result<Token<'a>, Refusal> {
         let token = self.token("BadWord")?;
-        if !token.is_number() {
-            return Err(token.fault("BadWord"));
-        }
-        if token.value() > most { Err(token.fault("BadNumber")) } else { Ok(token) }
+        ensure(token.is_number(), || token.fault("BadWord"))?;
+        ensure(token.value() <= most, || token.fault("BadNumber"))?;
+        Ok(token)
     }
 
     fn statement(&mut self, token: Token<'a>) -> Result<(), Refusal> {
@@ -132,9 +126,7 @@ impl<'a> Parser<'a> {
     }
 
     fn open(&mut self, brace: Token<'a>, piece: Piece<'a>) -> Result<(), Refusal> {
-        if self.blocks.len() == self.most_nesting {
-            return Err(brace.fault("TooDeep"));
-        }
+        ensure(self.blocks.len() < self.most_nesting, || brace.fault("TooDeep"))?;
         self.blocks.push(Block { opening: self.pieces.len(), line: brace.line });
         self.pieces.push(piece);
         Ok(())
@@ -158,9 +150,7 @@ impl<'a> Parser<'a> {
 
     fn begin_loop(&mut self, line: usize) -> Result<(), Refusal> {
         let variable = self.word()?;
-        if self.variables.contains(&variable.text) {
-            return Err(variable.fault("BadWord"));
-        }
+        ensure(!self.variables.contains(&variable.text), || variable.fault("BadWord"))?;
         let (from, to) = (self.number(MOST_INDEX)?.value(), self.number(MOST_INDEX)?.value());
         let brace = self.sign(b"{")?;
         self.variables.push(variable.text);

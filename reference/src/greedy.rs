@@ -36,11 +36,7 @@ pub fn schedule(graph: &Graph, successors: &Lists, threads: u32) -> Schedule {
         ended: Vec::new(),
         run: Schedule { starts: vec![0; graph.len()], threads: vec![None; graph.len()], end: 0 },
     };
-    if graph.costs[0] > 0 {
-        state.ready.push(Reverse(0));
-    } else {
-        state.end(0);
-    }
+    state.release(0);
     state.begin_ready();
     while let Some(Reverse((moment, _))) = state.running.peek() {
         state.run.end = *moment;
@@ -51,21 +47,23 @@ pub fn schedule(graph: &Graph, successors: &Lists, threads: u32) -> Schedule {
 }
 
 impl State<'_> {
-    /// Ends a segment. Of those that waited for it alone, the ones of cost 0 end too, and the others are ready.
-    fn end(&mut self, segment: u32) {
+    /// All predecessors of a segment have ended: it is ready, or ends where it costs nothing.
+    fn release(&mut self, segment: u32) {
+        if self.graph.costs[segment as usize] > 0 {
+            self.ready.push(Reverse(segment));
+            return;
+        }
+        self.run.starts[segment as usize] = self.run.end;
         self.ended.push(segment);
+    }
+
+    /// Counts those that have ended, and releases the segments that waited for them alone.
+    fn count_ended(&mut self) {
         while let Some(segment) = self.ended.pop() {
             for next in self.successors.of(segment) {
-                let left = &mut self.left[*next as usize];
-                *left -= 1;
-                if *left > 0 {
-                    continue;
-                }
-                if self.graph.costs[*next as usize] > 0 {
-                    self.ready.push(Reverse(*next));
-                } else {
-                    self.run.starts[*next as usize] = self.run.end;
-                    self.ended.push(*next);
+                self.left[*next as usize] -= 1;
+                if self.left[*next as usize] == 0 {
+                    self.release(*next);
                 }
             }
         }
@@ -79,11 +77,12 @@ impl State<'_> {
             }
             self.running.pop();
             self.free.extend(self.run.threads[segment as usize].map(Reverse));
-            self.end(segment);
+            self.ended.push(segment);
         }
     }
 
     fn begin_ready(&mut self) {
+        self.count_ended();
         while !self.ready.is_empty() && !self.free.is_empty() {
             if let (Some(Reverse(segment)), Some(Reverse(thread))) = (self.ready.pop(), self.free.pop()) {
                 self.run.starts[segment as usize] = self.run.end;

@@ -13,10 +13,6 @@ unsafe impl GlobalAlloc for OrEnds {
         or_ends(System.alloc(layout))
     }
 
-    unsafe fn alloc_zeroed(&self, layout: Layout) -> *mut u8 {
-        or_ends(System.alloc_zeroed(layout))
-    }
-
     unsafe fn realloc(&self, pointer: *mut u8, layout: Layout, size: usize) -> *mut u8 {
         or_ends(System.realloc(pointer, layout, size))
     }

@@ -3,10 +3,11 @@
 use crate::tokens::Version;
 use std::ops::Range;
 
-#[derive(Clone, Copy, Debug, PartialEq, Eq)]
+#[derive(Clone, Copy, Debug, Default, PartialEq, Eq)]
 pub enum Kind {
     In,
     Out,
+    #[default]
     InOut,
     InOutSet,
 }

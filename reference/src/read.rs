@@ -3,7 +3,7 @@
 use crate::grammar::{Index, Parser, Piece};
 use crate::limits::{Limits, MOST_INDEX, MOST_ITEMS, MOST_ROWS, MOST_TEXT_BYTES, MOST_WORK};
 use crate::program::{Clauses, Item, Kind, Mark, Program};
-use crate::refusal::Refusal;
+use crate::refusal::{ensure, Refusal};
 use crate::tokens::{Scanner, Version};
 use std::collections::HashMap;
 use std::io::Write;
@@ -18,13 +18,9 @@ fn is_version_two(text: &[u8]) -> bool {
 }
 
 pub fn read(text: &[u8], limits: &Limits) -> Result<Program, Refusal> {
-    if text.len() > limits.text {
-        return Err(Refusal::Line(1, "TooLong"));
-    }
     let version = if is_version_two(text) { Version::Two } else { Version::One };
-    if version == Version::Two && text.len() > MOST_TEXT_BYTES {
-        return Err(Refusal::Line(1, "TooLong"));
-    }
+    let most = if version == Version::Two { MOST_TEXT_BYTES } else { limits.text };
+    ensure(text.len() <= most, || Refusal::Line(1, "TooLong"))?;
     let mut parser = Parser::new(text, version, limits);
     let parsed = parser.parse();
     if version == Version::Two {
@@ -74,7 +70,8 @@ impl<'a> Builder<'a> {
             if let Piece::For { from, to, line, length } = pieces[next] {
                 let body = &pieces[next + 1..next + 1 + length];
                 for value in from..=to {
-                    self.turn(line)?;
+                    self.counts.turns += 1;
+                    ensure(self.counts.turns <= self.limits.turns, || Refusal::Line(line, "TooManyTurns"))?;
                     self.values.push(value);
                     self.expand(body)?;
                     self.values.pop();
@@ -93,7 +90,7 @@ impl<'a> Builder<'a> {
             Piece::Item { kind, name, index, line } => self.item(*kind, name, index.as_deref(), *line),
             Piece::TaskOpens { undeferred, is_final, line } => self.open_task(*undeferred, *is_final, *line),
             Piece::Group { line } => self.add_segments(1, false, *line),
-            Piece::GroupOpens { line } => self.open(Mark::Group, *line),
+            Piece::GroupOpens { line } => self.add(Mark::Group, *line),
             Piece::EndTask => self.close(Mark::EndTask),
             Piece::EndGroup => self.close(Mark::EndGroup),
             Piece::Work { cost, line } => self.add_work(*cost, *line),
@@ -105,21 +102,13 @@ impl<'a> Builder<'a> {
         }
     }
 
-    fn turn(&mut self, line: usize) -> Result<(), Refusal> {
-        self.counts.turns += 1;
-        if self.counts.turns > self.limits.turns { Err(Refusal::Line(line, "TooManyTurns")) } else { Ok(()) }
-    }
-
     /// Counts the segments that a word brings.
     fn add_segments(&mut self, more: usize, is_task: bool, line: usize) -> Result<(), Refusal> {
-        if is_task && self.program.tasks.len() > self.limits.tasks {
-            return Err(Refusal::Line(line, "TooManyTasks"));
-        }
+        let has_room = !is_task || self.program.tasks.len() <= self.limits.tasks;
+        ensure(has_room, || Refusal::Line(line, "TooManyTasks"))?;
         self.counts.segments += more;
-        if self.counts.segments >= self.limits.segments {
-            return Err(Refusal::Line(line, "TooManySegments"));
-        }
-        if self.counts.segments >= MOST_ROWS { Err(Refusal::OutOfMemory) } else { Ok(()) }
+        ensure(self.counts.segments < self.limits.segments, || Refusal::Line(line, "TooManySegments"))?;
+        ensure(self.counts.segments < MOST_ROWS, || Refusal::OutOfMemory)
     }
 
     /// Adds an item to the task that comes.
@@ -128,9 +117,8 @@ impl<'a> Builder<'a> {
             Version::One => self.program.items.len(),
             Version::Two => self.program.names.len(),
         };
-        if self.program.items.len() - self.first_item() >= MOST_ITEMS || all >= self.limits.items {
-            return Err(Refusal::Line(line, "TooManyItems"));
-        }
+        let has_room = self.program.items.len() - self.first_item() < MOST_ITEMS && all < self.limits.items;
+        ensure(has_room, || Refusal::Line(line, "TooManyItems"))?;
         self.location.clear();
         self.location.extend_from_slice(name);
         if let Some(index) = index {
@@ -149,9 +137,7 @@ impl<'a> Builder<'a> {
     fn add_index(&mut self, index: &Index) -> Result<(), Refusal> {
         let value = index.of_loop.map_or(0, |number| self.values[number]);
         let size = if index.minus { value.abs_diff(index.by) } else { value.saturating_add(index.by) };
-        if size > MOST_INDEX {
-            return Err(Refusal::Line(index.line, "BadNumber"));
-        }
+        ensure(size <= MOST_INDEX, || Refusal::Line(index.line, "BadNumber"))?;
         let sign = if index.minus && value < index.by { "-" } else { "" };
         write!(self.location, "[{sign}{size}]").expect("memory takes it");
         Ok(())
@@ -173,12 +159,7 @@ impl<'a> Builder<'a> {
         let number = self.program.tasks.len() as u32;
         self.program.tasks.push(Clauses { undeferred: undeferred || in_final, items });
         self.finals.push(in_final || is_final);
-        self.open(Mark::Task(number), line)
-    }
-
-    fn open(&mut self, mark: Mark, line: usize) -> Result<(), Refusal> {
-        self.counts.open_blocks += 1;
-        self.add(mark, line)
+        self.add(Mark::Task(number), line)
     }
 
     fn close(&mut self, mark: Mark) -> Result<(), Refusal> {
@@ -193,15 +174,14 @@ impl<'a> Builder<'a> {
 
     fn add_work(&mut self, cost: u64, line: usize) -> Result<(), Refusal> {
         self.counts.work += cost;
-        if self.counts.work > MOST_WORK {
-            return Err(Refusal::Line(line, "WorkTooLarge"));
-        }
+        ensure(self.counts.work <= MOST_WORK, || Refusal::Line(line, "WorkTooLarge"))?;
         self.add(Mark::Work(cost), line)
     }
 
     /// Adds a mark, unless the canonical text of version 2 is too long with it and a `}` for each open block.
     fn add(&mut self, mark: Mark, line: usize) -> Result<(), Refusal> {
         self.program.marks.push(mark);
+        self.counts.open_blocks += usize::from(matches!(mark, Mark::Task(_) | Mark::Group));
         if self.program.version == Version::One {
             return Ok(());
         }
@@ -211,8 +191,8 @@ impl<'a> Builder<'a> {
             self.counts.solid += text.iter().filter(|byte| !b" \n".contains(byte)).count();
         }
         let (braces, lines) = (self.counts.open_blocks, self.program.marks.len() + self.counts.open_blocks);
-        let is_long = "omptasks2".len() + self.counts.solid + braces > self.limits.solid || lines > self.limits.lines;
-        if is_long { Err(Refusal::Line(line, "TooLong")) } else { Ok(()) }
+        let solid = "omptasks2".len() + self.counts.solid + braces;
+        ensure(solid <= self.limits.solid && lines <= self.limits.lines, || Refusal::Line(line, "TooLong"))
     }
 }
 
@@ -265,10 +245,8 @@ mod tests {
     fn loops_are_their_turns() {
         let text = "omptasks 2 for i 1 2 { task final(1) depend(in: x[i-1], x[i-2], y) { task { work 04 } } } taskwait";
         let shown = read(text.as_bytes(), &COMMANDS).unwrap_or_else(|fault| panic!("{fault}")).canonical_text();
-        let one = |a: &str, b: &str| {
-            format!("task depend(in: x[{a}], x[{b}], y) {{\ntask if(0) {{\nwork 4\n}}\n}}\n")
-        };
-        let wanted = format!("omptasks 2\n{}{}taskwait\n", one("0", "-1"), one("1", "0"));
+        let one = |items| format!("task depend(in: {items}, y) {{\ntask if(0) {{\nwork 4\n}}\n}}\n");
+        let wanted = format!("omptasks 2\n{}{}taskwait\n", one("x[0], x[-1]"), one("x[1], x[0]"));
         assert_eq!(String::from_utf8_lossy(&shown), wanted);
     }
 }

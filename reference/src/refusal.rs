@@ -18,6 +18,11 @@ pub fn refused(why: impl Into<String>) -> Refusal {
     Refusal::Other(why.into())
 }
 
+/// Goes on where this holds.
+pub fn ensure(holds: bool, or: impl FnOnce() -> Refusal) -> Result<(), Refusal> {
+    if holds { Ok(()) } else { Err(or()) }
+}
+
 pub fn bad_form() -> Refusal {
     refused("BadForm")
 }

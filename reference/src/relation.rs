@@ -82,14 +82,13 @@ mod tests {
         };
         let (mut text, mut open) = ("omptasks 1\n".to_string(), 0);
         for _ in 0..40 {
-            let kind = ["in", "out", "inout", "inoutset"][draw(4) as usize];
-            let name = ["a", "b"][draw(2) as usize];
+            let (kind, name) = (["in", "out", "inout", "inoutset"][draw(4) as usize], ["a", "b"][draw(2) as usize]);
             match draw(8) {
                 0 => text += "taskwait\n",
                 1 | 2 if open > 0 => text += "}\n",
                 3 => text += "taskgroup {\n",
                 4 | 5 => text += &format!("task if({}) depend({kind}: {name}, a) {{\n", draw(2)),
-                _ => text += &format!("work {}\n", draw(5)),
+                cost => text += &format!("work {cost}\n"),
             }
             open = text.matches('{').count() - text.matches('}').count();
         }
@@ -102,17 +101,15 @@ mod tests {
             let program = read(text(seed).as_bytes(), &COMMANDS).unwrap_or_else(|fault| panic!("{seed}: {fault}"));
             let table = Table::of(&program);
             let (graph, relation) = (Graph::of(&program, &table), Relation::new(&program, &table));
-            let mut ends: Vec<u64> = Vec::new();
+            let mut starts: Vec<u64> = Vec::new();
             for t in 0..graph.len() as u32 {
                 let before = |s: &u32| relation.must_precede(*s, t);
                 assert!(graph.preds(t).iter().all(before), "{seed}");
-                let start = (0..t).filter(before).map(|s| ends[s as usize]).max().unwrap_or(0);
-                ends.push(start + graph.costs[t as usize]);
+                let ends = (0..t).filter(before).map(|s| starts[s as usize] + graph.costs[s as usize]);
+                starts.push(ends.max().unwrap_or(0));
             }
-            let (starts, span) = earliest(&graph);
-            let by_graph: Vec<u64> = starts.iter().zip(&graph.costs).map(|(start, cost)| start + cost).collect();
-            assert_eq!(ends, by_graph, "{seed}");
-            assert_eq!(Meter::of(&program).span, span, "{seed}");
+            let span = Meter::of(&program).span;
+            assert_eq!((starts, span), earliest(&graph), "{seed}");
             let found = analyse(&graph);
             let chain: u64 = found.chain.iter().map(|member| graph.costs[*member as usize]).sum();
             assert_eq!((chain, found.span), (span, span), "{seed}");

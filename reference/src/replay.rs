@@ -25,10 +25,6 @@ struct Run<'a> {
 }
 
 impl Run<'_> {
-    fn take(&mut self, event: &Event) -> Result<(), String> {
-        if event.is_start { self.start(event) } else { self.finish(event) }
-    }
-
     fn start(&mut self, event: &Event) -> Result<(), String> {
         let place = self.running.get_mut(event.worker as usize).ok_or("UnknownWorker")?;
         let started = self.started.get_mut(event.segment as usize).ok_or("UnknownSegment")?;
@@ -88,7 +84,8 @@ pub fn replay(document: &Document, limits: &Limits) -> Result<Vec<u8>, Refusal> 
         finished: vec![false; graph.len()],
     };
     for (index, event) in events.iter().enumerate() {
-        run.take(event).map_err(|why| refused(format!("event {index}: {why}")))?;
+        let taken = if event.is_start { run.start(event) } else { run.finish(event) };
+        taken.map_err(|why| refused(format!("event {index}: {why}")))?;
     }
     let finished = run.finished.iter().filter(|finished| **finished).count();
     let mut text = format!("events {}\nfinished {finished}\n", events.len()).into_bytes();

@@ -56,8 +56,7 @@ pub fn greedy(graph: &Graph, threads: u32) -> Vec<u8> {
 
 /// The lower bound of each schedule on p threads, and the upper bound of each greedy one.
 fn bounds_on(work: u64, span: u64, p: u64) -> (u64, u64) {
-    let bound = (u128::from(work) + u128::from(p - 1) * u128::from(span)) / u128::from(p);
-    (span.max((work + p - 1) / p), bound as u64)
+    (span.max((work + p - 1) / p), (work + (p - 1) * span) / p)
 }
 
 pub fn bounds(work: u64, span: u64, upto: u32) -> Vec<u8> {

@@ -6,6 +6,7 @@ use crate::program::{Item, Kind, Program};
 use std::collections::{BTreeMap, HashMap};
 
 /// At one name: the last siblings that share it, their kind, and the generation before.
+#[derive(Default)]
 struct Generations {
     kind: Kind,
     current: Vec<u32>,
@@ -13,10 +14,6 @@ struct Generations {
 }
 
 impl Generations {
-    fn new() -> Generations {
-        Generations { kind: Kind::InOut, current: Vec::new(), previous: Vec::new() }
-    }
-
     /// Adds a task; the generation before its own.
     fn enter(&mut self, task: u32, kind: Kind) -> &[u32] {
         if kind.conflicts(self.kind) {
@@ -44,14 +41,13 @@ fn kinds_by_name(items: &[Item]) -> BTreeMap<u32, Kind> {
 /// For each task its kept siblings, ascending.
 pub fn kept_siblings(program: &Program, table: &Table) -> Vec<Vec<u32>> {
     // By parent and name.
-    let mut generations = HashMap::new();
+    let mut generations: HashMap<_, Generations> = HashMap::new();
     // For each task the last one that is kept after it.
     let mut kept_by = vec![0; table.tasks.len()];
     let mut kept = vec![Vec::new(); table.tasks.len()];
     for (number, task) in (0..).zip(&table.tasks) {
         for (name, kind) in kinds_by_name(program.items_of(number)) {
-            let here = generations.entry((task.parent, name)).or_insert_with(Generations::new);
-            for earlier in here.enter(number, kind) {
+            for earlier in generations.entry((task.parent, name)).or_default().enter(number, kind) {
                 if kept_by[*earlier as usize] != number {
                     kept_by[*earlier as usize] = number;
                     kept[number as usize].push(*earlier);

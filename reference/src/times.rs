@@ -3,7 +3,7 @@
 use crate::documents::{number, small_number, words, Document};
 use crate::graph::Graph;
 use crate::limits::{MOST_MOMENT, MOST_THREADS, MOST_WORK};
-use crate::refusal::{bad_form, refused, Refusal};
+use crate::refusal::{bad_form, ensure, refused, Refusal};
 
 /// On which thread a segment ran, and when.
 #[derive(Clone, Copy)]
@@ -74,12 +74,8 @@ impl Times {
 
     /// The first reason why these are not the times of a legal run of the graph.
     pub fn check(&self, graph: &Graph) -> Result<(), Refusal> {
-        if !(1..=MOST_THREADS).contains(&self.threads) {
-            return Err(refused("ThreadCount"));
-        }
-        if self.last < self.first || self.last > MOST_WORK {
-            return Err(refused("Moments"));
-        }
+        ensure((1..=MOST_THREADS).contains(&self.threads), || refused("ThreadCount"))?;
+        ensure(self.first <= self.last && self.last <= MOST_WORK, || refused("Moments"))?;
         graph.segments().try_for_each(|segment| self.check_range(segment))?;
         for segment in graph.segments() {
             let is_late = |pred: &&u32| self.of(**pred).end > self.of(segment).begin;
@@ -92,16 +88,9 @@ impl Times {
 
     fn check_range(&self, segment: u32) -> Result<(), Refusal> {
         let ran = self.of(segment);
-        if ran.thread >= self.threads {
-            return Err(refused(format!("NoThread {segment}")));
-        }
-        if ran.end < ran.begin {
-            return Err(refused(format!("EndsEarly {segment}")));
-        }
-        if ran.begin < self.first || ran.end > self.last {
-            return Err(refused(format!("OutOfTime {segment}")));
-        }
-        Ok(())
+        ensure(ran.thread < self.threads, || refused(format!("NoThread {segment}")))?;
+        ensure(ran.begin <= ran.end, || refused(format!("EndsEarly {segment}")))?;
+        ensure(self.first <= ran.begin && ran.end <= self.last, || refused(format!("OutOfTime {segment}")))
     }
 
     /// No two segments run on one thread at one moment.
@@ -113,9 +102,7 @@ impl Times {
             let ran = self.of(segment);
             let until = &mut busy_until[ran.thread as usize];
             if ran.begin < ran.end {
-                if *until > ran.begin {
-                    return Err(refused(format!("NotApart {segment}")));
-                }
+                ensure(*until <= ran.begin, || refused(format!("NotApart {segment}")))?;
                 *until = ran.end;
             }
         }

@@ -1,7 +1,7 @@
 //! The tokens of a text, and what is wrong with one by itself.
 
 use crate::limits::MOST_WORD_BYTES;
-use crate::refusal::Refusal;
+use crate::refusal::{ensure, Refusal};
 
 #[derive(Clone, Copy, Debug, PartialEq, Eq)]
 pub enum Version {
@@ -92,20 +92,13 @@ impl<'a> Scanner<'a> {
         }
         let run = rest.iter().position(|byte| !is_word_byte(*byte)).unwrap_or(rest.len());
         let token = Token { text: &rest[..run.max(1)], line: self.line };
-        if run == 0 && !self.is_sign(rest[0]) {
-            return Err(token.fault("BadByte"));
-        }
-        if token.is_number() && !token.text.iter().all(u8::is_ascii_digit) {
-            return Err(token.fault("BadNumber"));
-        }
-        if token.is_word() && run > MOST_WORD_BYTES {
-            return Err(token.fault("BadWord"));
-        }
+        let is_digits = token.text.iter().all(u8::is_ascii_digit);
+        ensure(run > 0 || self.is_sign(rest[0]), || token.fault("BadByte"))?;
+        ensure(!token.is_number() || is_digits, || token.fault("BadNumber"))?;
+        ensure(!token.is_word() || run <= MOST_WORD_BYTES, || token.fault("BadWord"))?;
         self.at += token.text.len();
         self.spent += token.text.len();
-        if self.spent > self.most {
-            return Err(token.fault("TooLong"));
-        }
+        ensure(self.spent <= self.most, || token.fault("TooLong"))?;
         Ok(Some(token))
     }
 }
