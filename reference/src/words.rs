@@ -81,8 +81,8 @@ mod tests {
         }
         let wrong = "shown|help|--help|3|span 1|-- span|--upto|--upto 3 span|--upto=3 --upto=3|curve|curve 3|\
             curve --upto|curve --upto +3|curve --upto 4294967296|curve --upto -- 3|curve --threads 3|whatif|whatif 2|\
-            whatif 2=|whatif 2=4=5|whatif 0=18446744073709551616|whatif 2=4 2|whatif --listed 2=4|whatif --listed --listed|\
-            whatif --|account --rows --path|account --row|account --rows=1|account 1|account -- --rows";
+            whatif 2=|whatif 2=4=5|whatif 0=18446744073709551616|whatif 2=4 2|whatif --listed 2=4|\
+            whatif --listed --listed|whatif --|account --rows --path|account --row|account --rows=1|account -- --rows";
         for words in wrong.split('|') {
             assert_eq!(read(words), None, "{words}");
         }
