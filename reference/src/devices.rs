@@ -1,12 +1,11 @@
-//! Standard input and output. What is interrupted is tried again, 1,000 times in all.
+//! Standard input and output. What is interrupted is tried again, 1,000 times in all. A device that is closed is no
+//! failure here: Rust has opened /dev/null in its place.
 
 use crate::limits::Limits;
 use crate::refusal::Refusal;
 use std::fs::File;
 use std::io::{self, ErrorKind, Read, Write};
 use std::os::unix::io::AsFd;
-
-const PIECE: usize = 65_536;
 
 pub struct Devices {
     retries: u32,
@@ -36,9 +35,9 @@ impl Devices {
     pub fn read(&mut self, limits: &Limits) -> Result<Vec<u8>, Refusal> {
         let mut input = device(io::stdin()).map_err(|_| Refusal::ReadFault)?;
         let (mut text, mut line) = (Vec::new(), 0);
-        let mut piece = [0; PIECE];
+        let mut piece = [0; 65_536];
         loop {
-            let most = PIECE.min(limits.input - text.len() + 1);
+            let most = piece.len().min(limits.input - text.len() + 1);
             let read = self.again(|| input.read(&mut piece[..most])).map_err(|_| Refusal::ReadFault)?;
             if read == 0 {
                 return Ok(text);
