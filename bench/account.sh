@@ -1,5 +1,5 @@
 #!/usr/bin/env bash
-# Times `spanprof_large account` beside a plain Rust program of the same sweep, on greedy schedules of 64 threads as timed runs,
+# Times `spanprof_large account` and the reference implementation, on greedy schedules of 64 threads as timed runs,
 # and tells the most memory that each held, in all and for a segment beside the document. Compares what both print first.
 #
 #     bench/account.sh [TASKS ..]      10000 100000 1000000, if none are given; LARGE names the program, if it is built
@@ -11,12 +11,12 @@ if [ -z "${LARGE:-}" ]; then
     "$top/tools/prove_program.sh" spanprof_large > "$scratch/told" 2>&1 || { cat "$scratch/told" >&2; exit 1; }
     LARGE=$top/crates/spanprof_large/out/spanprof_large
 fi
-rustc -O --edition 2024 -o "$scratch/plain" "$top/bench/plain/main.rs"
+build_reference
 
 # document NAME TASKS: a text and its greedy schedule. A segment that costs nothing has no thread: any will do.
 document() {
     python3 "$top/bench/large_texts.py" "$1" "$2" > "$scratch/text"
-    "$scratch/plain" greedy --threads 64 --any-size < "$scratch/text" > "$scratch/run"
+    "${reference}_large" greedy --threads 64 < "$scratch/text" > "$scratch/run"
     cat "$scratch/text"
     echo ---
     awk -F, 'NR > 1 { if ($3 > last) last = $3 } END { print "times 64 0 " last }' "$scratch/run"
@@ -36,10 +36,10 @@ row() { # NAME TASKS WORD..
     local name=$1 tasks=$2 ours plain
     shift 2
     "$LARGE" "$@" < "$scratch/timed" > "$scratch/ours"
-    "$scratch/plain" "$@" --any-size < "$scratch/timed" > "$scratch/plains"
+    "${reference}_large" "$@" < "$scratch/timed" > "$scratch/plains"
     cmp "$scratch/ours" "$scratch/plains"
     read -ra ours < <(timed "$LARGE" "$@")
-    read -ra plain < <(timed "$scratch/plain" "$@" --any-size)
+    read -ra plain < <(timed "${reference}_large" "$@")
     awk -v name="$name" -v tasks="$tasks" -v asked="$*" -v ours="${ours[0]}" -v plain="${plain[0]}" -v held="${ours[1]}" \
         -v plainly="${plain[1]}" -v bytes="$(stat -c %s "$scratch/timed")" -v segments="$(wc -l < "$scratch/run")" \
         'BEGIN { printf "%-12s %8d %-14s %8.2f %6.2f %6.2f %8.1f %8.1f %8.0f\n", name, tasks, asked, ours, plain,

@@ -1,7 +1,7 @@
 #!/usr/bin/env python3
 """The comparing and timing of commands.sh.
 
-    commands.py PROGRAM PLAIN FOLDER [TEXT.. | scaling | changes | where]
+    commands.py PROGRAM REFERENCE FOLDER [TEXT.. | scaling | changes | where]
 """
 import subprocess
 import sys
@@ -11,7 +11,6 @@ from timing import TIMEOUT, TooSlow, best, best_in_turns, peak, run
 
 PROGRAM, PLAIN, FOLDER = sys.argv[1], sys.argv[2], Path(sys.argv[3])
 PROCESSORS = "0-3"
-VERSION_2 = ("loops",)
 CHAINS = ("chain", "waits")
 
 
@@ -106,16 +105,15 @@ def table(names):
     print("%-14s %-20s %9s %9s %6s %8s %8s %6s" % head)
     for path in sorted(FOLDER.glob("texts/*.tasks")):
         name = path.stem
-        if name in VERSION_2 or (names and name not in names):
+        if names and name not in names:
             continue
         for words in commands(name, segments_of(path)):
             tell(name, words, path if words[0] != "check" else certificate_of(path))
 
 
 def scaling():
-    """Wall times on one processor and on four. The plain program uses as many threads."""
-    head = ("text", "command", "1", "4", "times", "plain 1", "4", "times")
-    print("%-14s %-20s %9s %9s %6s %9s %9s %6s" % head)
+    """Wall times on one processor and on four."""
+    print("%-14s %-20s %9s %9s %6s" % ("text", "command", "1", "4", "times"))
     asked = [(name, ["curve", "--upto", "1024"]) for name in ("waits", "chain", "fan")]
     items = ("shared_items", "own_items", "readers", "mixed_items", "fan_of_items")
     limits = ("all_limits", "all_limits_cut", "largest")
@@ -123,17 +121,13 @@ def scaling():
     for name, words in asked:
         path = FOLDER / "texts" / (name + ".tasks")
         path = certificate_of(path) if words[0] == "check" else path
-        cells = []
-        for program in (PROGRAM, PLAIN):
-            walls = []
-            for jobs, processors in (("1", "0"), ("4", PROCESSORS)):
-                flag = ["--jobs", jobs] if program == PLAIN else []
-                try:
-                    walls.append(best(["taskset", "-c", processors, program, *words, *flag], path, 1)[1])
-                except TooSlow:
-                    walls.append(float("inf"))
-            cells += [*walls, walls[0] / walls[1]]
-        print("%-14s %-20s %9.1f %9.1f %6.2f %9.1f %9.1f %6.2f" % (name, " ".join(words), *cells), flush=True)
+        walls = []
+        for processors in ("0", PROCESSORS):
+            try:
+                walls.append(best(["taskset", "-c", processors, PROGRAM, *words], path, 1)[1])
+            except TooSlow:
+                walls.append(float("inf"))
+        print("%-14s %-20s %9.1f %9.1f %6.2f" % (name, " ".join(words), *walls, walls[0] / walls[1]), flush=True)
 
 
 def changes():

@@ -1,5 +1,5 @@
 #!/usr/bin/env bash
-# Times the commands beside a plain Rust program that prints the same, on the texts of make_texts.py, and compares what
+# Times the commands and the reference implementation, which prints the same, on the texts of make_texts.py, and compares what
 # both print there and on random programs. The times are the processor's, of user and system, in milliseconds, the best
 # of five (of RUNS, if that is set), and the two programs run in turns; the memory is the peak, in MiB.
 #
@@ -12,6 +12,6 @@ set -euo pipefail
 . "$(dirname "$0")/common.sh"
 build_program
 make_texts
-rustc -O --edition 2024 -o "$scratch/plain" "$top/bench/plain/main.rs"
+build_reference
 python3 "$top/bench/random_texts.py" "$scratch/random" 100
-python3 "$top/bench/commands.py" "$PROGRAM" "$scratch/plain" "$scratch" "$@"
+python3 "$top/bench/commands.py" "$PROGRAM" "$reference" "$scratch" "$@"

@@ -11,6 +11,12 @@ build_program() {
     PROGRAM=$top/crates/spanprof/out/spanprof
 }
 
+# build_reference: the reference implementation is $reference and ${reference}_large.
+build_reference() {
+    "$top/reference/build.sh" "$scratch/reference"
+    export reference=$scratch/reference/spanprof
+}
+
 # copy_crate CRATE: copies a crate and those that it stands on, with their lines of crates.txt.
 copy_crate() {
     [ ! -e "$scratch/crates/$1" ] || return 0

@@ -1,5 +1,5 @@
 #!/usr/bin/env bash
-# Counts the instructions of the commands beside those of a plain Rust program that prints the same, in millions, on the texts of
+# Counts the instructions of the commands and of the reference implementation, in millions, on the texts of
 # make_texts.py. valgrind counts them. Other work on the machine changes nothing but how the threads of `curve`, `run` and `check` wait.
 #
 #     bench/instructions.sh [TEXT..]      PROGRAM names the program, if it is built
@@ -8,7 +8,7 @@ set -euo pipefail
 . "$(dirname "$0")/common.sh"
 build_program
 make_texts
-rustc -O --edition 2024 -o "$scratch/plain" "$top/bench/plain/main.rs"
+build_reference
 
 # count FILE WORD..: how many instructions the words take on this input.
 count() {
@@ -23,7 +23,7 @@ named_row() {
     local name=$1 command=$2 input=$3 ours plain
     shift 3
     ours=$(count "$input" "$PROGRAM" "$@")
-    plain=$(count "$input" "$scratch/plain" "$@")
+    plain=$(count "$input" "$reference" "$@")
     awk -v name="$name" -v words="$command" -v ours="$ours" -v plain="$plain" \
         'BEGIN { printf "%-14s %-20s %9.1f %9.1f %6.2f\n", name, words, ours / 1e6, plain / 1e6, ours / plain }'
 }
@@ -38,18 +38,17 @@ printf '%-14s %-20s %9s %9s %6s\n' text command spanprof plain times
 names=("$@")
 [ $# -gt 0 ] || mapfile -t names < <(basename -s .tasks "$scratch"/texts/*.tasks)
 for name in "${names[@]}"; do
-    [ "$name" != loops ] || continue # the plain program reads no loops
     text=$scratch/texts/$name.tasks
     row "$name" "$text" span
     row "$name" "$text" slack
     row "$name" "$text" greedy --threads 64
     row "$name" "$text" curve --upto 64
-    segments=$("$scratch/plain" span < "$text" | sed -n 's/^segments //p')
+    segments=$("$reference" span < "$text" | sed -n 's/^segments //p')
     named_row "$name" whatif "$text" whatif 0=1000 "$((segments - 1))=7" "$(((segments - 1) / 2))=3"
     mapfile -t words < <(changes "$segments")
     named_row "$name" "whatif all" "$text" whatif "${words[@]}"
     row "$name" "$text" run --workers 1
     row "$name" "$text" certify
-    "$scratch/plain" certify < "$text" > "$scratch/certificate"
+    "$reference" certify < "$text" > "$scratch/certificate"
     row "$name" "$scratch/certificate" check
 done

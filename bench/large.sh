@@ -1,11 +1,11 @@
 #!/usr/bin/env bash
-# Times spanprof_large beside a plain Rust program that makes the same pass, on programs of a million tasks, and tells the most
-# memory that each held. Compares what both print first. In `items` there are a tenth of the tasks, with 32 names each, and
+# Times spanprof_large and the reference implementation, on programs of a million tasks, and prints the most memory that
+# each held. Compares what both print first. In `items` there are a tenth of the tasks, with 32 names each, and
 # `one_line` is a line of 1 GB, or of 1,000 bytes for each task where there are fewer.
 #
 #     bench/large.sh [TASKS]           LARGE names the program, if it is built
 #     bench/large.sh path [TASKS]      times spanprof-path on the same texts: all of it, and the most memory of a part
-#     bench/large.sh tables [TASKS]    times the commands that take the table, beside the plain program of the ten commands
+#     bench/large.sh tables [TASKS]    times the commands that take the table
 set -euo pipefail
 # shellcheck source=bench/common.sh
 . "$(dirname "$0")/common.sh"
@@ -16,10 +16,7 @@ if [ -z "${LARGE:-}" ]; then
     "$top/tools/prove_program.sh" spanprof_large > "$scratch/told" 2>&1 || { cat "$scratch/told" >&2; exit 1; }
     LARGE=$top/crates/spanprof_large/out/spanprof_large
 fi
-case $with in
-    plain) rustc -O --edition 2024 -o "$scratch/plain" "$top/bench/plain_large/main.rs" ;;
-    tables) rustc -O --edition 2024 -o "$scratch/plain" "$top/bench/plain/main.rs" ;;
-esac
+build_reference
 
 # timed FILE PROGRAM WORD..: processor time in seconds, the least of five, and the most memory in MiB.
 timed() {
@@ -35,11 +32,11 @@ timed() {
 # row NAME FILE: the row of a text.
 row() {
     "$LARGE" < "$2" > "$scratch/ours"
-    "$scratch/plain" < "$2" > "$scratch/plains"
+    "${reference}_large" < "$2" > "$scratch/plains"
     cmp "$scratch/ours" "$scratch/plains" || exit 1
     local ours plain
     read -ra ours < <(timed "$2" "$LARGE")
-    read -ra plain < <(timed "$2" "$scratch/plain")
+    read -ra plain < <(timed "$2" "${reference}_large")
     awk -v name="$1" -v bytes="$(stat -c %s "$2")" -v ours="${ours[0]}" -v plain="${plain[0]}" -v held="${ours[1]}" \
         -v plainly="${plain[1]}" 'BEGIN { printf "%-12s %6.1f %8.2f %6.2f %6.2f %8.1f %6.1f\n", name, bytes / 1e6, ours, plain,
             ours / (plain > 0 ? plain : 0.01), held, plainly }'
@@ -51,10 +48,10 @@ table_rows() {
     for words in slack 'greedy --threads 64' 'whatif 0=5'; do
         read -ra words <<< "$words"
         "$LARGE" "${words[@]}" < "$2" > "$scratch/ours"
-        "$scratch/plain" "${words[@]}" --any-size < "$2" > "$scratch/plains"
+        "${reference}_large" "${words[@]}" < "$2" > "$scratch/plains"
         cmp "$scratch/ours" "$scratch/plains" || exit 1
         read -ra ours < <(timed "$2" "$LARGE" "${words[@]}")
-        read -ra plain < <(timed "$2" "$scratch/plain" "${words[@]}" --any-size)
+        read -ra plain < <(timed "$2" "${reference}_large" "${words[@]}")
         awk -v name="$1" -v asked="${words[0]}" -v ours="${ours[0]}" -v plain="${plain[0]}" -v held="${ours[1]}" \
             -v plainly="${plain[1]}" 'BEGIN { printf "%-12s %-7s %8.2f %6.2f %6.2f %8.1f %8.1f\n", name, asked, ours, plain,
                 ours / (plain > 0 ? plain : 0.01), held, plainly }'

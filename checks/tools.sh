@@ -77,6 +77,7 @@ one 600 documents.py checks/agree/documents.py
 one 900 one_command.py checks/programs/one_command.py
 one 600 'accounts.py 300' checks/agree/accounts.py 300
 one 300 exclusion.py checks/agree/exclusion.py
+one 600 reference.py checks/agree/reference.py
 timed 1800 openmp_cases.sh checks/recorders/openmp_cases.sh
 timed 900 record.sh checks/recorders/record.sh
 timed 900 recorded_accounts.sh checks/recorders/recorded_accounts.sh

@@ -1,6 +1,7 @@
 #!/usr/bin/env bash
-# Tries ./demo in a copy of the repository: with a program that is built, with the plain stand-in where `rt` is missing,
-# and where packages are missing and may not be installed. Build spanprof first; another program may be named.
+# Tries ./demo in a copy of the repository: with a program that is built, with the reference implementation where none
+# is and `rt` is missing, and where packages are missing and may not be installed. Build spanprof first; another program
+# may be named.
 set -euo pipefail
 cd "$(dirname "$0")/../.."
 # shellcheck source=checks/needs.sh
@@ -14,7 +15,7 @@ export LLVM=$llvm
 folder=$(mktemp -d)
 trap 'rm -rf "$folder"' EXIT
 mkdir "$folder/repository"
-git ls-files -z demo tools bench/plain examples crates/spanprof/src | xargs -0 cp --parents -t "$folder/repository"
+git ls-files -z demo tools reference examples crates/spanprof/src | xargs -0 cp --parents -t "$folder/repository"
 cd "$folder/repository"
 wrong=0
 fail() { echo "  $1"; wrong=$((wrong + 1)); cat "$folder/told"; }
@@ -34,13 +35,13 @@ if [ -n "$rust" ]; then
     mkdir "$folder/bin"
     ln -s "$rust" "$folder/bin/rustc"
     PATH=$folder/bin:/usr/bin:/bin ./demo > "$folder/told" 2>&1 || fail "the demo fails without rt"
-    has "unproved: rt, Rattle's toolchain, is not on the PATH" "without rt"
+    has "unproved: the reference implementation" "without rt"
     ! grep -q '(proved' "$folder/told" || fail "without rt: a line says proved"
     # The last line records a program of one's own, as it is printed.
     cp out/demo/merge_sort mine
     tail -n 1 "$folder/told" | bash > "$folder/own" 2>&1 || { fail "the last line fails"; cat "$folder/own"; }
     grep -q '^mine: ' "$folder/own" || { fail "the last line shows no diagnosis"; cat "$folder/own"; }
-    grep -q 'computed by plain, not verified' out/demo/merge_sort.html || fail "without rt: the page does not say it"
+    grep -q 'computed by the reference implementation, not verified' out/demo/merge_sort.html || fail "without rt: the page does not say it"
     echo "without rt"
 fi
 

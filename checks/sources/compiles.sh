@@ -1,7 +1,7 @@
 #!/usr/bin/env bash
-# Has a compiler read the programs in C, C++ and Rust that no other check of `.ci/run` compiles: those of faults found in
+# Has a compiler read the programs in C and C++ that no other check of `.ci/run` compiles: those of faults found in
 # runtimes, of benches, examples and checks that are run by hand. Nothing is built. Needs clang and LLVM's OpenMP
-# runtime; the program in Rust is left out where there is no rustc.
+# runtime.
 set -uo pipefail
 cd "$(dirname "$0")/../.." || exit 1
 # shellcheck source=checks/needs.sh
@@ -23,10 +23,5 @@ for file in tools/conformance/{found,mutants}/*.c examples/openmp/*.c bench/{rec
 done
 for file in checks/recorders/runtime_calls/*.cpp; do reads "clang++-$llvm" "${syntax[@]}" -std=c++17 "$file"; done
 reads "clang-$llvm" -fsyntax-only --target=wasm64-unknown-unknown -ffreestanding tools/live/heap.c
-if command -v rustc > /dev/null; then
-    scratch=$(mktemp -d)
-    trap 'rm -rf "$scratch"' EXIT
-    reads rustc --edition 2024 --emit=metadata --out-dir "$scratch" bench/plain_large/main.rs
-fi
 echo "$count programs read, $wrong wrong"
 [ "$wrong" -eq 0 ]

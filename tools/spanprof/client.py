@@ -2,7 +2,7 @@
 
 SPANPROF_LARGE, or else SPANPROF, in the environment is the program, and may be several words. Without them
 spanprof_large is looked for on the PATH, and then in the repository, or where `make install` has put it; `spanprof`
-takes its place where there is none, and keeps its limits.
+takes its place where there is none, and keeps its limits. Without either the two are looked for without proofs.
 """
 import os
 import subprocess
@@ -11,24 +11,26 @@ from concurrent.futures import ThreadPoolExecutor
 from contextlib import contextmanager
 
 from spanprof.errors import Fault
-from spanprof.folders import found_at, places_of, words_in
+from spanprof.folders import found_at, other_places_of, places_of, words_in
 from spanprof.refusal import explained, of_whole
 from spanprof.text_file import PIECE, TextFile, opened
 
-PLACES = {name: places_of(name) for name in ("spanprof_large", "spanprof")}
+LARGE, SMALL = "spanprof_large", "spanprof"
+PLACES = [(name, places(name)) for places in (places_of, other_places_of) for name in (LARGE, SMALL)]
 HOW = "spanprof_large, which measures it, is not found; tools/prove_program.sh spanprof_large proves and builds it"
 
 
 def takes_any_size():
-    """Whether spanprof_large is there, and not only `spanprof`."""
-    return bool(words_in("SPANPROF_LARGE") or
-                not words_in("SPANPROF") and found_at("spanprof_large", PLACES["spanprof_large"]))
+    """Whether spanprof_large answers, and not only `spanprof`."""
+    if words_in("SPANPROF_LARGE") or words_in("SPANPROF"):
+        return bool(words_in("SPANPROF_LARGE"))
+    return os.path.basename((program() or [""])[0]) == LARGE
 
 
 def program():
     """The words that start the program; none where it is not found."""
     named = words_in("SPANPROF_LARGE") or words_in("SPANPROF")
-    return named or next(filter(None, (found_at(*pair) for pair in PLACES.items())), [])
+    return named or next(filter(None, (found_at(*pair) for pair in PLACES)), [])
 
 
 class Refused(Fault):
@@ -58,7 +60,7 @@ def words_to_start(words):
     start = program()
     if not start:
         raise Fault("spanprof is neither on the PATH nor built here: %s; README.md says how to build it" %
-                    PLACES["spanprof_large"][0])
+                    places_of(LARGE)[0])
     return start + list(words)
 
 

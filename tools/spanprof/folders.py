@@ -10,11 +10,24 @@ TOP = os.path.dirname(TOOLS)
 PREFIX = os.path.dirname(TOP)
 INSTALLED_BUILDS = os.path.join(PREFIX, "lib", "spanprof")
 FRONTS = os.path.join(TOOLS, "bin", "spanprof"), os.path.join(PREFIX, "bin", "spanprof")
+REFERENCE = os.path.join(TOP, "reference")
 
 
 def places_of(program):
     """Where a proved program is: in the repository, or where it is installed."""
     return os.path.join(TOP, "crates", program, "out", program), os.path.join(PREFIX, "libexec", "spanprof", program)
+
+
+def other_places_of(program):
+    """Where it is without proofs: the reference implementation, built by cargo or build.sh, or the unproved build."""
+    folders = ("reference", "target", "release"), ("reference", "out"), ("out", "unproved")
+    return tuple(os.path.join(TOP, *folder, program) for folder in folders)
+
+
+def shown_program(path):
+    """A program as messages name it."""
+    is_reference = os.path.realpath(path).startswith(os.path.join(os.path.realpath(REFERENCE), ""))
+    return "the reference implementation" if is_reference else os.path.basename(path)
 
 
 def words_in(name):

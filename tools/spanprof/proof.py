@@ -6,6 +6,7 @@ import shutil
 from functools import lru_cache
 
 from spanprof import client
+from spanprof.folders import shown_program
 
 SUFFIX = ".sha256"
 NOT_VERIFIED = "computed by %s, not verified"
@@ -31,7 +32,7 @@ def is_proved(path):
 def unverified(words):
     """What is said, in place of `proved`, of what these words compute; empty of a proved program with nothing else."""
     found = shutil.which(words[0]) if len(words) == 1 else None
-    return "" if found and is_proved(os.path.realpath(found)) else NOT_VERIFIED % " ".join(map(os.path.basename, words))
+    return "" if found and is_proved(os.path.realpath(found)) else NOT_VERIFIED % " ".join(map(shown_program, words))
 
 
 @lru_cache(maxsize=None)

@@ -6,7 +6,7 @@ import sys
 
 from spanprof.command import show
 from spanprof.errors import Fault
-from spanprof.folders import places_of, words_for
+from spanprof.folders import other_places_of, places_of, words_for
 from spanprof.front.given import given
 from spanprof.front.routes import are_right
 
@@ -14,7 +14,7 @@ FROM_TERMINAL = "spanprof: reading a program text from the terminal, up to Ctrl-
 
 
 def found(program):
-    words = words_for(program, places_of(program))
+    words = words_for(program, places_of(program) + other_places_of(program))
     if not words:
         raise Fault("the program %s is neither on the PATH nor built here; README.md says how to build it" % program)
     return words

@@ -65,6 +65,10 @@ class Programs(InFolder):
     def test_a_program_that_is_not_there(self):
         self.assertEqual(self.said("/none/spanprof"), "computed by spanprof, not verified")
 
+    def test_the_reference_implementation(self):
+        with mock.patch("spanprof.folders.REFERENCE", self.folder):
+            self.assertEqual(self.said(self.path), "computed by the reference implementation, not verified")
+
     def test_it_is_read_once_in_a_run(self):
         self.checksum()
         with mock.patch("spanprof.proof.is_proved", return_value=True) as read:

@@ -4,7 +4,7 @@ import unittest
 from copy import deepcopy
 from unittest import mock
 
-from spanprof import client
+from spanprof import client, folders
 from spanprof.errors import Fault
 from spanprof.head import OLDER, UNREAD, Head, read_head, said, with_function
 from spanprof.tests.columns import segments_of
@@ -173,12 +173,15 @@ class Finding(unittest.TestCase):
             return client.program(), client.takes_any_size()
 
     def test_the_order(self):
-        both, here = ("spanprof", "spanprof_large"), client.PLACES["spanprof_large"][1]
+        both, here = ("spanprof", "spanprof_large"), folders.places_of("spanprof_large")[1]
+        reference = folders.other_places_of("spanprof_large")[0]
         self.assertEqual(self.program(both, SPANPROF="small", SPANPROF_LARGE="rt run --"), (["rt", "run", "--"], True))
         self.assertEqual(self.program(both, SPANPROF="small"), (["small"], False))
         self.assertEqual(self.program(both), (["/bin/spanprof_large"], True))
         self.assertEqual(self.program(("spanprof", here)), ([here], True))
         self.assertEqual(self.program(("spanprof",)), (["/bin/spanprof"], False))
+        self.assertEqual(self.program(("spanprof", reference)), (["/bin/spanprof"], False))
+        self.assertEqual(self.program((reference, folders.other_places_of("spanprof")[0])), ([reference], True))
         self.assertEqual(self.program(), ([], False))
 
     def test_no_program_is_told_without_a_traceback(self):

@@ -1,6 +1,6 @@
 //! The earliest schedule of a graph, its span, slacks and critical path.
 
-use crate::edges::Graph;
+use crate::graph::Graph;
 
 pub struct Analysis {
     pub starts: Vec<u64>,
@@ -13,9 +13,9 @@ pub struct Analysis {
 pub fn earliest(graph: &Graph) -> (Vec<u64>, u64) {
     let (mut starts, mut span) = (Vec::with_capacity(graph.len()), 0);
     let mut ends: Vec<u64> = Vec::with_capacity(graph.len());
-    for segment in 0..graph.len() {
+    for segment in graph.segments() {
         let start = graph.preds(segment).iter().map(|pred| ends[*pred as usize]).max().unwrap_or(0);
-        let end = start + graph.costs[segment];
+        let end = start + graph.costs[segment as usize];
         starts.push(start);
         ends.push(end);
         span = span.max(end);
@@ -26,8 +26,8 @@ pub fn earliest(graph: &Graph) -> (Vec<u64>, u64) {
 /// The greatest sum of costs that follows each segment.
 fn tails(graph: &Graph) -> Vec<u64> {
     let mut tails = vec![0; graph.len()];
-    for segment in (0..graph.len()).rev() {
-        let through = tails[segment] + graph.costs[segment];
+    for segment in graph.segments().rev() {
+        let through = tails[segment as usize] + graph.costs[segment as usize];
         for pred in graph.preds(segment) {
             tails[*pred as usize] = through.max(tails[*pred as usize]);
         }
@@ -37,14 +37,13 @@ fn tails(graph: &Graph) -> Vec<u64> {
 
 /// From the smallest segment that ends last, back by the smallest predecessors that end just when the next one starts.
 fn chain(graph: &Graph, starts: &[u64], span: u64) -> Vec<u32> {
-    let end = |segment: usize| starts[segment] + graph.costs[segment];
-    let last = (0..graph.len()).find(|segment| end(*segment) == span).unwrap();
-    let mut chain = vec![last as u32];
-    let mut member = last;
+    let end = |segment: u32| starts[segment as usize] + graph.costs[segment as usize];
+    let mut member = graph.segments().find(|segment| end(*segment) == span).expect("some segment ends last");
+    let mut chain = vec![member];
     while member != 0 {
-        let just = graph.preds(member).iter().find(|pred| end(**pred as usize) == starts[member]);
-        chain.push(*just.unwrap());
-        member = *just.unwrap() as usize;
+        let mut preds = graph.preds(member).iter().copied();
+        member = preds.find(|pred| end(*pred) == starts[member as usize]).expect("a predecessor ends just then");
+        chain.push(member);
     }
     chain.reverse();
     chain

@@ -1,0 +1,5 @@
+//! `spanprof [COMMAND] < TEXT`: the ten commands.
+
+fn main() -> std::process::ExitCode {
+    reference::run(reference::commands::spanprof)
+}
