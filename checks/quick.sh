@@ -62,8 +62,9 @@ installed vulture --exclude '*/tests/*,*test_*.py' tools checks bench examples \
     --ignore-names 'write_*,dont_write_bytecode,__getattr__,namespace,option_string,only_first,FORMERLY'
 core='^tools/spanprof/(tests/)?[^/]+$'
 names=()
-for tests in tools/tests tools/spanprof/tests tools/spanprof/*/tests; do
+for tests in tools/tests tools/spanprof/tests tools/spanprof/*/tests tools/spanprof/*/*/tests; do
     case $tests in
+        tools/spanprof/conformance/*) concerns "^tools/(spanprof/)?conformance|$core" ;;
         tools/spanprof/*/tests) concerns "^${tests%tests}|$core" ;;
         *) concerns "^${tests%tests}(tests/)?[^/]+\$" ;;
     esac

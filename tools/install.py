@@ -23,7 +23,7 @@ COMMANDS = ("spanprof-record", "spanprof-convert", "spanprof-report", "spanprof-
             "spanprof-predict", "spanprof-conformance")     # links to spanprof
 PROGRAM, LARGE_PROGRAM = "libexec/spanprof/spanprof", "libexec/spanprof/spanprof_large"
 EXECUTABLE = ("bin/", "libexec/", "lib/spanprof/convert_log", "lib/spanprof/calibrate")
-SHARED = ("*.py", "spanprof/*.py", "spanprof/*/*.py", "spanprof/report/template/*", "conformance/*.txt",
+SHARED = ("*.py", "spanprof/**/*.py", "spanprof/report/template/*", "conformance/*.txt",
           "conformance/*.sh", "conformance/directed/*.tasks", "conformance/harness/*", "conformance/mutants/*")
 LEFT_OUT = ("install.py", "/tests/")
 
@@ -31,7 +31,7 @@ LEFT_OUT = ("install.py", "/tests/")
 def shared_files():
     """What the commands need, as paths below tools/."""
     found = sorted({os.path.relpath(path, TOOLS) for pattern in SHARED
-                    for path in glob.glob(os.path.join(glob.escape(TOOLS), pattern))})
+                    for path in glob.glob(os.path.join(glob.escape(TOOLS), pattern), recursive=True)})
     return [path for path in found if os.path.isfile(os.path.join(TOOLS, path))
             and not any(part in "/" + path for part in LEFT_OUT)]
 

@@ -14,8 +14,8 @@ from pathlib import Path
 
 TOP = Path(__file__).resolve().parents[2]
 sys.path.insert(0, str(TOP / "tools"))
-from spanprof.conformance.exclusion import Claim, first_overlap, log_text  # noqa: E402
-from spanprof.conformance.segments import Made  # noqa: E402
+from spanprof.conformance.judge.exclusion import Claim, first_overlap, log_text  # noqa: E402
+from spanprof.conformance.judge.segments import Made  # noqa: E402
 
 BUILT = TOP / "crates/spanprof_exclusion/out/spanprof_exclusion"
 WRONG = ("start 0", "start 0 1 2", "begin 0 1", "exclusive 0 0 1", "exclude 0 0 1 1", "start x 1", "finish 0 -1",

@@ -18,8 +18,9 @@ class Plan(unittest.TestCase):
                      "share/man/man1/spanprof.1", "share/bash-completion/completions/spanprof-report",
                      "share/zsh/site-functions/_spanprof", "share/spanprof/spanprof/record/command.py",
                      "share/spanprof/spanprof/report/template/page.html", "share/spanprof/spanprof/client.py",
-                     "share/spanprof/spanprof/conformance/judge.py", "share/spanprof/conformance/harness/log.c",
-                     "share/spanprof/spanprof/version.py", "share/spanprof/VERSION"):
+                     "share/spanprof/spanprof/conformance/judge/verdicts.py",
+                     "share/spanprof/conformance/harness/log.c", "share/spanprof/spanprof/version.py",
+                     "share/spanprof/VERSION"):
             self.assertIn(path, places)
         self.assertEqual(len(places), len(set(places)))
 

@@ -5,34 +5,36 @@ import json
 import pathlib
 
 from spanprof.command import Console, words_of
-from spanprof.conformance import delays, gcov, self_checking, store, tables
-from spanprof.conformance.bisect import UNTESTABLE, sample
-from spanprof.conformance.built import built_in
-from spanprof.conformance.campaign import cases_of, directed_cases, random_cases, run_cases, self_checking_cases
-from spanprof.conformance.cases import Bench, Case
-from spanprof.conformance.directed import directed_programs, first_comment
-from spanprof.conformance.discarding import completed, record_of
-from spanprof.conformance.explain import explain
-from spanprof.conformance.facts import facts_of, of_mutants, tested
-from spanprof.conformance.generate import seeds_in_turn
-from spanprof.conformance.journal import Journal
-from spanprof.conformance.judge import Missing
-from spanprof.conformance.launch import read_logs
-from spanprof.conformance.long_campaign import run_campaign
-from spanprof.conformance.mutant_campaigns import Campaigns
-from spanprof.conformance.mutants import build_mutants, mutants_of, mutated
+from spanprof.conformance.judge import delays
+from spanprof.conformance.report import store, tables
+from spanprof.conformance.run import gcov, self_checking
+from spanprof.conformance.run.bisect import UNTESTABLE, sample
+from spanprof.conformance.run.built import built_in
+from spanprof.conformance.run.campaign import cases_of, directed_cases, random_cases, run_cases, self_checking_cases
+from spanprof.conformance.judge.cases import Bench, Case
+from spanprof.conformance.generate.directed import directed_programs, first_comment
+from spanprof.conformance.judge.discarding import completed, record_of
+from spanprof.conformance.judge.explain import explain
+from spanprof.conformance.report.facts import facts_of, of_mutants, tested
+from spanprof.conformance.generate.random_programs import seeds_in_turn
+from spanprof.conformance.run.journal import Journal
+from spanprof.conformance.judge.verdicts import Missing
+from spanprof.conformance.run.launch import read_logs
+from spanprof.conformance.run.long_campaign import run_campaign
+from spanprof.conformance.run.mutant_campaigns import Campaigns
+from spanprof.conformance.run.mutants import build_mutants, mutants_of, mutated
 from spanprof.conformance.opening import entry_points, judge_of, mutate, open_bench, plan_of, program_in
-from spanprof.conformance.program import KINDS
-from spanprof.conformance.publish import publish
-from spanprof.conformance.report import Report
-from spanprof.conformance.reproduce import Limits, reproduce_all
-from spanprof.conformance.segments import Table
-from spanprof.conformance.shards import merged
-from spanprof.conformance.sparing import SparingBench
-from spanprof.conformance.text import text_of
-from spanprof.conformance.took import taken
-from spanprof.conformance.toolchain import BuildFailed
-from spanprof.conformance.variants import in_variant
+from spanprof.conformance.generate.program import KINDS
+from spanprof.conformance.report.publish import publish
+from spanprof.conformance.report.texts import Report
+from spanprof.conformance.run.reproduce import Limits, reproduce_all
+from spanprof.conformance.judge.segments import Table
+from spanprof.conformance.run.shards import merged
+from spanprof.conformance.run.sparing import SparingBench
+from spanprof.conformance.generate.text import text_of
+from spanprof.conformance.run.took import taken
+from spanprof.conformance.run.toolchain import BuildFailed
+from spanprof.conformance.generate.variants import in_variant
 from spanprof.errors import Fault
 
 CONSOLE = Console("spanprof-conformance")

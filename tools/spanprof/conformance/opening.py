@@ -3,15 +3,15 @@ import os
 import pathlib
 
 from spanprof.command import check_files
-from spanprof.conformance import self_checking
-from spanprof.conformance.cases import Bench, Plan
-from spanprof.conformance.exclusion import found_search
-from spanprof.conformance.expected import USUAL, Expectations, read_expected
-from spanprof.conformance.judge import Judge, Missing, Refused, find_spanprof
-from spanprof.conformance.mutants import build_mutants, family_of, mutants_of, mutated
-from spanprof.conformance.reader import read_program
-from spanprof.conformance.settings import settings_of
-from spanprof.conformance.toolchain import Toolchain
+from spanprof.conformance.run import self_checking
+from spanprof.conformance.judge.cases import Bench, Plan
+from spanprof.conformance.judge.exclusion import found_search
+from spanprof.conformance.judge.expected import USUAL, Expectations, read_expected
+from spanprof.conformance.judge.verdicts import Judge, Missing, Refused, find_spanprof
+from spanprof.conformance.run.mutants import build_mutants, family_of, mutants_of, mutated
+from spanprof.conformance.generate.reader import read_program
+from spanprof.conformance.run.settings import settings_of
+from spanprof.conformance.run.toolchain import Toolchain
 from spanprof.refusal import explained
 
 

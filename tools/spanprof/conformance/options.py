@@ -4,13 +4,13 @@ import fnmatch
 import math
 import os
 
-from spanprof.conformance import self_checking
-from spanprof.conformance.campaign import DIRECTED_UNIT
-from spanprof.conformance.directed import directed_files
-from spanprof.conformance.generate import CONSTRUCTS
-from spanprof.conformance.settings import SETTINGS
-from spanprof.conformance.shards import Shard, read_shard
-from spanprof.conformance.variants import VARIANTS
+from spanprof.conformance.run import self_checking
+from spanprof.conformance.run.campaign import DIRECTED_UNIT
+from spanprof.conformance.generate.directed import directed_files
+from spanprof.conformance.generate.random_programs import CONSTRUCTS
+from spanprof.conformance.run.settings import SETTINGS
+from spanprof.conformance.run.shards import Shard, read_shard
+from spanprof.conformance.generate.variants import VARIANTS
 from spanprof.version import Version
 
 AFTER = """Exit status 0: every run was accepted, or of mutants all were caught; 1: not so; 2: nothing could be tried, or

@@ -13,8 +13,8 @@ LAYERS = (SHARED, "conformance", "predict", "whatif", "diagnosis", "report", "pa
 def modules():
     """Of each module, without tests, its part and its path."""
     for folder, _, names in os.walk(PACKAGE):
-        part = os.path.relpath(folder, PACKAGE).replace(".", SHARED)
-        if "tests" not in part.split(os.sep) and not part.startswith("__"):
+        part = os.path.relpath(folder, PACKAGE).split(os.sep)[0].replace(".", SHARED)
+        if "tests" not in folder.split(os.sep) and not part.startswith("__"):
             yield from ((part, os.path.join(folder, name)) for name in names if name.endswith(".py"))
 
 
@@ -34,7 +34,7 @@ class Layers(unittest.TestCase):
             with open(path, encoding="utf-8") as file:
                 for other in imported(file.read()):
                     self.assertLessEqual(LAYERS.index(other), LAYERS.index(part), "%s imports %s" % (path, other))
-        self.assertEqual(found - {os.path.join("report", "template")}, set(LAYERS))
+        self.assertEqual(found, set(LAYERS))
 
     def test_only_commands_end_the_process(self):
         for _, path in modules():

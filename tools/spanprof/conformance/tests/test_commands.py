@@ -9,11 +9,11 @@ import unittest
 from unittest import mock
 
 from spanprof.conformance import commands
-from spanprof.conformance.expected import WrongLine
-from spanprof.conformance.judge import Judge, Missing, Verdict
-from spanprof.conformance.publish import publish
+from spanprof.conformance.judge.expected import WrongLine
+from spanprof.conformance.judge.verdicts import Judge, Missing, Verdict
+from spanprof.conformance.report.publish import publish
 from spanprof.conformance.tests.helpers import failure_of
-from spanprof.conformance.tests.test_report import found_of, report_of
+from spanprof.conformance.report.tests.test_texts import found_of, report_of
 
 WORKED = "omptasks 1\nwork 5 task { work 3 } work 2 taskwait work 1\n"
 LOGS = "run 0\nstart 0 0\ndone\nrun 1\nstart 0 0\nstart 0 3\ndone\n"

@@ -1,8 +1,8 @@
 """Sums of groups and of taskloops."""
 import unittest
 
-from spanprof.conformance.constructs import constructs
-from spanprof.conformance.emit_c import Emitter
+from spanprof.conformance.generate.constructs import constructs
+from spanprof.conformance.emit.tasks import Emitter
 from spanprof.conformance.tests.helpers import body_of
 
 

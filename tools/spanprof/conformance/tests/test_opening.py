@@ -2,7 +2,7 @@
 import os
 import unittest
 
-from spanprof.conformance.judge import Missing
+from spanprof.conformance.judge.verdicts import Missing
 from spanprof.conformance.opening import preloaded
 
 

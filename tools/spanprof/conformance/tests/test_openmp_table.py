@@ -2,9 +2,9 @@ import fnmatch
 import re
 import unittest
 
-from spanprof.conformance import self_checking
+from spanprof.conformance.run import self_checking
 from spanprof.conformance.data import DATA
-from spanprof.conformance.directed import directed_files
+from spanprof.conformance.generate.directed import directed_files
 
 PAGE = DATA / "OPENMP.md"
 ROW = re.compile(r"\| ([\d., to]+) \| (.*) \| (.*) \|$")

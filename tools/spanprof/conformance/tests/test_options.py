@@ -5,7 +5,7 @@ import unittest
 
 from spanprof.conformance.commands import COMMANDS
 from spanprof.conformance.options import parse
-from spanprof.conformance.shards import Shard
+from spanprof.conformance.run.shards import Shard
 
 
 def parsed(words):

@@ -1,0 +1,1 @@
+"""Programs of tasks, random and directed."""

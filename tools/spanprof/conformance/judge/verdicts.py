@@ -1,0 +1,121 @@
+"""Asks spanprof about a program and about logs of its runs."""
+import collections
+import pathlib
+import shutil
+import subprocess
+from dataclasses import dataclass
+
+from spanprof.conformance.judge.exclusion import first_overlap
+from spanprof.errors import Fault
+
+BUILT = pathlib.Path(__file__).resolve().parents[4] / "crates" / "spanprof" / "out" / "spanprof"
+
+
+@dataclass(frozen=True)
+class Verdict:
+    """`accepted`, or a kind of failure; `detail` is spanprof's line, or what was seen."""
+    kind: str
+    detail: str = ""
+
+    @property
+    def accepted(self):
+        return self.kind == "accepted"
+
+
+TOO_MANY = Verdict("refused", "more events than the program can have")
+
+
+class Missing(Fault):
+    """Something that was asked for is not there."""
+
+
+class Refused(Fault):
+    """spanprof refuses the program's text."""
+
+
+@dataclass
+class Record:
+    """What spanprof records for a program."""
+    preds: list   # of each segment
+    digest: str
+    lines: str    # as `replay` prints them
+
+    @property
+    def segments(self):
+        return len(self.preds)
+
+
+def find_spanprof(named, environment):
+    """Where the program is: where it is named, else where the environment's SPANPROF says, else where this repository
+    builds it, else on the PATH."""
+    told = named or environment.get("SPANPROF")
+    places = [told] if told else [str(BUILT), "spanprof"]
+    found = [at for at in map(shutil.which, places) if at]
+    if not found:
+        raise Missing(f"no program {' nor '.join(places)}; --spanprof says where it is")
+    return found[0]
+
+
+class Judge:
+    """Asks the program at a path. `search` finds the first overlap of tasks that exclude one another."""
+
+    def __init__(self, spanprof, search=first_overlap):
+        self.spanprof, self.search = spanprof, search
+
+    def ask(self, words, text):
+        """The exit status and the output of a command of spanprof."""
+        done = subprocess.run([self.spanprof, *words], input=text, capture_output=True, text=True, check=False)
+        return done.returncode, done.stdout
+
+    def record(self, text):
+        """The record of a program, from a run on one worker."""
+        status, answer = self.ask(["run", "--workers", "1"], text)
+        if status:
+            raise Refused(answer.strip() or f"{self.spanprof} ended with status {status}")
+        lines = answer.split("\n")
+        preds = [[int(n) for n in line.split()[2:]] for line in lines[3:] if line]
+        return Record(preds, lines[2].split()[1], "\n".join(lines[3:]))
+
+    def verdict(self, text, record, log):
+        """Whether a run's log is that of a legal and finished run with the right record and values."""
+        if log.unlogged:
+            return unordered_verdict(record, log)
+        events = [event for event in log.events if event != "overflow"]
+        replayed = self.replay(text, record, "\n".join(events))
+        if replayed.kind == "refused":
+            return replayed
+        if len(events) < len(log.events):
+            return TOO_MANY
+        if log.end != "done":
+            return Verdict(log.end, log.detail)
+        if replayed.accepted and log.detail not in ("", record.digest):
+            return Verdict("values", f"digest {log.detail} and not {record.digest}")
+        return replayed
+
+    def replay(self, text, record, events):
+        """The verdict on a list of events."""
+        status, answer = self.ask(["replay"], f"{text}---\n{events}\n")
+        if status:
+            return Verdict("refused", answer.strip().removeprefix("error: "))
+        _, finished, rest = answer.split("\n", 2)
+        if finished != f"finished {record.segments}":
+            return Verdict("incomplete", f"{finished} of {record.segments} segments")
+        if rest != record.lines:
+            return Verdict("refused", "another record than that of `run`")
+        return Verdict("accepted")
+
+
+def unordered_verdict(record, log):
+    """The verdict on a run of which only values and counts are known, and no order."""
+    counted = collections.Counter(log.events)
+    repeated = sorted(event for event, count in counted.items() if count > 1)
+    if repeated:
+        return Verdict("refused", f"{counted[repeated[0]]} times `{repeated[0]}`")
+    if log.end != "done":
+        return Verdict(log.end, log.detail)
+    ended = sum(event.startswith("finish ") for event in counted)
+    if ended < record.segments:
+        return Verdict("incomplete", f"finished {ended} of {record.segments} segments")
+    if log.detail != record.digest:
+        return Verdict("values", f"digest {log.detail} and not {record.digest}")
+    return Verdict("accepted")

@@ -1,0 +1,65 @@
+"""What a report says of the test itself, as pairs of a name and what is so."""
+import hashlib
+import os
+
+from spanprof.conformance.run.campaign import directed_cases
+from spanprof.conformance.generate.directed import FOLDER
+from spanprof.conformance.run.settings import SETTINGS
+
+# How the variables begin by which whoever calls tells runtimes and sanitizers something.
+OF_RUNTIMES = ("OMP_", "KMP_", "GOMP_", "LIBOMP", "MALLOC_", "ASAN_", "TSAN_", "UBSAN_")
+
+
+def told_runtimes(environment):
+    """The variables that hold in all settings, where these do not say otherwise."""
+    told = [f"{name}={value}" for name, value in sorted(environment.items()) if name.startswith(OF_RUNTIMES)]
+    return f"`{' '.join(told)}`" if told else ""
+
+
+def tested(options, bench, settings):
+    """What is tested, and how: the same whenever a campaign goes on."""
+    toolchain = bench.toolchain
+    facts = {"compiler": f"{toolchain.version()}, flags `{' '.join(toolchain.shown_flags)}`",
+             "runtime": toolchain.runtime(bench.environment),
+             "threads": ", ".join(map(str, options.threads)),
+             "runs each": str(options.runs),
+             "seed": str(options.seed),
+             "environment": told_runtimes(bench.environment),
+             **{f"setting {name}": SETTINGS[name].told() for name in settings},
+             "tasks": ", ".join(options.tasks),
+             "mutant": options.mutate,
+             "part": str(options.shard) if options.shard.of > 1 else "",
+             "directed programs": options.match if options.match != "*" else "",
+             "left out of random programs": ", ".join(options.without),
+             "left out, as the compiler lacks a kind of item": lacking(options, toolchain.kinds)}
+    return {name: fact for name, fact in facts.items() if fact}
+
+
+def of_mutants(options, bench, settings):
+    """The same of campaigns on mutants."""
+    texts = b"".join(path.read_bytes() for path in sorted(FOLDER.glob("*.tasks")))
+    return {"compiler": bench.toolchain.version(), "flags": " ".join(bench.toolchain.shown_flags),
+            "settings": ", ".join(settings), "threads": ", ".join(map(str, options.threads)),
+            "runs each": str(options.runs), "seed": str(options.seed), "timeout": str(options.timeout),
+            "tasks": ", ".join(options.tasks), "random programs": str(options.programs),
+            "directed programs": options.match if options.directed else "none",
+            "texts of directed programs": hashlib.sha256(texts).hexdigest(),
+            "left out of random programs": ", ".join(options.without), "seconds": str(options.seconds)}
+
+
+def lacking(options, kinds):
+    """The directed programs that need a kind of item that the compiler lacks."""
+    return ", ".join(directed_cases(kinds, options.tasks, options.match)[1]) if options.directed else ""
+
+
+def facts_of(what, results):
+    """All facts, after a test: what was judged, on which machine, and how long the runs took."""
+    machine = f"{os.cpu_count()} processors, load {os.getloadavg()[0]:.1f} at the end"
+    return [*what.items(), ("judged by spanprof", judged(results)), ("machine", machine),
+            ("time", f"{results.seconds:.0f} s")]
+
+
+def judged(results):
+    """How many logs spanprof itself judged, and why not those of all runs."""
+    return f"{results.judged} logs of {results.runs} runs; each other run had a log equal to one of these, or one " \
+           "without an order of events"

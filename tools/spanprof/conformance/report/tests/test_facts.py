@@ -1,0 +1,73 @@
+"""What a report says of the test itself."""
+import types
+import unittest
+
+from spanprof.conformance.judge.cases import Tally
+from spanprof.conformance.report.facts import facts_of, of_mutants, tested, told_runtimes
+from spanprof.conformance.report.results import Results
+from spanprof.conformance.run.shards import Shard
+from spanprof.conformance.tests.helpers import case_of, conditions
+
+
+class StubToolchain:
+    kinds = {"in", "out", "inout"}
+    shown_flags = ["-O1", "-fopenmp"]
+
+    def version(self):
+        return "cc 1.0"
+
+    def runtime(self, environment):
+        return environment["RUNTIME"]
+
+
+def facts(settings=("free", "pinned"), directed=True, **others):
+    options = types.SimpleNamespace(threads=(2, 4), runs=3, seed=7, tasks=["tied"], mutate="", without=[],
+                                    directed=directed, shard=Shard(), match="*")
+    options.__dict__.update(others)
+    bench = types.SimpleNamespace(toolchain=StubToolchain(), environment={"RUNTIME": "/lib/libgomp.so"})
+    return tested(options, bench, settings)
+
+
+class Facts(unittest.TestCase):
+    def test_what_is_tested(self):
+        found = facts(settings=("free", "priorities"), directed=False)
+        self.assertEqual(found, {
+            "compiler": "cc 1.0, flags `-O1 -fopenmp`", "runtime": "/lib/libgomp.so", "threads": "2, 4",
+            "runs each": "3", "seed": "7", "setting free": "as the runtime is by itself",
+            "setting priorities": "priorities count: `OMP_MAX_TASK_PRIORITY=9`", "tasks": "tied"})
+
+    def test_of_mutants(self):
+        options = types.SimpleNamespace(threads=(2, 4), runs=3, seed=7, tasks=["tied"], without=[], match="*",
+                                        timeout=3, programs=20, directed=True, seconds=60)
+        found = of_mutants(options, types.SimpleNamespace(toolchain=StubToolchain()), ["free"])
+        self.assertEqual((found["threads"], found["random programs"], found["settings"]), ("2, 4", "20", "free"))
+        self.assertEqual(len(found["texts of directed programs"]), 64)
+
+    def test_what_is_left_out(self):
+        found = facts(without=["loop"])
+        self.assertEqual(found["left out of random programs"], "loop")
+        self.assertIn("depend_two_sets", found["left out, as the compiler lacks a kind of item"])
+
+    def test_variables_of_the_caller(self):
+        self.assertEqual(told_runtimes({"PATH": "/bin", "OMP_DYNAMIC": "true", "KMP_USE_YIELD": "2"}),
+                         "`KMP_USE_YIELD=2 OMP_DYNAMIC=true`")
+        self.assertEqual(told_runtimes({"PATH": "/bin"}), "")
+
+    def test_mutant(self):
+        self.assertEqual(facts(mutate="hang")["mutant"], "hang")
+
+    def test_machine_and_time_come_after_the_test(self):
+        results = Results()
+        results.seconds = 61.4
+        self.assertEqual([name for name, _ in facts_of({"seed": "1"}, results)],
+                         ["seed", "judged by spanprof", "machine", "time"])
+        self.assertEqual(facts_of({}, results)[-1], ("time", "61 s"))
+
+    def test_how_many_logs_spanprof_judged(self):
+        results = Results()
+        results.add(case_of(), [Tally(conditions(), 4, 40, judged=3), Tally(conditions(4), 4, 40, judged=2)])
+        self.assertTrue(facts_of({}, results)[0][1].startswith("5 logs of 8 runs; "))
+
+
+if __name__ == "__main__":
+    unittest.main()

@@ -1,0 +1,40 @@
+"""Results as JUnit's XML and as lines of the Test Anything Protocol."""
+import collections
+import unittest
+import xml.etree.ElementTree
+
+from spanprof.conformance.report.results import Outcome, Results
+from spanprof.conformance.report.suites import junit, tap
+
+
+def results():
+    found = Results()
+    found.seconds = 61.4
+    found.outcomes = {
+        ("depend_chain", "tied"): Outcome(collections.Counter(runs=8)),
+        ("taskwait_twice", "untied"): Outcome(collections.Counter(runs=8, hung=2, refused=1), "event 3: `<` \x01"),
+        ("priority_flat", "tied"): Outcome(collections.Counter(runs=8), "", ["found/priority_no_end.md"])}
+    return found
+
+
+class JUnit(unittest.TestCase):
+    def test_cases(self):
+        suite = xml.etree.ElementTree.fromstring(junit(results()))
+        self.assertEqual((suite.get("tests"), suite.get("failures"), suite.get("skipped")), ("3", "1", "1"))
+        told = {case.get("name"): [part.get("message") for part in case] for case in suite}
+        self.assertEqual(told, {"depend_chain": [], "priority_flat": ["expected: found/priority_no_end.md"],
+                                "taskwait_twice": ["3 of 8 runs failed: hung 2, refused 1"]})
+        self.assertEqual(suite[2].get("classname"), "spanprof-conformance.untied")
+        self.assertEqual(suite.find("testcase/failure").text, "event 3: `<` ?")
+
+
+class Lines(unittest.TestCase):
+    def test_tests(self):
+        self.assertEqual(tap(results()).split("\n"), [
+            "TAP version 13", "1..3", "ok 1 - depend_chain (tied)",
+            "not ok 2 - priority_flat (tied) # TODO found/priority_no_end.md",
+            "not ok 3 - taskwait_twice (untied)", "# 3 of 8 runs failed: hung 2, refused 1", "# event 3: `<` \x01"])
+
+
+if __name__ == "__main__":
+    unittest.main()

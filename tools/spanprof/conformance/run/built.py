@@ -1,0 +1,39 @@
+"""Runtimes that were built from their source with one change each, as checks/programs/mutants/build.py leaves them: a
+folder of libraries, and `mutants.json` that says what each change breaks."""
+import json
+import pathlib
+from dataclasses import dataclass
+
+from spanprof.conformance.judge.verdicts import Missing
+
+
+@dataclass(frozen=True)
+class Built:
+    """`breaks` is `yes`, or `no` and why."""
+    name: str
+    words: str
+    rule: str
+    breaks: str
+    library: pathlib.Path
+
+    @property
+    def is_wrong(self):
+        return self.breaks == "yes"
+
+    def environment(self, plain):
+        """An environment in which programs load this library in place of the runtime."""
+        before = plain.get("LD_PRELOAD")
+        return {**plain, "LD_PRELOAD": f"{self.library} {before}" if before else str(self.library)}
+
+
+def built_in(folder, only=()):
+    """The runtime as it is, if it is there, and the mutants of a folder by rule and name: all, or some names alone."""
+    folder = pathlib.Path(folder).resolve()
+    described = json.loads((folder / "mutants.json").read_text())
+    unknown = sorted(set(only) - set(described))
+    if unknown:
+        raise Missing(f"no mutant {', '.join(unknown)} in {folder}")
+    mutants = [Built(name, *(fields[key] for key in ("words", "rule", "breaks")), folder / f"{name}.so")
+               for name, fields in described.items() if name in only or not only]
+    plain = [Built("none", "nothing", "", "no", folder / "none.so")]
+    return [one for one in plain + sorted(mutants, key=lambda m: (m.rule, m.name)) if one.library.exists()]

@@ -1,0 +1,119 @@
+"""Runs a built program, and reads the logs that it writes."""
+import os
+import subprocess
+from dataclasses import dataclass, field
+
+from spanprof.conformance.run.settings import SETTINGS
+
+
+@dataclass
+class Log:
+    """One run: its events, as lines of a replay document, and how it ended."""
+    number: int
+    schedule: str = ""
+    events: list = field(default_factory=list)
+    end: str = "crashed"  # done, hung or crashed
+    detail: str = ""      # the digest, or how it hung or broke down
+    unlogged: bool = False  # whether the events are told apart from their order
+    stacks: list = field(default_factory=list)  # of a run that hung, as a debugger's lines
+    moments: list = field(default_factory=list)  # of the events, in nanoseconds, where the run was timed
+    discarded: list = field(default_factory=list)  # segments of tasks that were discarded, whose events were added
+    turns: list = field(default_factory=list)  # of taskloops: the first segment of one, and of the first of its task
+
+
+@dataclass(frozen=True)
+class Conditions:
+    """How a program is run."""
+    threads: int
+    runs: int
+    seed: int             # 0: no delays
+    unit: int             # what a cost of 1 lasts, in nanoseconds
+    timeout: int          # in seconds, without an event until a run hangs
+    setting: str = "free"
+
+    def words(self):
+        return [str(n) for n in (self.threads, self.runs, self.seed, self.unit, self.timeout)]
+
+
+LONGEST = 11  # times as long as a run may log nothing: more than harness/watch.c gives it
+SANITIZED = "SUMMARY: "
+ENDS = {"done": "done", "hung": "hung", "signal": "crashed", "runaway:": "crashed"}
+RUNAWAY = "runaway:"  # and how; else the detail of a crash is a signal's number
+
+
+def cut_moment(line):
+    """The line of an event, and its moment where it has one."""
+    words = line.split() if line.count(" ") > 2 else ()
+    return (" ".join(words[:3]), [int(words[3])]) if len(words) == 4 else (line, [])
+
+
+def read_logs(text):
+    """The logs in what a program wrote. One without an end is that of a run in which the program broke down."""
+    logs = []
+    for line in text.split("\n"):
+        word, _, rest = line.partition(" ")
+        if word == "run":
+            number, *more = rest.split()
+            logs.append(Log(int(number), more[0] if more else "", unlogged="unlogged" in more[1:]))
+        elif word in ENDS and logs:
+            logs[-1].end, logs[-1].detail = ENDS[word], line if word == RUNAWAY else rest
+        elif word == "stack" and logs:
+            logs[-1].stacks.append(rest)
+        elif word == "turn" and logs:
+            logs[-1].turns.append([int(number) for number in rest.split()])
+        elif word in ("start", "finish", "overflow") and logs:
+            event, moment = cut_moment(line)
+            logs[-1].events.append(event)
+            logs[-1].moments += moment
+    return logs
+
+
+def launch(program, conditions, environment):
+    """The logs of all runs; after a hang or a crash the rest is not run."""
+    written, complaints, status = run_to_end(program, conditions, environment)
+    logs = read_logs(written)
+    if status != 0 and (not logs or logs[-1].end == "done"):
+        logs.append(Log(len(logs)))
+    for log in logs:
+        if log.end == "crashed" and not log.detail.startswith(RUNAWAY):
+            log.detail = breakdown(log.detail, status, complaints)
+            log.end = "hung" if status is None else "crashed"
+    return logs
+
+
+def command_of(program, conditions):
+    """The words with which a program is started, and what its environment has besides."""
+    setting = SETTINGS[conditions.setting]
+    processors = sorted(os.sched_getaffinity(0))
+    processor = processors[conditions.seed % len(processors)]
+    words = [word.format(processor=processor) for word in setting.words]
+    return [*words, str(program), *conditions.words()], setting.variables
+
+
+def run_to_end(program, conditions, environment):
+    """What a program wrote, on both streams, and its status: None if it had to be killed, since it did not even give
+    up by itself."""
+    words, variables = command_of(program, conditions)
+    with subprocess.Popen(words, stdout=subprocess.PIPE, stderr=subprocess.PIPE, text=True,
+                          env={**environment, **variables}) as process:
+        try:
+            written, complaints = process.communicate(timeout=(conditions.runs + LONGEST) * conditions.timeout)
+            return written, complaints, process.returncode
+        except subprocess.TimeoutExpired:
+            process.kill()
+            return *process.communicate(), None
+
+
+def breakdown(signal, status, complaints):
+    """How a program broke down: its signal or status, and the line that says most of its complaint."""
+    if status is None:
+        return ""
+    how = f"signal {signal or -status}" if signal or status < 0 else f"status {status}"
+    line = complaint_of(complaints)
+    return f"{how}: {line}" if line else how
+
+
+def complaint_of(complaints):
+    """The first line with words, or the last word of a sanitizer."""
+    lines = [line.strip()[:200] for line in complaints.split("\n") if any(map(str.isalpha, line))]
+    return next((line for line in lines if line.startswith(SANITIZED)), lines[0] if lines else "")

@@ -1,0 +1,160 @@
+"""Self-checking programs: C and C++ files that judge for themselves what the language of the texts cannot say.
+
+Each stands in self_checking/, named for what it shows. Its first comment says that; `// openmp:` names sections of
+OpenMP 5.2, and `// env:` the variables that it needs. Status 0: as the standard says; 1: not so, and each line that it
+prints says what was seen and what is right.
+"""
+import collections
+import re
+import subprocess
+import time
+from dataclasses import dataclass
+
+from spanprof.conformance.judge.cases import Case, Failure, Tally
+from spanprof.conformance.data import DATA
+from spanprof.conformance.judge.verdicts import Verdict
+from spanprof.conformance.run.launch import breakdown
+from spanprof.conformance.run.settings import SETTINGS, is_of_harness
+from spanprof.conformance.judge.standing import without_places
+from spanprof.conformance.run.toolchain import BuildFailed
+
+FOLDER = DATA / "self_checking"
+VARIANT = "self-checking"
+INCLUDED = '#include "expect.h"\n'
+RUNS = 2                # on each number of threads; each run has rounds of its own
+LOOKS, APART = 5, 0.1   # at the processor time of a program that hangs, and the seconds between them
+MOST_LINES = 3
+BROKEN_DOWN = ("internal compiler error", "PLEASE submit a bug report")
+TICKS = slice(11, 13)   # of the fields behind a process's name in /proc: its time in user and in system code
+
+
+@dataclass(frozen=True)
+class SelfChecking:
+    """What the head of a file says."""
+    name: str
+    shows: str
+    sections: tuple
+    variables: tuple    # pairs of a name and a value
+
+    @property
+    def case(self):
+        return Case(self.name, (), VARIANT, 0)
+
+
+def files():
+    return sorted([*FOLDER.glob("*.c"), *FOLDER.glob("*.cpp")])
+
+
+def read(path):
+    head = re.match(r"(?://.*\n)+", path.read_text()).group()
+    lines = [line.removeprefix("//").strip() for line in head.splitlines()]
+    keyed = {key: [line.removeprefix(key).strip() for line in lines if line.startswith(key)]
+             for key in ("openmp:", "env:")}
+    shows = " ".join(line for line in lines if not line.startswith(("openmp:", "env:")))
+    sections = tuple(section.strip() for line in keyed["openmp:"] for section in line.split(","))
+    return SelfChecking(path.stem, shows, sections,
+                        tuple(tuple(word.split("=", 1)) for line in keyed["env:"] for word in line.split()))
+
+
+def programs():
+    return [read(path) for path in files()]
+
+
+def path_of(name):
+    return next(path for path in files() if path.stem == name)
+
+
+def source(name):
+    """One file that needs no other: `expect.h` stands where it was included."""
+    return path_of(name).read_text().replace(INCLUDED, (FOLDER / "expect.h").read_text())
+
+
+def cases(match):
+    """Of the programs whose names pass a test."""
+    return [program.case for program in programs() if match(program.name)]
+
+
+def is_self_checking(case):
+    return case.variant == VARIANT
+
+
+def try_case(bench, case, all_conditions):
+    """A tally for each of the conditions."""
+    try:
+        program = bench.toolchain.build_alone(source(case.name), case.name, path_of(case.name).suffix)
+    except BuildFailed as refused:
+        return [not_built(case, c, str(refused)) for c in all_conditions]
+    told = read(path_of(case.name))
+    return [tally(bench, case, told, program, conditions) for conditions in all_conditions]
+
+
+def not_built(case, conditions, said):
+    """A compiler may lack a construct; that it breaks down is a failure."""
+    if any(words in said for words in BROKEN_DOWN):
+        verdict = Verdict("not built", said)
+        return Tally(conditions, failures=[Failure(case, conditions, verdict, "not built", said, None)])
+    error = next((line for line in said.splitlines() if "error: " in line), said).partition("error: ")[2]
+    return Tally(conditions, expected=collections.Counter({f"{case.name} is not built: {error}": 1}))
+
+
+def tally(bench, case, told, program, conditions):
+    out = Tally(conditions)
+    for _ in range(min(RUNS, conditions.runs)):
+        verdict = run(program, told, conditions, bench.environment)
+        out.runs += 1
+        if not verdict.accepted:
+            out.failures.append(failure(case, conditions, verdict))
+        if verdict.kind in ("hung", "crashed"):
+            break
+    return bench.expectations.settled(out)
+
+
+def failure(case, conditions, verdict):
+    """A hang of a program is told apart from that of another by its name, all else by what the program says."""
+    rule = case.name if verdict.kind == "hung" else rule_of(verdict.detail)
+    return Failure(case, conditions, verdict, rule, f"{case.name}: {verdict.detail}", None)
+
+
+def rule_of(detail):
+    """What is right, without numbers that differ from run to run."""
+    return without_places(re.sub(r": -?\d+ was seen.*", "", detail.split("\n")[0]))
+
+
+def run(program, told, conditions, environment):
+    """The verdict on one run."""
+    setting = SETTINGS[conditions.setting]
+    words = [word.format(processor=0) for word in setting.words]
+    variables = {name: value for name, value in setting.variables.items() if not is_of_harness(name)}
+    variables.update(told.variables, OMP_NUM_THREADS=str(conditions.threads))
+    with subprocess.Popen([*words, str(program)], stdout=subprocess.PIPE, stderr=subprocess.PIPE, text=True,
+                          errors="replace", env={**environment, **variables}) as process:
+        try:
+            written, complaints = process.communicate(timeout=conditions.timeout)
+        except subprocess.TimeoutExpired:
+            how = "asleep" if is_asleep(process.pid) else "busy"
+            process.kill()
+            process.communicate()
+            return Verdict("hung", how)
+    return verdict_on(process.returncode, written, complaints)
+
+
+def verdict_on(status, written, complaints):
+    if status == 0:
+        return Verdict("accepted")
+    lines = list(dict.fromkeys(written.splitlines()))
+    if status == 1 and lines:
+        return Verdict("wrong", "\n".join(lines[:MOST_LINES]))
+    return Verdict("crashed", breakdown("", status, complaints))
+
+
+def is_asleep(pid):
+    """Whether a process takes no processor time at some looks."""
+    def ticks():
+        with open(f"/proc/{pid}/stat", encoding="utf-8") as file:
+            return file.read().rpartition(")")[2].split()[TICKS]
+    first = ticks()
+    for _ in range(LOOKS):
+        time.sleep(APART)
+        if ticks() != first:
+            return False
+    return True

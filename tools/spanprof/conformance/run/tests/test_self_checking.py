@@ -1,0 +1,94 @@
+import subprocess
+import unittest
+from types import SimpleNamespace
+
+from spanprof.conformance.run import self_checking
+from spanprof.conformance.judge.cases import Case
+from spanprof.conformance.judge.expected import Expectations
+from spanprof.conformance.judge.verdicts import Verdict
+from spanprof.conformance.run.launch import Conditions
+from spanprof.conformance.run.toolchain import BuildFailed
+
+CONDITIONS = Conditions(2, 8, 1, 0, 10)
+
+
+def bench(build):
+    return SimpleNamespace(toolchain=SimpleNamespace(build_alone=build), environment={"PATH": "/usr/bin:/bin"},
+                           expectations=Expectations("", ()))
+
+
+def script(lines):
+    """A program in place of a built one."""
+    def build(_text, name, _suffix):
+        path = f"/tmp/spanprof-test-{name}.sh"
+        with open(path, "w", encoding="utf-8") as file:
+            file.write("#!/bin/sh\n" + lines)
+        subprocess.run(["chmod", "+x", path], check=True)
+        return path
+    return build
+
+
+class Files(unittest.TestCase):
+    def test_heads_say_what_is_shown_and_where_it_stands(self):
+        for program in self_checking.programs():
+            with self.subTest(program.name):
+                self.assertTrue(program.shows.endswith("."))
+                self.assertTrue(all(section[0].isdigit() for section in program.sections))
+
+    def test_variables_of_a_head(self):
+        self.assertEqual(self_checking.read(self_checking.path_of("cancel_loop")).variables,
+                         (("OMP_CANCELLATION", "true"),))
+
+    def test_source_needs_no_other_file(self):
+        self.assertNotIn('#include "', self_checking.source("cancel_loop"))
+        self.assertIn("static inline void expect(", self_checking.source("cancel_loop"))
+
+
+class Verdicts(unittest.TestCase):
+    def test_status(self):
+        self.assertTrue(self_checking.verdict_on(0, "", "").accepted)
+        self.assertEqual(self_checking.verdict_on(1, "the sum: 26 was seen, 32 is right\n", ""),
+                         Verdict("wrong", "the sum: 26 was seen, 32 is right"))
+        self.assertEqual(self_checking.verdict_on(-6, "", "Assertion failure\n"),
+                         Verdict("crashed", "signal 6: Assertion failure"))
+
+    def test_rule_has_no_numbers_of_one_run(self):
+        self.assertEqual(self_checking.rule_of("the sum: -26 was seen, 32 is right"), "the sum")
+
+
+class Tries(unittest.TestCase):
+    CASE = Case("cancel_loop", (), self_checking.VARIANT, 0)
+
+    def tally(self, lines):
+        return self_checking.try_case(bench(script(lines)), self.CASE, [CONDITIONS])[0]
+
+    def test_accepted(self):
+        tally = self.tally('[ "$OMP_NUM_THREADS$OMP_CANCELLATION" = 2true ]')
+        self.assertEqual((tally.runs, tally.failures), (self_checking.RUNS, []))
+
+    def test_wrong(self):
+        tally = self.tally("echo 'turns: 12 was seen, 11 is right'; exit 1")
+        self.assertEqual([failure.rule for failure in tally.failures], ["turns"] * self_checking.RUNS)
+
+    def test_hangs_asleep_and_is_not_run_again(self):
+        conditions = Conditions(2, 8, 1, 0, 1)
+        tally = self_checking.try_case(bench(script("exec sleep 60")), self.CASE, [conditions])[0]
+        self.assertEqual([(failure.verdict, failure.rule) for failure in tally.failures],
+                         [(Verdict("hung", "asleep"), "cancel_loop")])
+
+    def refused(self, said):
+        def refuse(*_):
+            raise BuildFailed(said)
+        return self_checking.try_case(bench(refuse), self.CASE, [CONDITIONS])[0]
+
+    def test_a_construct_that_the_compiler_lacks(self):
+        tally = self.refused("p.c: in main:\np.c:3:1: error: no scope\n")
+        self.assertEqual((tally.failures, dict(tally.expected)), ([], {"cancel_loop is not built: no scope": 1}))
+
+    def test_a_compiler_that_breaks_down(self):
+        tally = self.refused("p.c:3:1: internal compiler error: Segmentation fault\n")
+        self.assertEqual(tally.failures[0].verdict.kind, "not built")
+
+
+if __name__ == "__main__":
+    unittest.main()
