@@ -1,5 +1,5 @@
 #!/usr/bin/env python3
-"""Compares what gcc's runtime exports with the recorder's table of it (tools/openmp_recorder/gomp/exports.txt).
+"""Compares what gcc's runtime exports with the recorder's table, tools/openmp_recorder/recorder/gomp/exports.txt.
 
 exports.py [LIBRARY ..]: that of gcc, or these. Each function has one line of the table, by the longest pattern that
 fits; those that are recorded are the ones that librecorder.so has. Status 1: a function is new, or one is not recorded.
@@ -47,7 +47,7 @@ def exported_by(library):
 
 
 def main(libraries):
-    with open(os.path.join(RECORDER, "gomp", "exports.txt"), encoding="utf-8") as file:
+    with open(os.path.join(RECORDER, "recorder", "gomp", "exports.txt"), encoding="utf-8") as file:
         lines = lines_of(file.read())
     recorded = exported_by(os.path.join(RECORDER, "librecorder.so"))
     wrong = 0

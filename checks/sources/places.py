@@ -92,7 +92,7 @@ def main(arguments):
     marks = statements(files["crates/program_text/specs/Words.antt"])
     code = {path: text for path, text in files.items() if not NO_CODE.search(path)}
     kinds = causes(files["tools/spanprof/diagnosis/causes.py"])
-    told = events(files["tools/openmp_recorder/told.hpp"])
+    told = events(files["tools/openmp_recorder/shared/told.hpp"])
     asked = [("command", "To add a command", files, words, len(words - PLAIN_ENGLISH) - 1),
              ("statement", "To add a statement or a clause of the text", code, marks, 2),
              ("cause", "To add a cause of the diagnosis", files, kinds, len(kinds) - 1),

@@ -2,9 +2,9 @@
 
 #include <utility>
 
-#include "../compose.hpp"
-#include "../events.hpp"
-#include "../size.hpp"
+#include "compose.hpp"
+#include "events.hpp"
+#include "size.hpp"
 #include "check.hpp"
 
 Made::Made(unsigned many) : count(many) {

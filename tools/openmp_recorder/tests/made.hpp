@@ -6,8 +6,8 @@
 #include <string>
 #include <vector>
 
-#include "../run.hpp"
-#include "../text.hpp"
+#include "run.hpp"
+#include "text.hpp"
 
 class Kept : public Records {  // records that are kept in a list
  public:

@@ -3,9 +3,9 @@
 
 #include <utility>
 
-#include "../clocks.hpp"
-#include "../program_time.hpp"
-#include "../records.hpp"
+#include "clocks.hpp"
+#include "program_time.hpp"
+#include "records.hpp"
 #include "check.hpp"
 #include "made.hpp"
 

@@ -1,6 +1,6 @@
 // A region whose threads make tasks, before and after barriers.
-#include "../compose.hpp"
-#include "../program_time.hpp"
+#include "compose.hpp"
+#include "program_time.hpp"
 #include "check.hpp"
 #include "made.hpp"
 

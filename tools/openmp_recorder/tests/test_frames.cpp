@@ -7,8 +7,8 @@
 #include <string>
 #include <vector>
 
-#include "../frames.hpp"
-#include "../registers.hpp"
+#include "frames.hpp"
+#include "registers.hpp"
 #include "check.hpp"
 
 #if defined(__x86_64__)

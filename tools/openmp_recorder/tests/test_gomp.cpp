@@ -1,7 +1,7 @@
 #include <vector>
 
-#include "../gomp/items.hpp"
-#include "../gomp/turns.hpp"
+#include "gomp/items.hpp"
+#include "gomp/turns.hpp"
 #include "check.hpp"
 
 namespace {

@@ -1,8 +1,8 @@
 // The beginning of the whole program that is let go.
-#include "../head.hpp"
-#include "../span.hpp"
-#include "../stretches.hpp"
-#include "../text.hpp"
+#include "head.hpp"
+#include "span.hpp"
+#include "stretches.hpp"
+#include "text.hpp"
 #include "whole.hpp"
 
 namespace {

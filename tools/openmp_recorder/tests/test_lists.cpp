@@ -1,10 +1,10 @@
 // The lists and tables that tasks are kept in, and the pieces that texts are put together in.
-#include "../locations.hpp"
-#include "../piece.hpp"
-#include "../run.hpp"
-#include "../short_list.hpp"
-#include "../task_list.hpp"
-#include "../task_numbers.hpp"
+#include "locations.hpp"
+#include "piece.hpp"
+#include "run.hpp"
+#include "short_list.hpp"
+#include "task_list.hpp"
+#include "task_numbers.hpp"
 #include "check.hpp"
 
 namespace {

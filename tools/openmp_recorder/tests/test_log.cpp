@@ -9,10 +9,10 @@
 #include <cstring>
 #include <stdexcept>
 
-#include "../elf_file.hpp"
-#include "../log_damage.hpp"
-#include "../log_reader.hpp"
-#include "../run_files.hpp"
+#include "elf_file.hpp"
+#include "log_damage.hpp"
+#include "log_reader.hpp"
+#include "run_files.hpp"
 #include "check.hpp"
 
 namespace {

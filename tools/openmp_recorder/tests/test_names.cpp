@@ -1,5 +1,5 @@
 // Names of functions.
-#include "../names.hpp"
+#include "names.hpp"
 #include "check.hpp"
 
 TEST(names_of_cpp_are_demangled) {

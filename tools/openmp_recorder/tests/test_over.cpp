@@ -1,7 +1,7 @@
 // Regions that are let go when they are over.
-#include "../chosen.hpp"
-#include "../compose.hpp"
-#include "../program_time.hpp"
+#include "chosen.hpp"
+#include "compose.hpp"
+#include "program_time.hpp"
 #include "check.hpp"
 #include "made.hpp"
 

@@ -1,7 +1,7 @@
 // What places are called where several paths of calls led to a creation.
 #include <cstdint>
 
-#include "../call_paths.hpp"
+#include "call_paths.hpp"
 #include "check.hpp"
 #include "made.hpp"
 

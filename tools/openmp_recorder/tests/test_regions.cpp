@@ -1,6 +1,6 @@
 // Which regions are written, and the table of them all.
-#include "../chosen.hpp"
-#include "../region_table.hpp"
+#include "chosen.hpp"
+#include "region_table.hpp"
 #include "check.hpp"
 
 namespace {

@@ -2,8 +2,8 @@
 #include <set>
 #include <string>
 
-#include "../remarks.hpp"
-#include "../source.hpp"
+#include "remarks.hpp"
+#include "source.hpp"
 #include "check.hpp"
 
 // Each remark says which number it moves, and in which direction.

@@ -7,7 +7,7 @@
 #include <string>
 #include <vector>
 
-#include "../sampled_calls.hpp"
+#include "sampled_calls.hpp"
 #include "whole.hpp"
 
 namespace {

@@ -6,10 +6,10 @@
 #include <fstream>
 #include <string>
 
-#include "../callers.hpp"
-#include "../known_stacks.hpp"
-#include "../logged_paths.hpp"
-#include "../path_numbers.hpp"
+#include "callers.hpp"
+#include "known_stacks.hpp"
+#include "logged_paths.hpp"
+#include "path_numbers.hpp"
 #include "check.hpp"
 
 extern "C" char __start_made_runtime[], __stop_made_runtime[];  // by the linker

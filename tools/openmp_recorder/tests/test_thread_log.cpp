@@ -1,5 +1,5 @@
 // What a thread of the program appends is what is read, wherever the program is killed.
-#include "../thread_log.hpp"
+#include "thread_log.hpp"
 
 #include <sys/stat.h>
 #include <unistd.h>
@@ -7,8 +7,8 @@
 #include <cstdio>
 #include <cstdlib>
 
-#include "../log_head.hpp"
-#include "../thread_reader.hpp"
+#include "log_head.hpp"
+#include "thread_reader.hpp"
 #include "check.hpp"
 
 namespace {

@@ -1,8 +1,8 @@
 // The whole program as one text.
-#include "../events.hpp"
-#include "../head.hpp"
-#include "../program_time.hpp"
-#include "../span.hpp"
+#include "events.hpp"
+#include "head.hpp"
+#include "program_time.hpp"
+#include "span.hpp"
 #include "check.hpp"
 #include "whole.hpp"
 

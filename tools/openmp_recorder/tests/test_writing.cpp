@@ -4,15 +4,15 @@
 
 #include <csignal>
 
-#include "../events.hpp"
-#include "../files.hpp"
-#include "../size.hpp"
-#include "../head.hpp"
-#include "../merge.hpp"
-#include "../modules.hpp"
-#include "../program_start.hpp"
-#include "../program_time.hpp"
-#include "../run_files.hpp"
+#include "events.hpp"
+#include "files.hpp"
+#include "size.hpp"
+#include "head.hpp"
+#include "merge.hpp"
+#include "modules.hpp"
+#include "program_start.hpp"
+#include "program_time.hpp"
+#include "run_files.hpp"
 #include "check.hpp"
 #include "made.hpp"
 

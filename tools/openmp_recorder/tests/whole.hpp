@@ -4,10 +4,10 @@
 #include <utility>
 #include <vector>
 
-#include "../events.hpp"
-#include "../size.hpp"
-#include "../stretches.hpp"
-#include "../whole_program.hpp"
+#include "events.hpp"
+#include "size.hpp"
+#include "stretches.hpp"
+#include "whole_program.hpp"
 #include "check.hpp"
 #include "made.hpp"
 

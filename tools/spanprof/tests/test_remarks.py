@@ -8,7 +8,7 @@ from spanprof.claims import moved
 from spanprof.head import Head
 from spanprof.remarks import UNFINISHED, WORDS, in_json, in_words, read_remark, remark_of
 
-RECORDER = os.path.join(os.path.dirname(os.path.abspath(__file__)), "../../openmp_recorder/remarks.cpp")
+RECORDER = os.path.join(os.path.dirname(os.path.abspath(__file__)), "../../openmp_recorder/converter/remarks.cpp")
 
 
 class Remarks(unittest.TestCase):

@@ -2,10 +2,10 @@
 
 #include <unistd.h>
 
-#include "../callbacks.hpp"
-#include "../callers.hpp"
-#include "../life.hpp"
-#include "../program_start.hpp"
+#include "callbacks.hpp"
+#include "callers.hpp"
+#include "life.hpp"
+#include "program_start.hpp"
 #include "own.hpp"
 
 __thread Here this_here;

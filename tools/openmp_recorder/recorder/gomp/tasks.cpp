@@ -1,6 +1,6 @@
 #include "tasks.hpp"
 
-#include "../callbacks.hpp"
+#include "callbacks.hpp"
 #include "items.hpp"
 #include "own.hpp"
 #include "waits.hpp"

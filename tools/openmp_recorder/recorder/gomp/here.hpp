@@ -4,7 +4,7 @@
 
 #include <cstdint>
 
-#include "../log_head.hpp"
+#include "log_head.hpp"
 
 struct Here {
   ompt_data_t *task;  // that runs; of an implicit one the number is the log's

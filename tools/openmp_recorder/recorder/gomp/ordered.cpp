@@ -4,8 +4,8 @@
 #include <algorithm>
 #include <vector>
 
-#include "../callbacks.hpp"
-#include "../told.hpp"
+#include "callbacks.hpp"
+#include "told.hpp"
 #include "here.hpp"
 #include "own.hpp"
 

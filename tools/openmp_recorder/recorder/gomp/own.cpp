@@ -7,7 +7,7 @@
 #include <cstring>
 #include <string>
 
-#include "../say.hpp"
+#include "say.hpp"
 
 namespace {
 // A library that the program brings along may have a name of its own: libgomp-24e2ab19.so.1.0.0.

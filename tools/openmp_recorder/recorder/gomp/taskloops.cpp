@@ -3,7 +3,7 @@
 
 #include <algorithm>
 
-#include "../callbacks.hpp"
+#include "callbacks.hpp"
 #include "own.hpp"
 #include "tasks.hpp"
 #include "turns.hpp"

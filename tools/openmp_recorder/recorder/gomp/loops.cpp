@@ -1,6 +1,6 @@
 // Loops and sections, whose chunks a thread gets one by one. Of a static loop whose chunks gcc's code finds by itself
 // nothing is called.
-#include "../callbacks.hpp"
+#include "callbacks.hpp"
 #include "here.hpp"
 #include "own.hpp"
 #include "turns.hpp"

@@ -1,7 +1,7 @@
 // Locks: `critical`, `atomic` where it takes one, and those of the library, also as Fortran calls them.
 #include <cstdint>
 
-#include "../callbacks.hpp"
+#include "callbacks.hpp"
 #include "here.hpp"
 #include "own.hpp"
 

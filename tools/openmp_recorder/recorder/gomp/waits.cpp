@@ -1,5 +1,5 @@
 // Waits for tasks, groups, barriers, and what is cancelled.
-#include "../callbacks.hpp"
+#include "callbacks.hpp"
 #include "here.hpp"
 #include "items.hpp"
 #include "own.hpp"

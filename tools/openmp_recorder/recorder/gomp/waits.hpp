@@ -2,7 +2,7 @@
 #pragma once
 #include <omp-tools.h>
 
-#include "../callbacks.hpp"
+#include "callbacks.hpp"
 #include "here.hpp"
 
 void begin_group(const void *place);

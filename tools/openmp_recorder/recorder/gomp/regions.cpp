@@ -2,7 +2,7 @@
 // there: its end is told when it begins its next part.
 #include <memory>
 
-#include "../callbacks.hpp"
+#include "callbacks.hpp"
 #include "here.hpp"
 #include "own.hpp"
 #include "turns.hpp"
