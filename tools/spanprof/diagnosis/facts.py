@@ -1,7 +1,8 @@
 """What is known of one recorded run, as plain data: everything else of a diagnosis is made of it."""
 import re
 import statistics
-from dataclasses import dataclass, field
+from collections import Counter
+from dataclasses import dataclass, field, replace
 from types import SimpleNamespace
 from typing import Dict, List, Optional
 
@@ -11,9 +12,10 @@ from spanprof.client import named_numbers
 from spanprof.diagnosis.asked import head_of, numbers_at, with_lines
 from spanprof.diagnosis.calls import Sampled, calls_of, plain
 from spanprof.diagnosis.lock_times import locks_of
-from spanprof.diagnosis.places import in_text, read_program
+from spanprof.diagnosis.places import AROUND_REGIONS, in_text, read_program
+from spanprof.idle import idle_by_place, most_at_once
 from spanprof.recording import document
-from spanprof.regions import program_of
+from spanprof.regions import program_of, union
 
 RUNTIMES = {"llvm": "LLVM", "gnu": "gcc"}
 EXCLUDING = "mutexinoutset"     # the remark of a text that has inoutset in its place
@@ -122,7 +124,29 @@ def breakdown(program, head, work, timed):
 def set_breakdown(facts, found):
     for name, part in found.parts.items():
         setattr(facts, name.replace(" ", "_"), part)
+def of_those_at_once(found, threads):
+    """The account of as many threads as the program had at a time: nested regions may each make new ones."""
+    threads = max(threads, most_at_once(found.rows))
+    if threads == found.threads:
+        return found
+    delayed, starved = (sum(parts.values()) for parts in idle_by_place(found.rows, found.places, threads))
+    return replace(found, threads=threads, delayed=delayed, starved=starved,
+                   outside=threads * found.elapsed - found.busy - delayed - starved)
+
+
+def starting_shares(found):
+    """Of the delays of threads' own code, and of code after regions, by place: as much as a runtime takes."""
+    whole, starting = Counter(), Counter()
+    for row, name in zip(found.rows, found.places):
+        if name.startswith(AROUND_REGIONS):
+            whole[name] += row.begin - row.ready
+            starting[name] += min(row.begin - row.ready, A_START)
+    return {name: starting[name] / time for name, time in whole.items() if time}
+
+
     facts.delayed_by, facts.starved_by = found.delayed_by, found.starved_by
+    found = of_those_at_once(found, facts.threads)
+    facts.threads = found.threads
 
 
 def set_by_greedy(facts):
@@ -183,9 +207,18 @@ def regions_of(path, meta):
     """By place; those inside others are left out, since their threads are not of the team."""
     asked = {team["place"]: team.get("asked") for team in meta.get("teams") or []}
     program = program_of(path)
+def elapsed_in(place, program):
+    """Of its regions outside of others; of those of one thread without those inside them that had several."""
+    outer = [(region.begin, region.end) for region in place.regions if not region.inside]
+    inner = [(region.begin, region.end) for region in program.regions if region.inside and region.threads > 1]
+    is_alone = all(region.threads == 1 for region in place.regions)
+    return union(outer + inner) - union(inner) if is_alone else place.outermost
+
+
     places = [place for place in program.places if not place.is_inside] if program else []
-    return [Region(place.name, max(region.threads for region in place.regions), place.outermost,
-                   asked.get(place.name)) for place in places]
+    return [Region(place.name, max(region.threads for region in place.regions), elapsed_in(place, program),
+                   asked.get(place.name), sum(not region.inside for region in place.regions))
+            for place in places]
 
 
 def of_text(head, program, numbers):
