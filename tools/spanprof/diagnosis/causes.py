@@ -32,6 +32,8 @@ TABLE = (
           "larger tasks at {at}: a cutoff or grainsize"),
     Cause("creation", 0.1, "one thread creates all {all_tasks} tasks, {average_task} each: the others wait for it",
           "create the tasks of {at} in several tasks: taskloop"),
+    Cause("small_regions", 0.1, "{regions} at {where} take {region_time} each: starting them costs too much",
+          "larger regions than at {where}: around the outer loop"),
     Cause("undeferred", 0.05, "{tasks} of {where} run immediately, in the thread that creates them"),
     Cause("loop_schedule", 0.05, "threads wait at the end of {at}: its work is shared out unevenly",
           "schedule(dynamic) at {at}, or smaller chunks"),

@@ -17,6 +17,7 @@ from spanprof.idle import idle_by_place, most_at_once
 from spanprof.recording import document
 from spanprof.regions import program_of, union
 
+A_START = 50000         # nanoseconds: a thread starts a region's code in less, or goes on after it
 RUNTIMES = {"llvm": "LLVM", "gnu": "gcc"}
 EXCLUDING = "mutexinoutset"     # the remark of a text that has inoutset in its place
 OF_GCC = "lines of gcc"         # that of a text whose tasks or waits are of gcc's code
@@ -29,6 +30,7 @@ class Region:
     threads: int
     elapsed: int
     asked: Optional[int] = None
+    times: int = 1
 
 
 @dataclass
@@ -55,6 +57,7 @@ class Facts:
     outside: int = 0
     delayed_by: Dict[str, int] = field(default_factory=dict)
     starved_by: Dict[str, int] = field(default_factory=dict)
+    starting_by: Dict[str, float] = field(default_factory=dict)     # of `delayed_by`, while regions start and end
     asleep_by: Dict[str, int] = field(default_factory=dict)
     preempted_by: Dict[str, int] = field(default_factory=dict)
     calls: Sampled = Sampled({}, {})
@@ -121,9 +124,6 @@ def breakdown(program, head, work, timed):
     return completed(Account(**sums, rows=rows, places=program.names), SimpleNamespace(head=head, work=work))
 
 
-def set_breakdown(facts, found):
-    for name, part in found.parts.items():
-        setattr(facts, name.replace(" ", "_"), part)
 def of_those_at_once(found, threads):
     """The account of as many threads as the program had at a time: nested regions may each make new ones."""
     threads = max(threads, most_at_once(found.rows))
@@ -144,9 +144,13 @@ def starting_shares(found):
     return {name: starting[name] / time for name, time in whole.items() if time}
 
 
-    facts.delayed_by, facts.starved_by = found.delayed_by, found.starved_by
+def set_breakdown(facts, found):
     found = of_those_at_once(found, facts.threads)
     facts.threads = found.threads
+    for name, part in found.parts.items():
+        setattr(facts, name.replace(" ", "_"), part)
+    facts.delayed_by, facts.starved_by = found.delayed_by, found.starved_by
+    facts.starting_by = starting_shares(found)
 
 
 def set_by_greedy(facts):
@@ -203,10 +207,6 @@ def set_meta(facts, meta):
     facts.cost_on_one = meta.get("cost_on_one")
 
 
-def regions_of(path, meta):
-    """By place; those inside others are left out, since their threads are not of the team."""
-    asked = {team["place"]: team.get("asked") for team in meta.get("teams") or []}
-    program = program_of(path)
 def elapsed_in(place, program):
     """Of its regions outside of others; of those of one thread without those inside them that had several."""
     outer = [(region.begin, region.end) for region in place.regions if not region.inside]
@@ -215,6 +215,10 @@ def elapsed_in(place, program):
     return union(outer + inner) - union(inner) if is_alone else place.outermost
 
 
+def regions_of(path, meta):
+    """By place; those inside others are left out, since their threads are not of the team."""
+    asked = {team["place"]: team.get("asked") for team in meta.get("teams") or []}
+    program = program_of(path)
     places = [place for place in program.places if not place.is_inside] if program else []
     return [Region(place.name, max(region.threads for region in place.regions), elapsed_in(place, program),
                    asked.get(place.name), sum(not region.inside for region in place.regions))
