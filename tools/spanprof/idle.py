@@ -50,6 +50,15 @@ def rounded(parts):
     return dict(sorted(out.items(), key=lambda pair: (-pair[1], str(pair[0]))))
 
 
+def most_at_once(rows):
+    """How many segments ran at once."""
+    most = now = 0
+    for _, more in sorted([(row.end, -1) for row in rows] + [(row.begin, 1) for row in rows]):
+        now += more
+        most = max(most, now)
+    return most
+
+
 def idle_by_place(rows, places, threads):
     """Delayed and starved time by place, of rows with `ready`, `begin` and `end`."""
     delayed, starved = Shared(), Shared()

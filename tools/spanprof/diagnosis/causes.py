@@ -32,6 +32,8 @@ TABLE = (
           "larger tasks at {at}: a cutoff or grainsize"),
     Cause("creation", 0.1, "one thread creates all {all_tasks} tasks, {average_task} each: the others wait for it",
           "create the tasks of {at} in several tasks: taskloop"),
+    Cause("small_regions", 0.1, "{regions} at {where} take {region_time} each: starting them costs too much",
+          "larger regions than at {where}: around the outer loop"),
     Cause("undeferred", 0.05, "{tasks} of {where} run immediately, in the thread that creates them"),
     Cause("loop_schedule", 0.05, "threads wait at the end of {at}: its work is shared out unevenly",
           "schedule(dynamic) at {at}, or smaller chunks"),
@@ -55,8 +57,8 @@ BY_KIND = {cause.kind: cause for cause in TABLE}
 # Short names of them, and of what is lost without a cause.
 NAMES = {"serial": "serial", "too_few_tasks": "too few tasks", "dependence": "dependences", "wait": "waits",
          "imbalance": "uneven tasks", "small_tasks": "small tasks", "creation": "creating tasks",
-         "undeferred": "undeferred tasks", "loop_schedule": "loop schedule", "lock": "lock", "exclusion": "exclusion",
-         "memory": "memory", "system": "operating system", "sleep": "asleep", "too_few_threads": "too few threads",
+         "small_regions": "small regions", "undeferred": "undeferred tasks", "loop_schedule": "loop schedule",
+         "lock": "lock", "exclusion": "exclusion", "memory": "memory", "system": "operating system", "sleep": "asleep", "too_few_threads": "too few threads",
          "too_many_threads": "too many threads", "machine": "busy machine", "recorder": "recorder",
          "startup": "startup"}
 EFFICIENT = 0.85        # of the threads' time in code, from which on nothing need be lost

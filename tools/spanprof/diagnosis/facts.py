@@ -1,20 +1,23 @@
 """What is known of one recorded run, as plain data: everything else of a diagnosis is made of it."""
 import re
 import statistics
-from dataclasses import dataclass, field
+from collections import Counter
+from dataclasses import dataclass, field, replace
 from typing import Dict, List, Optional
 
 from spanprof.account import account_of
 from spanprof.account_program import NoAccount
 from spanprof.diagnosis.calls import Sampled, calls_of, plain
 from spanprof.diagnosis.lock_times import locks_of
-from spanprof.diagnosis.places import in_text, read_program
+from spanprof.diagnosis.places import AROUND_REGIONS, in_text, read_program
 from spanprof.head import head_of
+from spanprof.idle import idle_by_place, most_at_once
 from spanprof.recording import document
-from spanprof.regions import program_of
+from spanprof.regions import program_of, union
 from spanprof.text_file import TextFile
 from spanprof.whatif.numbers import numbers_of
 
+A_START = 50000         # nanoseconds: a thread starts a region's code in less, or goes on after it
 RUNTIMES = {"llvm": "LLVM", "gnu": "gcc"}
 EXCLUDING = "mutexinoutset"     # the remark of a text that has inoutset in its place
 OF_GCC = "lines of gcc"         # that of a text whose tasks or waits are of gcc's code
@@ -27,6 +30,7 @@ class Region:
     threads: int
     elapsed: int
     asked: Optional[int] = None
+    times: int = 1
 
 
 @dataclass
@@ -53,6 +57,7 @@ class Facts:
     outside: int = 0
     delayed_by: Dict[str, int] = field(default_factory=dict)
     starved_by: Dict[str, int] = field(default_factory=dict)
+    starting_by: Dict[str, float] = field(default_factory=dict)     # of `delayed_by`, while regions start and end
     asleep_by: Dict[str, int] = field(default_factory=dict)
     preempted_by: Dict[str, int] = field(default_factory=dict)
     calls: Sampled = Sampled({}, {})
@@ -108,10 +113,33 @@ def function_in(words):
     return plain(re.sub(r"^in ", "", words).partition(", inlined into")[0])
 
 
+def of_those_at_once(found, threads):
+    """The account of as many threads as the program had at a time: nested regions may each make new ones."""
+    threads = max(threads, most_at_once(found.rows))
+    if threads == found.threads:
+        return found
+    delayed, starved = (sum(parts.values()) for parts in idle_by_place(found.rows, found.places, threads))
+    return replace(found, threads=threads, delayed=delayed, starved=starved,
+                   outside=threads * found.elapsed - found.busy - delayed - starved)
+
+
+def starting_shares(found):
+    """Of the delays of threads' own code, and of code after regions, by place: as much as a runtime takes."""
+    whole, starting = Counter(), Counter()
+    for row, name in zip(found.rows, found.places):
+        if name.startswith(AROUND_REGIONS):
+            whole[name] += row.begin - row.ready
+            starting[name] += min(row.begin - row.ready, A_START)
+    return {name: starting[name] / time for name, time in whole.items() if time}
+
+
 def set_breakdown(facts, found):
+    found = of_those_at_once(found, facts.threads)
+    facts.threads = found.threads
     for name, part in found.parts.items():
         setattr(facts, name.replace(" ", "_"), part)
     facts.delayed_by, facts.starved_by = found.delayed_by, found.starved_by
+    facts.starting_by = starting_shares(found)
 
 
 def set_by_greedy(facts):
@@ -168,12 +196,21 @@ def set_meta(facts, meta):
     facts.cost_on_one = meta.get("cost_on_one")
 
 
+def elapsed_in(place, program):
+    """Of its regions outside of others; of those of one thread without those inside them that had several."""
+    outer = [(region.begin, region.end) for region in place.regions if not region.inside]
+    inner = [(region.begin, region.end) for region in program.regions if region.inside and region.threads > 1]
+    is_alone = all(region.threads == 1 for region in place.regions)
+    return union(outer + inner) - union(inner) if is_alone else place.outermost
+
+
 def regions_of(path):
     """By place; those inside others are left out, since their threads are not of the team."""
     program = program_of(path)
     places = [place for place in program.places if not place.is_inside] if program else []
-    return [Region(place.name, max(region.threads for region in place.regions), place.outermost,
-                   max(region.asked for region in place.regions) or None) for place in places]
+    return [Region(place.name, max(region.threads for region in place.regions), elapsed_in(place, program),
+                   max(region.asked for region in place.regions) or None,
+                   sum(not region.inside for region in place.regions)) for place in places]
 
 
 def of_text(head, program, numbers):

@@ -184,10 +184,30 @@ def idle_losses(facts):
     short = min(sum(missing.values()), facts.starved + (facts.target - facts.threads) * facts.elapsed)
     starved = facts.starved + (facts.target - facts.threads) * facts.elapsed - short
     collected(kinds, divided(starved, facts.starved_by or {"": 1}), kind_of_starved, facts, for_sleep=True)
-    collected(kinds, divided(facts.delayed, facts.delayed_by or {"": 1}), kind_of_delayed, facts,
+    delayed = divided(facts.delayed, facts.delayed_by or {"": 1})
+    starting = {name: int(time * starting_share(facts, name)) for name, time in delayed.items()}
+    collected(kinds, starting, lambda *_: "small_regions", facts, off_while_waiting(facts))
+    collected(kinds, {name: time - starting[name] for name, time in delayed.items()}, kind_of_delayed, facts,
               off_while_waiting(facts))
     return start_of(facts, [Loss(*key, time) for key, time in kinds.items()]) + \
         by_place("too_few_threads", short, missing)
+
+
+def starting_share(facts, name):
+    """Of the time for which threads were delayed at a place: as many regions start and end there."""
+    place = facts.places.get(name)
+    is_often = place and place.pieces > MANY * facts.threads and kind_of_preempted(facts) != "too_many_threads"
+    return facts.starting_by.get(name, 0.0) if is_often else 0.0
+
+
+def most_often(facts, found):
+    """The region that lost most by starting and ending."""
+    times = {}
+    for loss in found:
+        if loss.kind == "small_regions" and loss.time:
+            at = facts.places[loss.place].at
+            times[at] = times.get(at, 0) + loss.time
+    return max(times, key=times.get, default="")
 
 
 def missing_threads(facts):
@@ -287,7 +307,7 @@ def losses(facts):
         [Loss("recorder", "", facts.recorder), Loss("startup", "", facts.outside)]
     missing = missing_threads(facts)
     one_place = {"too_many_threads": crowded_region(facts), **dict.fromkeys(FINE, heaviest_name(facts)),
-                 "too_few_threads": max(missing, key=missing.get, default="")}
+                 "too_few_threads": max(missing, key=missing.get, default=""), "small_regions": most_often(facts, found)}
     return merged(loss._replace(place=one_place.get(loss.kind, loss.place)) for loss in found)
 
 

@@ -8,7 +8,9 @@ from spanprof.source_lines import ends_by_segment, line_of
 from spanprof.text import BARRIER, OF_A_THREAD, is_share, named, statements, where
 
 SERIAL, OF_THREADS, TASK, SHARE = "serial", "of threads", "task", "share"
+AFTER_REGION = "after the " + BARRIER
 OWN = named("task", OF_A_THREAD)    # the name of a thread's own code, in a text the same in all regions
+AROUND_REGIONS = (OWN, AFTER_REGION)
 
 
 @dataclass

@@ -81,13 +81,15 @@ def who_asked(facts, region):
 
 
 def words_of_region(facts, names, name):
-    """Of one with too few threads."""
+    """Of those that began at one place."""
     others = len(set(missing_threads(facts)) - {name})
-    out = {"got": "", "who_asked": "", "others": " and in %s" % several(others, "other") if others else "",
+    out = {"got": "", "who_asked": "", "regions": "regions", "region_time": "little time",
+           "others": " and in %s" % several(others, "other") if others else "",
            "in_region": "in the region at " + names.place(name) if name else "in some region"}
     for region in facts.regions:
         if region.place == name:
-            out.update(got=several(region.threads, "thread"), who_asked=who_asked(facts, region))
+            out.update(got=several(region.threads, "thread"), who_asked=who_asked(facts, region),
+                       regions=several(region.times, "region"), region_time=lasting(region.elapsed // region.times))
     return out
 
 
@@ -190,8 +192,9 @@ def sum_lines(found, names):
     return ["%.1f %% %s (measured)" % (100 * share, name) for name, share in shown + [("the rest", rest)]]
 
 
-def unsure(facts, lost):
+def unsure(found, names):
     """What one run cannot tell, or a program without the names of its functions."""
+    facts, lost = found.facts, lost_lines(found, names)
     if any(OFFSET.search(word) for line in lost for word in line.replace(":", " ").split()):
         return "the names of its functions: build it with -g, or install its debug symbols"
     if facts.target == 1:
@@ -212,9 +215,9 @@ def sure_words(found):
     return list(filter(None, parts))
 
 
-def sure_lines(found, lost, more):
+def sure_lines(found, names, more):
     """How much of it is known, and where the rest is."""
-    rest = unsure(found.facts, lost)
+    rest = unsure(found, names)
     told = "%-*s%s" % (LABEL, "sure", ", ".join(sure_words(found)))
     return [shortened(line, WIDTH) for line in filter(None, [
         told, "%-*s%s" % (LABEL, "", "not known: " + rest) if rest else "",
@@ -232,5 +235,5 @@ def short_lines(found, names, more="", news=()):
     plan = [change_line(label, found.facts, names, step)
             for label, step in zip(("do", "then", "then"), found.plan)]
     lost = list(lost_lines(found, names))
-    last = note_lines(list(news)) + sure_lines(found, lost, more)
+    last = note_lines(list(news)) + sure_lines(found, names, more)
     return [shortened(first_line(found), WIDTH)] + lost + plan[:MOST_LINES - 1 - len(lost) - len(last)] + last

@@ -76,14 +76,13 @@ def then(told):
     return [tag("p", "Then, on top of it:"), tag("ol", *rows)] if rows else []
 
 
-def sure(found):
-    facts = found.facts
-    return tag("p", ", ".join(sure_words(found)) + (". Not known: %s." % unsure(facts) if unsure(facts) else "."),
-               class_="sure")
+def sure(told):
+    rest = unsure(told.found, told.names)
+    return tag("p", ", ".join(sure_words(told.found)) + (". Not known: %s." % rest if rest else "."), class_="sure")
 
 
 def first_screen(told):
     """Numbers are in words of the diagnosis: tables below have those that are worked out again."""
     found = told.found
     return tag("div", headline(found), *lost_words(told), times(found), part_bar(told), *first_change(told),
-               *then(told), sure(found), class_="diagnosis given")
+               *then(told), sure(told), class_="diagnosis given")

@@ -2,13 +2,18 @@ import json
 import os
 import tempfile
 import unittest
+from types import SimpleNamespace
 
+from spanprof.account import Account, Row
 from spanprof.diagnosis import facts as module
-from spanprof.diagnosis.facts import Facts, function_in, off_by_segment, regions_of, runtime_name, set_meta, set_off
+from spanprof.diagnosis.facts import (Facts, elapsed_in, function_in, of_those_at_once, off_by_segment, regions_of,
+                                      runtime_name, set_meta, set_off, starting_shares)
 from spanprof.diagnosis.lock_times import Held, locks_of
+from spanprof.diagnosis.places import AFTER_REGION, OWN
 from spanprof.diagnosis.tests.worked import MS, TEXT, facts, program
 from spanprof.head import read_head
 from spanprof.recording import open_recording
+from spanprof.regions import Program, Region
 from spanprof.whatif.numbers import Numbers, OnThreads
 
 HEAD = """# recorded: {"program": "image", "threads": 2, "clock": "wall", "unit": "us"}
@@ -116,6 +121,28 @@ class Recorded(unittest.TestCase):
             finally:
                 module.numbers_of = measured
             self.assertEqual(found.code + found.starved + found.delayed, found.whole_time)
+
+
+class Starting(unittest.TestCase):
+    def test_delays_as_long_as_a_runtime_takes_are_of_regions_that_start(self):
+        rows = [Row(1, 0, 2000, 9000), Row(2, 0, 150000, 160000), Row(0, 160000, 165000, 170000), Row(0, 0, 0, 1)]
+        places = [OWN + " at a.c:3", OWN + " at a.c:3", AFTER_REGION + " at a.c:3", "task at a.c:5"]
+        found = starting_shares(SimpleNamespace(rows=rows, places=places))
+        self.assertEqual(found, {places[0]: 52000 / 152000, places[2]: 1.0})
+
+    def test_threads_that_only_took_turns_are_not_idle(self):
+        rows = [Row(0, 0, 0, 10), Row(5, 10, 10, 30), Row(0, 30, 30, 40)]
+        found = Account(8, 50, 40, 0, 240, 120, rows=rows, places=["a", "b", "c"])
+        one = of_those_at_once(found, 2)
+        self.assertEqual((one.threads, one.delayed, one.starved, one.outside), (2, 0, 40, 20))
+        self.assertEqual(sum(one.parts.values()), 2 * 50)
+        self.assertIs(of_those_at_once(found, 8), found)
+
+    def test_a_region_of_one_thread_is_alone_without_those_inside_it(self):
+        outer, inner, alone = (Region(i, 0, *times, 0, 0, 0, i > 1, "a.c:%d" % i) for i, times in
+                               ((1, (0, 100, 1)), (2, (20, 70, 4)), (3, (80, 90, 1))))
+        run = Program(100, 0, [outer, inner, alone])
+        self.assertEqual(elapsed_in(run.places[0], run), 50)
 
 
 if __name__ == "__main__":

@@ -7,7 +7,7 @@ from spanprof.diagnosis.causes import BY_KIND, TABLE
 from spanprof.diagnosis.diagnose import diagnose
 from spanprof.diagnosis.facts import Region
 from spanprof.diagnosis.lock_times import Held
-from spanprof.diagnosis.places import OF_THREADS, SERIAL, SHARE
+from spanprof.diagnosis.places import AFTER_REGION, OF_THREADS, OWN, SERIAL, SHARE
 from spanprof.diagnosis.tests.worked import MS, facts, place
 from spanprof.folders import TOP
 
@@ -101,6 +101,19 @@ class Kinds(unittest.TestCase):
 
     def test_sleep(self):
         self.assertEqual(self.first(facts([place(TASKS)], asleep=150 * MS)), "sleep")
+
+    def test_small_regions(self):
+        own, after = (place(name + " at image.c:20", OF_THREADS, cost=MS, pieces=9000, tasks=0)
+                      for name in (OWN, AFTER_REGION))
+        by = {own.name: 140 * MS, after.name: 60 * MS}
+        found = facts([own, after], delayed=200 * MS, delayed_by=by, starting_by=dict.fromkeys(by, 1.0),
+                      regions=[Region("image.c:20", 4, 90 * MS, times=3000)])
+        self.assertEqual([(one.kind, one.place, one.time) for one in diagnose(found).causes],
+                         [("small_regions", "image.c:20", 200 * MS)])
+        found.starting_by = dict.fromkeys(by, 0.1)
+        self.assertEqual(self.first(found), "machine")
+        own.pieces = after.pieces = 30
+        self.assertEqual(self.first(found), "machine")
 
     def test_too_few_threads(self):
         found = facts([place(TASKS)], threads=2, asked=4, regions=[Region("image.c:20", 2, 90 * MS)])
