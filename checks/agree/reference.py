@@ -37,8 +37,7 @@ WORDS = (
     "curve --upto 4294967296", "run --workers 002", "whatif", "whatif --", "whatif 1", "whatif 1=", "whatif =1",
     "whatif 1=2=3", "whatif 1=2 1", "whatif -- 1=2 0=3", "whatif 1=18446744073709551616", "whatif -1=2",
     "whatif --listed", "whatif --listed 1=2", "whatif 1=2 --listed", "whatif --listed --listed", "account --row",
-    "account --rows --path", "account --rows=1", "account -- --rows", "graph --rows", "replay 1", "check --",
-    "check -x")
+    "account --rows --path", "account --rows=1", "account -- --rows", "graph --rows", "replay 1", "check --", "x")
 BYTES = b"\0\n #09aek}{[]+-:,)(\xff"
 WORKED = "omptasks 1\nwork 5 task { work 3 } work 2 taskwait work 1\n"
 

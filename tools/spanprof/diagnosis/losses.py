@@ -307,7 +307,8 @@ def losses(facts):
         [Loss("recorder", "", facts.recorder), Loss("startup", "", facts.outside)]
     missing = missing_threads(facts)
     one_place = {"too_many_threads": crowded_region(facts), **dict.fromkeys(FINE, heaviest_name(facts)),
-                 "too_few_threads": max(missing, key=missing.get, default=""), "small_regions": most_often(facts, found)}
+                 "too_few_threads": max(missing, key=missing.get, default=""),
+                 "small_regions": most_often(facts, found)}
     return merged(loss._replace(place=one_place.get(loss.kind, loss.place)) for loss in found)
 
 

@@ -31,7 +31,7 @@ def environment(base, options, library, preload, out):
 
 def without_recorder(base, preload, threads, library=""):
     """The variables of an unrecorded run: on the runtime of the recorded ones, which loads no tool. Of gcc's code it
-    asks the recorder's library, which gives processors back (openmp_recorder/recorder/gcc_places.cpp) and is no tool then."""
+    asks the recorder's library, which gives processors back (recorder/gcc_places.cpp there) and is no tool then."""
     new = dict(base, OMP_TOOL="disabled", OMP_NUM_THREADS=str(threads))
     if preload:
         new["LD_PRELOAD"] = with_others(preload, base.get("LD_PRELOAD"))
