@@ -58,9 +58,9 @@ BY_KIND = {cause.kind: cause for cause in TABLE}
 NAMES = {"serial": "serial", "too_few_tasks": "too few tasks", "dependence": "dependences", "wait": "waits",
          "imbalance": "uneven tasks", "small_tasks": "small tasks", "creation": "creating tasks",
          "small_regions": "small regions", "undeferred": "undeferred tasks", "loop_schedule": "loop schedule",
-         "lock": "lock", "exclusion": "exclusion", "memory": "memory", "system": "operating system", "sleep": "asleep", "too_few_threads": "too few threads",
-         "too_many_threads": "too many threads", "machine": "busy machine", "recorder": "recorder",
-         "startup": "startup"}
+         "lock": "lock", "exclusion": "exclusion", "memory": "memory", "system": "operating system",
+         "sleep": "asleep", "too_few_threads": "too few threads", "too_many_threads": "too many threads",
+         "machine": "busy machine", "recorder": "recorder", "startup": "startup"}
 EFFICIENT = 0.85        # of the threads' time in code, from which on nothing need be lost
 MOST = 0.5              # of the lost time, from which on the machine is its cause
 SECOND = 0.1            # of the run's time, from which on a second cause is told
