@@ -208,7 +208,8 @@ def sure_words(found):
     """How much of the program was seen, and how it went."""
     facts = found.facts
     off = sum(facts.share(loss.time) for loss in found.losses if loss.kind == "machine")
-    parts = [several(facts.runs, "run"), "recorder %.1f %%" % (100 * facts.share(facts.recorder)),
+    parts = [several(facts.runs, "run"),
+             "recorder %.1f %%" % (100 * facts.share(facts.recorder)) if facts.recorder else "",
              "%.1f %% of the program seen" % (100 * facts.coverage) if facts.coverage is not None else "",
              "gains predicted" if any(step.change for step in found.plan) else "",
              "machine busy: %.0f %%" % (100 * off) if off >= BUSY else ""]

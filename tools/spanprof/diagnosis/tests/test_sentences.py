@@ -102,7 +102,7 @@ class Sentences(unittest.TestCase):
         self.assertEqual(lines, [
             "image: 100 ms on 4 threads. At best 50.0 ms.",
             "lost  25 %  8 tasks of image.c:9 (tone) run one after another: all have depend(inout: tab[f(0, 1)])",
-            "sure  1 run, recorder 0.0 %, 99.9 % of the program seen",
+            "sure  1 run, 99.9 % of the program seen",
             "      not known: whether code costs more on 4 threads: --full",
             "more  spanprof-record --all"])
 
