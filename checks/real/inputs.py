@@ -58,7 +58,7 @@ def inputs():
     """What each file has."""
     chance = random.Random(1)
     found = {"aligned.fasta": fasta(sequences(chance, 40, 80, 0.3)), "proteins.fasta": unaligned(chance),
-            "cone.in": cone(chance), "water.xyz": water(2), "picture.pgm": picture(400, 300), "sound.wav": sound(1)}
+             "cone.in": cone(chance), "water.xyz": water(2), "picture.pgm": picture(400, 300), "sound.wav": sound(1)}
     genomes = enumerate(sequences(chance, 3, 60000, 0.05, "ACGT"))
     return dict(found, **{"genome%d.fasta" % number: fasta([pair]) for number, pair in genomes})
 
