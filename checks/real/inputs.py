@@ -8,11 +8,11 @@ import sys
 LETTERS = "ACDEFGHIKLMNPQRSTVWY"
 
 
-def sequences(chance, count, length, changes):
-    """A family of proteins of one ancestor."""
-    ancestor = [chance.choice(LETTERS) for _ in range(length)]
+def sequences(chance, count, length, changes, letters=LETTERS):
+    """A family of proteins, or of genomes, of one ancestor."""
+    ancestor = [chance.choice(letters) for _ in range(length)]
     for number in range(count):
-        one = [chance.choice(LETTERS) if chance.random() < changes else letter for letter in ancestor]
+        one = [chance.choice(letters) if chance.random() < changes else letter for letter in ancestor]
         yield "seq%d" % number, "".join(one)
 
 
@@ -57,8 +57,10 @@ def sound(seconds, rate=44100):
 def inputs():
     """What each file has."""
     chance = random.Random(1)
-    return {"aligned.fasta": fasta(sequences(chance, 40, 80, 0.3)), "proteins.fasta": unaligned(chance),
-            "cone.in": cone(chance), "water.xyz": water(2), "picture.pgm": picture(400, 300), "sound.wav": sound(1)}
+    found = {"aligned.fasta": fasta(sequences(chance, 40, 80, 0.3)), "proteins.fasta": unaligned(chance),
+             "cone.in": cone(chance), "water.xyz": water(2), "picture.pgm": picture(400, 300), "sound.wav": sound(1)}
+    genomes = enumerate(sequences(chance, 3, 60000, 0.05, "ACGT"))
+    return dict(found, **{"genome%d.fasta" % number: fasta([pair]) for number, pair in genomes})
 
 
 def main(folder):
