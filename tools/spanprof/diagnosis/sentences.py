@@ -3,9 +3,10 @@ from spanprof.account_words import lasting
 from spanprof.diagnosis.calls import OFFSET, asleep_in, together
 from spanprof.diagnosis.causes import BY_KIND, NAMES
 from spanprof.diagnosis.losses import average_task, has_many_faults, missing_threads, most_shared
-from spanprof.diagnosis.places import SERIAL
+from spanprof.diagnosis.places import SERIAL, SHARE
 from spanprof.diagnosis.plan import holder
 from spanprof.head import grouped
+from spanprof.text import SECTION
 
 WIDTH, MOST_LINES = 100, 8
 LABEL = 6
@@ -34,6 +35,13 @@ def words_of_place(facts, names, place):
     return {"tasks": several(place.tasks, "task"), "largest": lasting(place.largest),
             "average": lasting(int(place.average)), "item": names.item(place, shared) if shared else "",
             "many": "all" if count == place.tasks else grouped(count), "dearer": "%.1f" % ratio}
+
+
+def words_of_schedule(names, name, place):
+    """Chunks and sections that threads take one by one are shares of their own; else a thread has its part at once."""
+    if not place or place.kind != SHARE:
+        return "schedule(dynamic) at %s, or smaller chunks" % names.at(name)
+    return "smaller %s at %s, the longest first" % ("sections" if SECTION in name else "chunks", names.at(name))
 
 
 def words_of_kernel(facts, usage):
@@ -98,7 +106,8 @@ def words(facts, names, name):
     place = facts.places.get(name)
     out = dict(words_of_run(facts), where=names.place(name), at=names.at(name), item="",
                in_what=words_of_sleep(facts, name), tasks="", many="", largest="", average="", dearer="", times="",
-               alone="the other threads wait", **words_of_region(facts, names, name))
+               alone="the other threads wait", shared=words_of_schedule(names, name, place),
+               **words_of_region(facts, names, name))
     if place:
         out.update(words_of_place(facts, names, place), alone=words_of_alone(facts, names, place))
     out.update({"times": grouped(lock.times) for lock in facts.locks if name in (lock.place, lock.kind)})

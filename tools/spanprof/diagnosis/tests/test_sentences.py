@@ -9,7 +9,7 @@ from spanprof.diagnosis.facts import Region
 from spanprof.diagnosis.lock_times import Held
 from spanprof.diagnosis.losses import Loss
 from spanprof.diagnosis.names import Names, block_end, items_in
-from spanprof.diagnosis.places import OF_THREADS, OWN, SERIAL
+from spanprof.diagnosis.places import OF_THREADS, OWN, SERIAL, SHARE
 from spanprof.diagnosis.plan import Step
 from spanprof.diagnosis.schema import as_json
 from spanprof.diagnosis.sentences import (WIDTH, change_sentence, lost_sentence, short_lines, shortened, speed_words,
@@ -198,6 +198,17 @@ class Sentences(unittest.TestCase):
         self.assertEqual(names.place("taskwait at f(int)+0x1"), "the taskwait at f")
         told = Diagnosis(run, [], [Loss("serial", nameless.name, 50 * MS)], [], [], 1)
         self.assertIn("not known: the names of its functions", "".join(short_lines(told, names)))
+
+    def test_what_to_do_for_an_uneven_loop(self):
+        told = {"turns of the loop at image.c:9": "smaller chunks at image.c:9, the longest first",
+                "a section at image.c:9": "smaller sections at image.c:9, the longest first"}
+        for name, change in told.items():
+            run = facts([place(name, SHARE)])
+            step = Step("loop_schedule", name, 2, 1, 1, 1, 1.0, None)
+            self.assertEqual(change_sentence(run, Names(run, SOURCES), step), change)
+        run = facts([place(OWN + " at image.c:9", OF_THREADS)])
+        step = Step("loop_schedule", OWN + " at image.c:9", 2, 1, 1, 1, 1.0, None)
+        self.assertIn("schedule(dynamic) at ", change_sentence(run, Names(run, SOURCES), step))
 
     def test_several_waits_by_their_lines(self):
         names = Names(facts(), None)
