@@ -9,7 +9,7 @@ from spanprof.account import account_of
 from spanprof.account_program import NoAccount
 from spanprof.diagnosis.calls import Sampled, calls_of, plain
 from spanprof.diagnosis.lock_times import locks_of
-from spanprof.diagnosis.places import AROUND_REGIONS, in_text, read_program
+from spanprof.diagnosis.places import A_START, AROUND_REGIONS, in_text, read_program
 from spanprof.head import head_of
 from spanprof.idle import idle_by_place, most_at_once
 from spanprof.recording import document
@@ -17,7 +17,6 @@ from spanprof.regions import program_of, union
 from spanprof.text_file import TextFile
 from spanprof.whatif.numbers import numbers_of
 
-A_START = 50000         # nanoseconds: a thread starts a region's code in less, or goes on after it
 RUNTIMES = {"llvm": "LLVM", "gnu": "gcc"}
 EXCLUDING = "mutexinoutset"     # the remark of a text that has inoutset in its place
 OF_GCC = "lines of gcc"         # that of a text whose tasks or waits are of gcc's code

@@ -4,8 +4,8 @@ Threads x elapsed time = code as on one thread + the losses.
 """
 from typing import NamedTuple
 
-from spanprof.diagnosis.places import OF_THREADS, OWN, SERIAL, SHARE
-from spanprof.text import BEGINNING
+from spanprof.diagnosis.places import A_START, OF_THREADS, OWN, SERIAL, SHARE
+from spanprof.text import BEGINNING, where
 
 SMALL = 5000            # nanoseconds of code in a task, below which creating and starting it costs much beside it
 A_TASK = 10000          # nanoseconds that each thread loses at most by making, waking for and starting one task
@@ -120,6 +120,8 @@ def kind_of_starved(facts, name):
     place = facts.places.get(name)
     if not place:
         return "too_few_tasks"
+    if begins_often(facts, place):
+        return "small_regions"
     if place.kind == SHARE:
         return "loop_schedule"
     if is_maker(place) and (keeps_waiting(facts) or mostly_small(facts)):
@@ -129,6 +131,13 @@ def kind_of_starved(facts, name):
     if place.kind == OF_THREADS and place.name.startswith(OWN) and place.cost > SEVERAL * place.longest:
         return "loop_schedule"
     return "serial" if place.kind in (SERIAL, OF_THREADS) else kind_of_task(facts, place)
+
+
+def begins_often(facts, place):
+    """Whether it is code of many regions, none of which lasts longer than a thread may take to start."""
+    at = where(place.at) or place.at
+    return any(region.place == at and region.times > MANY and region.elapsed < A_START * region.times
+               for region in facts.regions)
 
 
 def kind_of_delayed(facts, name):

@@ -10,6 +10,7 @@ from spanprof.text import BARRIER, OF_A_THREAD, is_share, named, statements, whe
 SERIAL, OF_THREADS, TASK, SHARE = "serial", "of threads", "task", "share"
 AFTER_REGION = "after the " + BARRIER
 OWN = named("task", OF_A_THREAD)    # the name of a thread's own code, in a text the same in all regions
+A_START = 50000     # nanoseconds: a thread starts a region's code in less, or goes on after it
 AROUND_REGIONS = (OWN, AFTER_REGION)
 
 

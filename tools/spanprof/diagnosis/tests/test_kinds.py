@@ -115,6 +115,14 @@ class Kinds(unittest.TestCase):
         own.pieces = after.pieces = 30
         self.assertEqual(self.first(found), "machine")
 
+    def test_uneven_starts_of_small_regions(self):
+        turns = place("turns of the loop at image.c:20", SHARE, cost=100 * MS, pieces=9000)
+        run = facts([turns], starved=200 * MS, starved_by={turns.name: 200 * MS},
+                    regions=[Region("image.c:20", 4, 90 * MS, times=3000)])
+        self.assertEqual(self.first(run), "small_regions")
+        run.regions = [Region("image.c:20", 4, 90 * MS, times=3)]
+        self.assertEqual(self.first(run), "loop_schedule")
+
     def test_too_few_threads(self):
         found = facts([place(TASKS)], threads=2, asked=4, regions=[Region("image.c:20", 2, 90 * MS)])
         self.assertEqual(self.first(found), "too_few_threads")
