@@ -120,7 +120,7 @@ def kind_of_starved(facts, name):
     place = facts.places.get(name)
     if not place:
         return "too_few_tasks"
-    if begins_often(facts, place):
+    if place.kind in (SHARE, OF_THREADS) and begins_often(facts, place):
         return "small_regions"
     if place.kind == SHARE:
         return "loop_schedule"

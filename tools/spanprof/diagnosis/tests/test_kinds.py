@@ -122,6 +122,10 @@ class Kinds(unittest.TestCase):
         self.assertEqual(self.first(run), "small_regions")
         run.regions = [Region("image.c:20", 4, 90 * MS, times=3)]
         self.assertEqual(self.first(run), "loop_schedule")
+        after = place(AFTER_REGION + " at image.c:20", SERIAL, cost=200 * MS, pieces=3000, tasks=0)
+        run = facts([after], starved=200 * MS, starved_by={after.name: 200 * MS},
+                    regions=[Region("image.c:20", 4, 90 * MS, times=3000)])
+        self.assertEqual(self.first(run), "serial")
 
     def test_too_few_threads(self):
         found = facts([place(TASKS)], threads=2, asked=4, regions=[Region("image.c:20", 2, 90 * MS)])
