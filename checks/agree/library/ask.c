@@ -64,12 +64,11 @@ static void need(uint32_t number) {
 }
 
 static const uint8_t *read_input(size_t *length) {
-    const size_t most = (size_t)64 << 20;
-    uint8_t *kept = room(most);
+    static uint8_t kept[(size_t)64 << 20];
     size_t taken = 0;
     ssize_t got;
-    while (taken < most && (got = read(0, kept + taken, most - taken)) > 0) taken += (size_t)got;
-    if (taken == most) give_up("the input is too long");
+    while (taken < sizeof kept && (got = read(0, kept + taken, sizeof kept - taken)) > 0) taken += (size_t)got;
+    if (taken == sizeof kept) give_up("the input is too long");
     *length = taken;
     return memcpy(room(taken), kept, taken);
 }
