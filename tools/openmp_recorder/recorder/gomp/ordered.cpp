@@ -25,6 +25,7 @@ void tell_turn(const Turn *numbers, ompt_dependence_type_t type) {
   on_dependences(here().task, items.data(), static_cast<int>(items.size()));
 }
 
+// One for each thread, with the lowest bit set: no lock has this address.
 ompt_wait_id_t name_of_order() { return reinterpret_cast<ompt_wait_id_t>(&this_here.counts) | 1; }
 }  // namespace
 
@@ -55,6 +56,8 @@ ENTRY void GOMP_doacross_ull_post(Unsigned *turn) {
 }
 
 // The turn's numbers in the inner loops follow that in the outermost.
+// Where LLVM's runtime answers, the number of arguments is not known here: the most are read and handed on, and it uses
+// those that there are.
 #define WAIT(name, Turn)                                                                                              \
   ENTRY void name(Turn first, ...) {                                                                                  \
     static const auto llvms = reinterpret_cast<decltype(&name)>(llvms_function(#name));                               \
