@@ -10,7 +10,7 @@ struct CodeRange {
   }
 };
 
-// Written once, before callbacks arrive, and read without a lock from then on.
+// Written while recording begins, before callbacks arrive, and read without a lock from then on.
 extern CodeRange runtime_code, recorder_code;
 void find_runtime(const void *function);  // the module of this function is the runtime
 void find_recorder();  // whose functions stand before the runtime's

@@ -8,6 +8,7 @@
 namespace frames {
 constexpr unsigned registers = 17, stack_pointer = 7, instruction = 16;  // as DWARF numbers them
 
+// A register whose value is lost is 0.
 struct State {
   std::array<uint64_t, registers> values;
 };

@@ -121,6 +121,7 @@ void begin_recording(void (*call)(), uint32_t unseen) {
   // (`look_at_start`, `forget_samples`) come before `in_child_of_fork`.
   pthread_atfork(leave_log, go_on_with_log, in_child_of_fork);
   at_quick_exit(end_of_process);
+  // Last: all that came before is the recorder's own time.
   set_time_of_beginning(time_since(life->runtime_begins));
 }
 

@@ -24,6 +24,7 @@ void take_end_back();  // the program goes on, and nothing more is told
 void stop_log(log_form::Stopped why);  // the first reason stays
 // Around a fork, of whose child the runtime tells the calling thread before the child has a log of its own: the pages
 // of this one are the child's too.
+// All three run on the forking thread, by pthread_atfork; the parent's other threads go on recording.
 void leave_log();
 void go_on_with_log();
 void forget_log();  // in the child

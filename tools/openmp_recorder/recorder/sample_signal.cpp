@@ -55,6 +55,7 @@ bool take_sample_signal(OnSignal handler) {
   fill_set.get();
   for (int number = SIGRTMAX - 1; number > SIGRTMIN; number--) {
     struct sigaction now {};
+    // A signal that has a handler, or is ignored, has its use for somebody.
     if (systems_action(number, nullptr, &now) || now.sa_handler != SIG_DFL || now.sa_flags & SA_SIGINFO) continue;
     struct sigaction action {};
     action.sa_sigaction = handler;

@@ -220,6 +220,7 @@ void Samples::publish(RawSample &sample, int64_t began) {
 }
 
 void Samples::take(const siginfo_t &signal, const ucontext_t &context) {
+  // Nothing may touch the window before.
   if (!is_to_write(signal)) return;
   is_busy = true;
   int64_t began = wall_time();

@@ -36,6 +36,7 @@ log_form::Stopped append(const std::string &path, const char *bytes, uint64_t at
   uint64_t done = 0;
   ssize_t more = 0;
   while (done < log_form::block_bytes) {
+    // Where the library is preloaded this is its own `pwrite`, which passes calls of the recorder on.
     more = pwrite(file, bytes + done, log_form::block_bytes - done, static_cast<off_t>(at + done));
     if (more > 0) done += static_cast<uint64_t>(more);
     else if (more == 0 || errno != EINTR) break;

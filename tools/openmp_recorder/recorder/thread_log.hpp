@@ -183,6 +183,7 @@ class alignas(64) ThreadLog {
   void put_long(const log_form::RawRecord &record, uint32_t bytes);
   void follow(const log_form::RawRecord &record);
   void look(uint64_t at) { looked = at, left = 0; }
+  // One store: after a kill there is the old value or 0.
   static void clear(char *place) { __atomic_store_n(reinterpret_cast<uint64_t *>(place), 0, __ATOMIC_RELEASE); }
 
   uint64_t looked = 0, far_ticks;  // when both clocks were looked at last

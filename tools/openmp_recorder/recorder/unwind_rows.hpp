@@ -43,6 +43,7 @@ struct Where {  // small, since rows are kept on the stack of a handler
   const uint8_t *expression = nullptr;
 };
 
+// Some 300 bytes, of which a walk has a few at a time on the stack of a handler.
 struct Row {
   Where frame{};  // a register and an offset, or an expression
   unsigned frame_register = stack_pointer;

@@ -14,7 +14,8 @@ using Unsigned = unsigned long long;
 constexpr auto order = static_cast<ompt_mutex_t>(order_of_turns);
 constexpr unsigned most_loops = 16;  // within each other
 
-// The turn by its numbers in the loops.
+// The turn by its numbers in the loops. A source is recorded before the runtime's call, a sink after it, so that their
+// records are in the order of what happened.
 template <class Turn>
 void tell_turn(const Turn *numbers, ompt_dependence_type_t type) {
   std::vector<ompt_dependence_t> items(here().counts);
@@ -39,6 +40,7 @@ ENTRY void GOMP_ordered_start() {
 
 ENTRY void GOMP_ordered_end() {
   ENTER(GOMP_ordered_end);
+  // Before the call, which lets the next turn begin.
   on_lock_left(order, name_of_order(), PLACE);
   own_GOMP_ordered_end();
 }

@@ -45,6 +45,7 @@ void begin_part(Here &own, Team &team) {
   own.is_final = false;
   own.in_divided = false;
   own.copied = &team.copied;
+  // Inside of the part: before it the runtime would answer with the team around.
   on_implicit_task(ompt_scope_begin, &team.region, nullptr, threads_here(), 0, ompt_task_implicit);
   own.step = team.divided.step;
   if (team.divided.what) begin_divided(team.divided.what, team.divided.turns, team.place);

@@ -11,6 +11,7 @@ bool is_cancellation_on() {
   return is_on;
 }
 
+// On the thread that runs the task; where it is undeferred and has items, its wait for them ends here.
 void tell_start(Here &own, Head &head) {
   if (head.waits) tell_waited_for();
   if (head.is_told_at_start) tell_creation(own.task, nullptr, &head.task, head.flags, 0, head.place);
@@ -19,6 +20,7 @@ void tell_start(Here &own, Head &head) {
 
 void copy(void *to, void *from) { static_cast<const Given *>(from)->copy_to(to); }
 
+// The program's arguments: handed on as they are but for the function, its data, their copier, size and alignment.
 struct Asked {
   Code code;
   void *data;
