@@ -4,6 +4,8 @@
 
 #include <cstdint>
 
+// All of these run on the thread that they concern, between two instructions of the program, and may allocate and write
+// files. They never call the runtime, and are not for handlers of signals.
 void on_thread_begin(ompt_thread_t, ompt_data_t *);
 void on_parallel_begin(ompt_data_t *encountering, const ompt_frame_t *, ompt_data_t *region, unsigned, int,
                        const void *code);
@@ -13,6 +15,8 @@ void on_implicit_task(ompt_scope_endpoint_t endpoint, ompt_data_t *region, ompt_
 void on_work(ompt_work_t kind, ompt_scope_endpoint_t endpoint, ompt_data_t *, ompt_data_t *task, uint64_t turns,
              const void *code);
 void on_dispatch(ompt_data_t *, ompt_data_t *, ompt_dispatch_t kind, ompt_data_t instance);
+// Before the task can begin: the callback writes its number into `task`, which another thread may read as soon as the
+// runtime has the task.
 void on_create(ompt_data_t *encountering, const ompt_frame_t *, ompt_data_t *task, int flags, int, const void *code);
 void on_create_by_path(ompt_data_t *encountering, const ompt_frame_t *, ompt_data_t *task, int flags, int,
                        const void *code);
@@ -36,5 +40,6 @@ struct DispatchedChunk {
 // Beside the flags of a creation: no task follows that belongs to the wait.
 constexpr int waits_alone = 0x00800000;
 
+// Only while one thread runs: its two tasks are shared.
 void make_a_record();  // and nothing else
 bool records_asked();  // by the environment

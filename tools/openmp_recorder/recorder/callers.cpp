@@ -23,6 +23,7 @@ int find_segment(dl_phdr_info *module, size_t, void *range) {
 
 // Whether it lies in a function of the runtime that passes on an address inside itself, and not its caller's: the calls
 // of gcc's code, and a taskloop.
+// `dladdr` locks the loader: not in a handler.
 bool is_in_called_function(const void *code) {
   Dl_info info;
   if (!dladdr(const_cast<void *>(code), &info) || !info.dli_sname) return false;
@@ -33,6 +34,7 @@ bool is_in_called_function(const void *code) {
 CodeRange runtime_code, recorder_code;
 
 namespace {
+// Where no module has the function the range stays empty, and no address is in it.
 void find(const void *function, CodeRange &code) {
   CodeRange range{reinterpret_cast<uintptr_t>(function), 0};
   if (dl_iterate_phdr(find_segment, &range)) code = range;

@@ -22,12 +22,14 @@ class Walk {
   bool value_of(const Where &where, unsigned number, uint64_t frame, uint64_t &value) const;
 };
 
+// The only place that follows an address of the stack: a table can name any, so each is compared with the bounds.
 bool Walk::read(uint64_t at, uint64_t &value) const {
   if (at % sizeof value || at < stack.lowest || at > stack.end - sizeof value) return false;
   value = *reinterpret_cast<const uint64_t *>(at);
   return true;
 }
 
+// Fixed, since the handler may not allocate. One entry is free whenever `calculate` runs.
 constexpr unsigned most_values = 8;  // of an expression
 
 // Those that compilers write for stacks that they align, and linkers for calls of other modules.
@@ -42,6 +44,7 @@ bool Walk::calculate(uint8_t code, Bytes &program, uint64_t *values, unsigned &c
   if (code == 0x06) return count && read(values[count - 1], values[count - 1]);
   if (count < 2) return false;
   uint64_t right = values[--count], &left = values[count - 1];
+  // Codes of DWARF (DW_OP_and, minus, plus, shl, ge): an operation that is not here ends the walk.
   switch (code) {
     case 0x1a: left &= right; return true;
     case 0x1c: left -= right; return true;
@@ -90,12 +93,14 @@ bool Walk::step(bool is_call) {
   Row row;
   uint64_t frame = 0;
   if (!find_row(address() - is_call, row) || !frame_of(row, frame)) return false;
+  // So each step goes up, and the walk ends even where tables are wrong.
   bool is_above = frame > state.values[stack_pointer] && frame <= stack.end;
   if (!is_above || row.values[instruction].rule == Rule::Same) return false;
   State next = state;
   for (unsigned i = 0; i < registers; i++)
     if (!value_of(row.values[i], i, frame, next.values[i])) {
       if (i == instruction) return false;
+      // A lost register ends the walk only once a frame depends on it: from 0 no rule leads above.
       next.values[i] = 0;
     }
   next.values[stack_pointer] = frame;
@@ -112,6 +117,8 @@ unsigned walk(State state, const Stack &stack, uint64_t *out, unsigned most) {
   bool is_call = false;
   do {
     out[count++] = at.address();
+    // The address behind a call may belong to the next function, where the called one never returns: so look one byte
+    // before. What a signal interrupted is no call, and may be a function's first instruction.
     is_call = count > 1 && !at.is_of_signal;
   } while (count < most && at.step(is_call));
   return count;

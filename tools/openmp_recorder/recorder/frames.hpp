@@ -8,6 +8,7 @@
 namespace frames {
 constexpr unsigned registers = 17, stack_pointer = 7, instruction = 16;  // as DWARF numbers them
 
+// A register whose value is lost is 0.
 struct State {
   std::array<uint64_t, registers> values;
 };
@@ -18,6 +19,8 @@ struct Stack {
 };
 
 // Addresses outwards, from the instruction itself on: of callers that behind their calls. How many there are.
+// `out` must have room for `most`, and the memory between the bounds must be mapped. Only for the stack of the calling
+// thread: frames of another one change meanwhile.
 unsigned walk(State state, const Stack &stack, uint64_t *out, unsigned most);
 
 // The tables of a program's code are looked for by this function, where the system has it; it takes no lock.

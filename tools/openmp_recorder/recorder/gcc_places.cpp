@@ -19,6 +19,7 @@ void find(void *library, const char *name, Function &function) {
   function = reinterpret_cast<Function>(dlsym(library, name));
 }
 
+// It asks for the library only where it is loaded already: to load it here would bring in a second runtime.
 Places places_of_gcc() {
   Places out;
   void *library = dlopen("libgomp.so.1", RTLD_LAZY | RTLD_NOLOAD);
@@ -48,6 +49,7 @@ void give_processors_back() {
   CPU_ZERO(&all);
   add(places, 0, first);
   for (int place = 0; place < places.count(); place++) add(places, place, all);
+  // Where the thread has other processors than the first place, somebody else bound it, and that stays.
   bool is_bound = !sched_getaffinity(0, sizeof now, &now) && CPU_EQUAL(&now, &first);
   if (is_bound) sched_setaffinity(0, sizeof all, &all);
 }

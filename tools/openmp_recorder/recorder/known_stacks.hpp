@@ -11,6 +11,7 @@
 // the path is the same: a function has its caller's return address as far above its own as at the last call from this
 // address, unless its frame varies (`alloca`, arrays of variable length). Of such a function an old word may be taken
 // for it, where that is a return address that stood there in a path of the same calls below.
+// One thread's own, since it knows the highest address of that thread's stack: it must not outlive the thread.
 class KnownStacks {
  public:
   struct Stack {
@@ -21,10 +22,13 @@ class KnownStacks {
   };
   KnownStacks();
   // `code` is the place that the runtime tells, and `own` where the recorder's return address stands.
+  // Without a lock or memory, since most creations come here. `own` is where the return address of the running callback
+  // stands; the answer holds until `learn` is called.
   const Stack *find(const void *code, const char *own) {
     return __builtin_expect(holds(stacks[recent], own), true) ? &stacks[recent] : find_other(code, own);
   }
   // The place in the program is as the runtime told it, or as it was looked for.
+  // It unwinds, allocates and locks, and never throws. Where memory is out it gives the place without a path.
   uint64_t learn(const void *code, const void *place, const char *own);
 
  private:
@@ -60,6 +64,7 @@ class KnownStacks {
     return slot(reinterpret_cast<uintptr_t>(code) + 3 * uint64_t{telling});
   }
   // Of this code, or one that is free.
+  // It ends, since at most half of the entries are used (`most_creations`).
   unsigned creation_of(const void *code) const {
     unsigned at = slot(reinterpret_cast<uintptr_t>(code));
     while (creations[at].code && creations[at].code != code) at = (at + 1) % creations.size();
@@ -70,7 +75,9 @@ class KnownStacks {
     std::memcpy(&word, place, sizeof word);
     return word;
   }
+  // Reads above `highest` may be outside of the stack's memory.
   bool is_of_stack(const char *own, uint32_t above) const { return own + above <= highest; }
+  // Ask for the farthest word before any is read.
   bool holds(const Stack &stack, const char *own) const {
     if (!is_of_stack(own, stack.farthest)) return false;
     const ReturnAddress *word = words.data() + stack.first;

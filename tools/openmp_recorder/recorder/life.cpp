@@ -18,6 +18,7 @@ struct Life {
   Moment runtime_begins;  // what it does from then on, until it has begun, is no code of the program
   Beginning log;
   void (*call)() = nullptr;  // of the recorder, that makes a record
+  // That of the log: exit functions are inherited by the child of a fork, and must not end the parent's log there.
   pid_t process = 0;
   std::atomic<bool> ended{false};
   int64_t at_end = 0;  // the processor's clock of the thread that ended it
@@ -49,6 +50,8 @@ void name_log() {
   life->log.folder = free_folder(name, own, life->log.is_child, began) + log_form::log_folder;
 }
 
+// One thread is left, and locks of the others stay locked for ever: `forget_log` must come before anything that locks.
+// glibc has made malloc usable again by now. The child's log is only named here: its first record makes it.
 void in_child_of_fork() {
   forget_log();
   life->log.is_child = true;
@@ -67,6 +70,7 @@ void tell_beginning() {
     say("gcc's target is run by its own runtime beside LLVM's: with nowait or depend the program's results may be wrong");
 }
 
+// Also runs where the program never met OpenMP (`life` is null).
 void end_of_process() {
   if (life && life->process == getpid()) end_recording();
 }
@@ -85,6 +89,7 @@ bool went_on() {
 }
 
 // The runtime does not call the tool's end where the program ends inside a region.
+// Other threads may still run and record; nothing may be freed here.
 __attribute__((destructor)) void end_of_library() {
   if (went_on()) take_end_back();
   end_of_process();
@@ -95,6 +100,7 @@ void runtime_begins() {
   if (life) return;
   life = new Life;
   life->options = read_recording_options();
+  // Before the first `moment_now`, which reads the chosen clock.
   choose_clocks(life->options.time_stamp, life->options.processor_clock);
   life->runtime_begins = moment_now();
 }
@@ -111,8 +117,11 @@ void begin_recording(void (*call)(), uint32_t unseen) {
   name_log();
   begin_log(life->log, life->call);
   tell_beginning();
+  // Handlers of a child run in the order of registration: those that are registered when the library is loaded
+  // (`look_at_start`, `forget_samples`) come before `in_child_of_fork`.
   pthread_atfork(leave_log, go_on_with_log, in_child_of_fork);
   at_quick_exit(end_of_process);
+  // Last: all that came before is the recorder's own time.
   set_time_of_beginning(time_since(life->runtime_begins));
 }
 

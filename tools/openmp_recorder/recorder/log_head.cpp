@@ -32,11 +32,14 @@ std::atomic<int64_t> open_regions{0};  // of the program, that are not inside an
 
 // The runtime says goodbye after the destructors of globals have run, so these are never destroyed.
 Beginning &beginning = *new Beginning;
+// Lists of samples are locked inside of it, never the other way round.
 std::mutex &making = *new std::mutex;  // of the folder, and of threads' logs
 std::vector<ThreadLog *> &of_ended = *new std::vector<ThreadLog *>;  // threads
+// Null until the first record; from then on mapped for good, since threads may write to it while the process ends.
 Head *head = nullptr;
 int locked = -1;  // the file of the head, which is locked
 bool is_made = false;
+// Between `leave_log` and its counterpart this thread has no log and makes none: it would be mapped in both processes.
 __thread bool forks = false;  // the thread does
 __thread ThreadLog *left_log = nullptr;
 log_form::Pair first{}, second{};
@@ -82,12 +85,14 @@ void fill_head() {
   head->unseen = beginning.unseen;
   ssize_t length = readlink("/proc/self/exe", head->program, sizeof head->program - 1);
   if (length < 0) head->program[0] = 0;
+  // Last, so that a head which a kill left half filled is none.
   std::memcpy(head->magic, log_form::magic, sizeof head->magic);
 }
 
 std::string recording_of(const std::string &log) { return log.substr(0, log.rfind('/')); }
 
 bool make_log() {
+  // The log's own folder must be new: two processes never write to one.
   mkdir(recording_of(beginning.folder).c_str(), 0777);
   if (mkdir(beginning.folder.c_str(), 0777)) return false;
   head = map_head(beginning.folder + log_form::head_file);
@@ -133,6 +138,7 @@ int64_t wall_time_at(uint64_t ticks) {
 void begin_log(const Beginning &how, void (*call)()) {
   beginning = how;
   only_records = by_time_stamp && !costs_by_processor;
+  // The counter goes on through a fork at the same pace, so the parent's measurement holds.
   if (first.wall) return;  // it is known from before a fork
   measure_ticks();
   in_a_record = time_of_record(call);
@@ -143,6 +149,7 @@ void set_time_of_beginning(uint64_t took) { beginning_took = took; }
 ThreadLog *make_thread_log() {
   if (forks) return nullptr;
   std::lock_guard<std::mutex> guard(making);
+  // Logs of ended threads go first, so that there are no more logs than threads that ran at once.
   if (!of_ended.empty()) {
     thread_log = of_ended.back();
     of_ended.pop_back();
@@ -159,6 +166,7 @@ ThreadLog *make_thread_log() {
   thread_log = new ThreadLog(next_thread++);
   thread_log->is_slow = true;
   if (beginning.call_paths) thread_log->stacks = new KnownStacks;
+  // Under the lock: one thread's log gets it, once.
   if (beginning_took) thread_log->tell_stood_still(std::exchange(beginning_took, 0));
   sample_thread(*thread_log, beginning.folder);
   return thread_log;
@@ -166,6 +174,7 @@ ThreadLog *make_thread_log() {
 
 // By the processor's clock, which each thread begins anew, it stays the thread's.
 void leave_thread_log() {
+  // First of all no log: a callback of this thread that still comes must not write to one that another thread owns.
   ThreadLog *log = std::exchange(thread_log, nullptr);
   leave_samples(*log);
   if (costs_by_processor) return;
@@ -176,6 +185,7 @@ void leave_thread_log() {
 
 void take_numbers(OwnNumbers &of) {
   uint64_t begin = next_number.fetch_add(numbers_at_once, std::memory_order_relaxed);
+  // 64 bits count on beyond the end, so no number comes twice, however many threads ask.
   if (begin + numbers_at_once > UINT32_MAX) return stop_log(Stopped::Numbers);
   of.last = static_cast<uint32_t>(begin) - 1;
   of.end = of.last + numbers_at_once;
@@ -185,6 +195,8 @@ uint32_t new_region() { return next_region.fetch_add(1, std::memory_order_relaxe
 
 void stop_log(Stopped why) {
   Stopped before = Stopped::Not;
+  // The first reason alone stands in the head. `log_stopped` is set before `only_records` is reset, so a callback that
+  // goes the long way finds that recording has stopped.
   if (!log_stopped.compare_exchange_strong(before, why)) return;
   only_records = false;
   if (head) {
@@ -223,6 +235,7 @@ void go_on_with_log() {
 }
 
 // The parent's files are mapped here too, and are not written any more.
+// One thread runs, and the logs of all others are lost memory: nothing of them is freed, since it may be half changed.
 void forget_log() {
   new (&making) std::mutex;  // another thread may have held it when the process forked
   forget_paths();

@@ -12,6 +12,7 @@
 #include "log_form.hpp"
 
 namespace {
+// Of libraries opened and closed, as the loader counts them: where it is the same there is nothing new.
 std::atomic<uint64_t> told_changes{0};
 
 uint64_t changes_of(const dl_phdr_info &any) { return any.dlpi_adds + any.dlpi_subs; }
@@ -22,6 +23,7 @@ int read_changes(dl_phdr_info *any, size_t, void *changes) {
 }
 
 // `BASE FIRST END WHAT PATH` of each executable segment; without a path it is the program's own.
+// The loader holds its lock around this, so no library comes or goes between the count and the list.
 int tell_module(dl_phdr_info *module, size_t, void *to) {
   told_changes = changes_of(*module);
   for (int i = 0; i < module->dlpi_phnum; i++) {

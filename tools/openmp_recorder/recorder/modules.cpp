@@ -35,6 +35,7 @@ class Module {
   bool has(const Relocations &relocations, const std::string &name) const;
 };
 
+// It reads what the loader has mapped, and no file: the table ends by DT_NULL.
 void Module::read(const ElfW(Dyn) * entry) {
   for (; entry->d_tag != DT_NULL; entry++) {
     switch (entry->d_tag) {
@@ -48,6 +49,7 @@ void Module::read(const ElfW(Dyn) * entry) {
   }
 }
 
+// Each relocation is compared by its name, so only once a run, while recording begins.
 bool Module::has(const Relocations &relocations, const std::string &name) const {
   if (!relocations.first || !symbols || !names) return false;
   const ElfW(Rela) *end = relocations.first + relocations.bytes / sizeof(ElfW(Rela));
@@ -57,6 +59,7 @@ bool Module::has(const Relocations &relocations, const std::string &name) const 
   });
 }
 
+// The loader holds its lock around this: open or look up nothing here.
 int calls_all(dl_phdr_info *of, size_t, void *names) {
   Module module(*of);
   auto &all = *static_cast<const std::vector<std::string> *>(names);

@@ -49,6 +49,7 @@ uint64_t add(const std::vector<uintptr_t> &calls) {
     paths.is_full = true;
     return 0;
   }
+  // The line is in the file by now: a record may name the number as soon as this returns.
   return paths.numbers[calls] = paths.numbers.size() + 1;
 }
 }  // namespace

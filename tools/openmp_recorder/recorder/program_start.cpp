@@ -9,6 +9,7 @@
 namespace {
 Look at_load;
 
+// In the child of a fork the one thread is the first of its process, and looks again.
 void look_at_start() {
   if (getpid() == gettid()) at_load = look_now();
 }
@@ -19,6 +20,7 @@ __attribute__((constructor)) void library_is_loaded() {
 }
 
 // How long ago the process began, by the kernel's ticks: at most one of them too much. 0 where it does not tell.
+// stdio and malloc: while recording begins, and not in a handler.
 int64_t age_in_ticks(int64_t tick) {
   FILE *file = fopen("/proc/self/stat", "r");
   if (!file) return 0;

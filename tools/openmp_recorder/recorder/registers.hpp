@@ -5,6 +5,7 @@
 #include "frames.hpp"
 
 #if defined(__x86_64__)
+// In the handler too: it copies, and calls nothing.
 inline frames::State registers_of(const ucontext_t &context) {
   constexpr int by_dwarf[frames::registers] = {REG_RAX, REG_RDX, REG_RCX, REG_RBX, REG_RSI, REG_RDI,
                                                REG_RBP, REG_RSP, REG_R8,  REG_R9,  REG_R10, REG_R11,

@@ -10,6 +10,8 @@
 namespace {
 std::atomic<int> taken{0};
 
+// A program may call these three in its own handlers, where the loader's lookup is unsafe: so where samples are asked
+// for, `take_sample_signal` has found them all.
 Systems<decltype(&sigaction)> set_action("sigaction");
 Systems<decltype(&signal)> set_handler("signal");
 Systems<decltype(&sigfillset)> fill_set("sigfillset");
@@ -19,6 +21,8 @@ int systems_action(int number, const struct sigaction *action, struct sigaction 
 }
 
 // What was sent and has not come yet goes with it, so that the program's handler gets nothing that is not its own.
+// Many threads may set an action at once: only the one that resets the number ends the timers.
+// To ignore a signal discards what is pending. It is done twice, since timers send until they are all gone.
 void give_up(int number) {
   if (!taken.compare_exchange_strong(number, 0)) return;
   struct sigaction ignored {
@@ -39,6 +43,7 @@ bool is_asked() {
   return getenv("SPANPROF_OUT") && !is("SPANPROF_SAMPLES", "0") && !is("SPANPROF_RECORD", "0");
 }
 
+// A library that a runtime opens later is not in front of libc: it would never see the program claim the signal.
 bool stands_before_the_system() { return dlsym(RTLD_DEFAULT, "sigaction") == reinterpret_cast<void *>(sigaction); }
 }  // namespace
 
@@ -50,9 +55,12 @@ bool take_sample_signal(OnSignal handler) {
   fill_set.get();
   for (int number = SIGRTMAX - 1; number > SIGRTMIN; number--) {
     struct sigaction now {};
+    // A signal that has a handler, or is ignored, has its use for somebody.
     if (systems_action(number, nullptr, &now) || now.sa_handler != SIG_DFL || now.sa_flags & SA_SIGINFO) continue;
     struct sigaction action {};
     action.sa_sigaction = handler;
+    // The program must see no call fail with EINTR. Where it gave the thread a stack for signals, the handler runs
+    // there.
     action.sa_flags = SA_SIGINFO | SA_RESTART | SA_ONSTACK;
     if (systems_action(number, &action, nullptr)) return false;
     taken = number;
@@ -62,6 +70,7 @@ bool take_sample_signal(OnSignal handler) {
 }
 
 ENTRY int sigaction(int number, const struct sigaction *action, struct sigaction *before) {
+  // A program that only asks must find the default action: to it the signal is unused.
   if (number != sample_signal() || !number) return systems_action(number, action, before);
   if (action) give_up(number);
   if (action) return systems_action(number, action, before);

@@ -8,5 +8,7 @@
 using OnSignal = void (*)(int, siginfo_t *, void *);
 
 bool take_sample_signal(OnSignal handler);  // once, before other threads begin; false where there is none to take
+// Any thread and any handler may call it.
 int sample_signal();  // 0 where none is taken
+// It takes a lock, so no handler of the recorder calls it; signals that were sent before may still arrive.
 void stop_sampling();  // ends all timers; of samples.cpp

@@ -54,6 +54,7 @@ char *map_memory() {
 
 size_t bytes_of(const RawSample &sample) { return sizeof sample + sample.frames * sizeof(uint64_t); }
 
+// True too of a thread that forked, in the child, whatever stack it runs on: `sample_here` looks at where that is.
 bool is_first_thread() { return getpid() == gettid(); }
 
 uint64_t length_of_first_stack() {
@@ -63,6 +64,7 @@ uint64_t length_of_first_stack() {
 }
 
 // Of the calling thread, from its lowest address on; nothing where that is not known.
+// Not in a handler, since pthread_getattr_np allocates.
 frames::Stack own_stack() {
   if (is_first_thread()) {
     auto end = reinterpret_cast<uint64_t>(__libc_stack_end);
@@ -83,6 +85,8 @@ int make_timer(Samples *of) {
   sigevent event{};
   event.sigev_notify = SIGEV_THREAD_ID;
   event.sigev_signo = sample_signal();
+  // The handler finds its object here and not in thread-local storage. A signal may arrive after the timer is gone,
+  // so the object is never freed.
   event.sigev_value.sival_ptr = of;
   event._sigev_un._tid = gettid();
   int timer = -1;
@@ -102,6 +106,7 @@ Listed &listed() {  // first used when this library is loaded, and never destroy
   return known;
 }
 
+// Held for the list alone. The handler takes no lock, so a signal in between cannot deadlock.
 Samples *new_samples() {
   auto *made = new Samples;
   std::lock_guard<std::mutex> guard(listed().adding);
@@ -115,12 +120,14 @@ struct AtEnd {
     if (own_samples) own_samples->end_thread();
   }
 };
+// The destructor runs once the object was touched in this thread, which `begin_thread` does; no handler may be first.
 thread_local AtEnd at_end;
 }  // namespace
 
 void Samples::begin_file(const std::string &name) {
   if (name.size() >= sizeof path) return;
   is_busy = true;
+  // Until `is_busy` is false again a signal must not find a window that is half copied, or unmapped.
   char *memory = window;
   window = map_window(name.c_str(), 0);
   if (window && memory) std::memcpy(window, memory, used);
@@ -136,10 +143,12 @@ void Samples::begin_thread() {
   KeepErrno kept;
   own_samples = this;
   (void)&at_end;
+  // The program may have claimed the signal since: then it is not ours to send.
   if (timer >= 0 || !sample_signal()) return;
   if (!window && !is_over) window = map_memory();
   stack = own_stack();
   lowest = std::exchange(stack.lowest, 0);
+  // Last: the first signal may come at once, and needs window and stack.
   timer = make_timer(this);
 }
 
@@ -154,6 +163,7 @@ void Samples::end_thread() {
 }
 
 // Where memory alone has them each second one goes, so that those left are evenly apart.
+// In the handler. It moves bytes within the window, and needs no other memory.
 void Samples::keep_half() {
   size_t kept = 0, number = 0;
   for (size_t at = 0; at < used;) {
@@ -172,14 +182,17 @@ void Samples::keep_half() {
 
 bool Samples::make_room() {
   if (used + largest <= window_bytes) return true;
+  // Full windows stay in the file; only the last one is mapped, so memory does not grow with the run.
   if (!has_file()) return keep_half(), true;
   munmap(window, window_bytes);
+  // Where that fails `is_over` ends the samples of this thread; a handler can print nothing.
   window = map_window(path, ++windows);
   used = 0;
   is_over = !window;
   return window;
 }
 
+// Signals that come while a sample is being written are lost, and their time with them.
 bool Samples::is_to_write(const siginfo_t &signal) {
   if (!may_write()) return false;
   since += static_cast<unsigned>(signal.si_overrun) + 1;
@@ -189,6 +202,7 @@ bool Samples::is_to_write(const siginfo_t &signal) {
 RawSample &Samples::sample_here(const ucontext_t &context) {
   frames::State state = registers_of(context);
   uint64_t top = state.values[frames::stack_pointer];
+  // Reading between the stack pointer and the thread's end is safe only while it runs on the stack that it began with.
   bool is_own = lowest <= top && top < stack.end;  // else the program gave the thread another one
   auto *sample = reinterpret_cast<RawSample *>(window + used);
   frames::Stack readable = is_own ? frames::Stack{top, stack.end} : frames::Stack{};
@@ -197,6 +211,7 @@ RawSample &Samples::sample_here(const ucontext_t &context) {
 }
 
 // The time is written last: where it is 0 there is no sample.
+// The window behind is zero, as the kernel or `keep_half` left it: so the sample's end needs no mark.
 void Samples::publish(RawSample &sample, int64_t began) {
   sample.wall = began;
   sample.took = static_cast<uint16_t>(std::min<int64_t>(wall_time() - began, UINT16_MAX));
@@ -205,6 +220,7 @@ void Samples::publish(RawSample &sample, int64_t began) {
 }
 
 void Samples::take(const siginfo_t &signal, const ucontext_t &context) {
+  // Nothing may touch the window before.
   if (!is_to_write(signal)) return;
   is_busy = true;
   int64_t began = wall_time();
@@ -229,6 +245,7 @@ void Samples::put_wait(const void *function, int64_t nanoseconds) {
     RawSample &sample = sample_here(context);
     uint64_t *calls = sample.calls(), *end = calls + sample.frames;
     auto is_own = [](uint64_t code) { return recorder_code.has(reinterpret_cast<const void *>(code)); };
+    // The innermost call is this function itself, so at least one goes and the system's function has room.
     uint64_t *rest = std::find_if_not(calls, end, is_own);
     sample.frames = static_cast<uint8_t>(1 + std::move(rest, end, calls + 1) - (calls + 1));
     calls[0] = reinterpret_cast<uint64_t>(function);
@@ -267,12 +284,15 @@ void stop_sampling() {
 namespace {
 void on_signal(int, siginfo_t *signal, void *context) {
   KeepErrno kept;
+  // Others may send the signal by `kill`, with no pointer in it that could be followed.
   if (signal->si_code != SI_TIMER) return;
   static_cast<Samples *>(signal->si_value.sival_ptr)->take(*signal, *static_cast<ucontext_t *>(context));
 }
 
 // What the program does before it meets OpenMP is sampled too, of its first thread.
 __attribute__((constructor)) void library_is_loaded() {
+  // Preloaded, this runs before the program's own code; opened later, `take_sample_signal` refuses.
+  // The code range must be known before the first sample, so that waits in the recorder's own functions are left out.
   if (!frames::are_known() || !take_sample_signal(on_signal)) return;
   find_recorder();
   pthread_atfork(nullptr, nullptr, forget_samples);

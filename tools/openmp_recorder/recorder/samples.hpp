@@ -15,21 +15,28 @@
 // given back, since a signal that was sent before may still come.
 class Samples {
  public:
+  // Up to `end_timer` for the owning thread alone, and not in a handler.
   void begin_file(const std::string &path);  // from now on they are there however the program ends
   void begin_thread();  // the calling one; another one may have been before
   void end_thread();
   void end_timer();  // any thread may call it
+  // In the handler no malloc, no lock, no stdio, and no thread-local object that is built at first use: the thread may
+  // be inside any of them. It interrupts the owner alone, since the timer's signal goes to one thread.
   void take(const siginfo_t &signal, const ucontext_t &context);  // in the handler
+  // May run inside of a program's handler. Where it interrupts a sample under way it writes nothing (`is_busy`).
   void put_wait(const void *function, int64_t nanoseconds);  // the thread slept in this function of the system
   bool has_file() const { return path[0]; }
 
  private:
   char path[512] = {};
+  // Null or mapped whenever `is_busy` is false: without one nothing is written.
   char *window = nullptr;  // mapped: of the file, or before there is one, of memory
   size_t used = 0;
   uint64_t windows = 0;  // of the file, before this one
   unsigned each = 1, since = 0;  // of so many signals one is written, where memory alone has them
+  // One thread's code and its handler alone use them. Volatile orders these flags, and no other memory.
   volatile bool is_busy = false, is_over = false;
+  // Atomic, since another thread may end it: whoever exchanges the number for -1 deletes the timer, once.
   std::atomic<int> timer{-1};
   frames::Stack stack{};
   uint64_t lowest = 0;  // of the thread's stack
@@ -43,6 +50,7 @@ class Samples {
 };
 
 class ThreadLog;
+// Called with the lock of `make_thread_log` held, and takes the list's lock inside: never the other way round.
 void sample_thread(ThreadLog &log, const std::string &folder);  // the calling thread, whose log that is
 void leave_samples(ThreadLog &log);  // the calling thread ends
 extern __attribute__((tls_model("initial-exec"))) __thread Samples *own_samples;  // of the calling thread, or none

@@ -5,6 +5,7 @@
 
 #include <cstdint>
 
+// First in whatever runs between two instructions of the program and calls the system.
 class KeepErrno {  // which the program may be about to read
  public:
   ~KeepErrno() { errno = kept; }

@@ -25,6 +25,8 @@ SYSTEMS(pthread_rwlock_trywrlock);
 SYSTEMS(pthread_rwlock_unlock);
 
 // Those that the thread waited for and holds, so that their end is told; beyond these it is not.
+// Room that is there when the thread begins: without this model of storage the first access may allocate, inside a
+// call for a lock. The loader has little of it for a library that is opened late, so keep it small.
 struct Held {
   static constexpr unsigned most = 8;
   const void *locks[most];
@@ -45,6 +47,7 @@ bool let_go(const void *lock) {
   return true;
 }
 
+// `thread_log` and not `own_log`: to make a log takes locks, and would lead here again.
 bool is_told(const void *place) { return thread_log && !is_stopped() && !in_runtime(place); }
 
 template <class Lock>
@@ -59,6 +62,7 @@ __attribute__((noinline)) int wait_for(Lock *lock, int (*systems)(Lock *), unsig
   return status;
 }
 
+// Before the lock is let go, so that the record of the next holder has a later time.
 __attribute__((noinline)) void tell_left(const void *lock, const void *place, unsigned kind) {
   if (let_go(lock) && thread_log) on_lock_left(static_cast<ompt_mutex_t>(kind), name_of(lock), place);
 }
@@ -68,6 +72,7 @@ void leave_for_wait(const void *lock, const void *place) {
   if (held.count) tell_left(lock, place, system_mutex);
 }
 
+// A free lock is only tried: neither the clock is read nor a record made. PLACE must stand in the entry itself.
 #define PLACE __builtin_return_address(0)
 #define LOCK(name, try_name, type, kind)                        \
   ENTRY int name(type *lock) {                                  \

@@ -20,6 +20,8 @@
 
 namespace {
 // One call: until it returns, or is left by an exception or the thread's end.
+// No log and no callback in this class: these functions are called in handlers, with any lock held, and before the
+// recorder has begun. So only `put_wait`, which is made for that.
 class Waiting {
  public:
   Waiting(const void *called, const void *by) : function(called), place(by), samples(own_samples) {
@@ -35,12 +37,14 @@ class Waiting {
   Samples *samples;
   uint64_t began = 0;
   double took() const { return static_cast<double>(read_ticks(After::Itself) - began) * nanoseconds_of_tick(); }
+  // The thread may have lost its samples during the call, as in the child of a fork.
   __attribute__((noinline)) void tell() const {
     if (!in_runtime(place) && samples == own_samples) samples->put_wait(function, static_cast<int64_t>(took()));
   }
 };
 }  // namespace
 
+// The static is constant when the library is loaded, so no guard is locked at its first use.
 #define WAITS_BY(version, before, result, name, parameters, ...)                            \
   ENTRY result name parameters {                                                            \
     static Systems<result(*) parameters> systems(#name, version);                           \

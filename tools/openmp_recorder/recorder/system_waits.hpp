@@ -4,4 +4,5 @@
 
 constexpr long long least_wait = 50000;  // nanoseconds
 
+// Before the call of the system, while the thread still holds the mutex.
 void leave_for_wait(const void *lock, const void *place);  // a mutex that a wait for a condition gives back meanwhile

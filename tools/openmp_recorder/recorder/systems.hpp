@@ -14,6 +14,7 @@ class Systems {
   explicit constexpr Systems(const char *its_name, const char *its_version = nullptr)
       : name(its_name), version(its_version) {}
   Function get() {
+    // Relaxed is enough: a thread that finds null looks up the same address again.
     Function known = found.load(std::memory_order_relaxed);
     return __builtin_expect(known != nullptr, true) ? known : find();
   }

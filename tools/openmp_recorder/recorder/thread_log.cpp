@@ -17,6 +17,7 @@ namespace {
 constexpr int64_t chunks_together = 10000;  // nanoseconds: what begins sooner after a chunk is part of it
 
 // Its room is taken from the disk here, so no record can fail.
+// Without this allocation a write to the mapping on a full disk would kill the program by SIGBUS.
 char *map_block(const std::string &path) {
   int file = open(path.c_str(), O_RDWR | O_CREAT | O_CLOEXEC, 0666);
   if (file < 0) return nullptr;
@@ -27,6 +28,7 @@ char *map_block(const std::string &path) {
   return pages == MAP_FAILED ? nullptr : static_cast<char *>(pages);
 }
 
+// A handler of the program's may interrupt the write, which then goes on (EINTR).
 log_form::Stopped append(const std::string &path, const char *bytes, uint64_t at) {
   if (!is_allowed(at + log_form::block_bytes)) return log_form::Stopped::Full;
   int file = open(path.c_str(), O_WRONLY | O_CREAT | O_CLOEXEC, 0666);
@@ -34,6 +36,7 @@ log_form::Stopped append(const std::string &path, const char *bytes, uint64_t at
   uint64_t done = 0;
   ssize_t more = 0;
   while (done < log_form::block_bytes) {
+    // Where the library is preloaded this is its own `pwrite`, which passes calls of the recorder on.
     more = pwrite(file, bytes + done, log_form::block_bytes - done, static_cast<off_t>(at + done));
     if (more > 0) done += static_cast<uint64_t>(more);
     else if (more == 0 || errno != EINTR) break;
@@ -45,6 +48,7 @@ log_form::Stopped append(const std::string &path, const char *bytes, uint64_t at
 }
 
 // Records that go nowhere, to see how long one takes.
+// Its calls must fit into one block: where it is full, `grow` would map a file for it.
 class Scratch : public ThreadLog {
  public:
   Scratch() : ThreadLog(0), room(log_form::block_bytes) {
@@ -88,6 +92,7 @@ ThreadLog::ThreadLog(unsigned of)
       both(costs_by_processor) {}
 
 void ThreadLog::begin_thread() {
+  // The counts of context switches and the processor's clock of the thread before mean nothing here.
   both = BothClocks(costs_by_processor);
   looked = left = 0;
   is_slow = true;
@@ -101,11 +106,13 @@ bool ThreadLog::write_block() {
     stop_log(why);
     return false;
   }
+  // One cleared word empties the block: readers stop at the first record without a time.
   clear(block);
   written += log_form::block_bytes;
   return true;
 }
 
+// The program may be about to read errno, since callbacks come in between its own calls of the system.
 bool ThreadLog::grow() {
   KeepErrno kept;
   is_slow = true;
@@ -119,10 +126,12 @@ bool ThreadLog::grow() {
   }
   next = block;
   end = block + log_form::block_bytes - log_form::kept_free;
+  // A block is read from its first record on, so that one must name its task.
   current = nobody;
   return true;
 }
 
+// `at` is the last store, as a release: while it is 0 the record is not there, however much of the rest is.
 void ThreadLog::put_long(const log_form::RawRecord &told, uint32_t bytes) {
   auto *record = reinterpret_cast<log_form::RawRecord *>(next);
   next += bytes;
@@ -137,6 +146,7 @@ void ThreadLog::put_long(const log_form::RawRecord &told, uint32_t bytes) {
 // What short records that come next leave out.
 void ThreadLog::follow(const log_form::RawRecord &told) {
   Told kind = log_form::told_by(told.word);
+  // Items have an address where others have the time, so they must not become the base of the next difference.
   if (kind == Told::Items) return;
   uint64_t passed = told.at - looked;
   last = told.at;
@@ -208,6 +218,7 @@ void ThreadLog::tell_stood_still(uint64_t took) {
 int64_t time_of_record(void (*call)()) {
   constexpr int calls = 1000;
   Scratch scratch;
+  // The callback finds a log, so it makes no folder and no file.
   thread_log = &scratch;
   for (int i = 0; i < calls; i++) call();
   thread_log = nullptr;

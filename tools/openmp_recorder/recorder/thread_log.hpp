@@ -32,6 +32,7 @@ struct OwnNumbers {
   uint32_t last = 0, end = 0;  // the last of them
   bool are_left() const { return last != end; }
 };
+// Any thread may call it. Where all numbers are used up it stops the log, and `of` stays empty.
 void take_numbers(OwnNumbers &of);  // where none are left; there may be no more
 
 // Long records that short ones may be like, as the runtime told them. Their places are known to be the program's, as
@@ -43,8 +44,12 @@ class LikeRecords {
     const One &one = all[slot(told, code)];
     return one.code == code && one.detail == detail;
   }
+  // The converter expands a short record by the last long one of its slot. So each long record of a kind with slots
+  // must be followed by `remove`, and by `add` only where a short one may stand for it: `Entry::keep` does both.
   void add(Told told, const void *code, uint32_t detail) { all[slot(told, code)] = {code, detail}; }
   void remove(Told told, const void *code) { all[slot(told, code)] = {this, 0}; }
+  // Due where a region begins or ends, since the places of open regions decide which places are the program's own.
+  // A null `code` must match no entry, so an empty one holds an address at which no code can lie.
   void forget() {
     for (One &one : all) one = {this, 0};  // where no code is
   }
@@ -63,12 +68,17 @@ class LikeRecords {
 class KnownStacks;
 class Samples;
 
+// All members belong to one thread: no other may call them, and no handler of a signal, since nothing here is safe
+// against an interruption by the thread itself. A log passes to another thread only by `leave_thread_log` and
+// `make_thread_log`.
 class alignas(64) ThreadLog {
  protected:
+  // Both null until the first record: that one finds no room, and so `grow` maps the block.
   char *next = nullptr, *end = nullptr;
 
  private:
   uint64_t last = 0;  // ticks of the record before
+  // 0 makes the next record a long one. It never reaches beyond the next look at both clocks.
   uint64_t left = 0;  // how many more the next one may have, where it is short
   uint32_t current = nobody;  // the task that the thread is in, as its records tell
 
@@ -93,11 +103,14 @@ class alignas(64) ThreadLog {
     if (!implicit.empty()) implicit.pop_back();
     own = implicit.empty() ? 0 : implicit.back().task;
   }
+  // Without a lock: a thread reserves numbers in batches, so they are unique but not in the order of time.
   uint32_t new_number() {  // 0 where there are no more
     if (!numbers.are_left()) take_numbers(numbers);
     return numbers.are_left() ? ++numbers.last : 0;
   }
 
+  // Where there is no room it allocates, maps or writes a file, or stops the log: so only from callbacks. The
+  // processor's clock goes in before `put_long` publishes the record.
   void put(const Moment &now, Told told, uint32_t task, uint32_t other, uint64_t code, unsigned detail) {
     if (!costs_by_processor) return put_by_wall(now.at, told, task, other, code, detail);
     if (!has_room() && !grow()) return;
@@ -105,6 +118,7 @@ class alignas(64) ThreadLog {
     put_long({now.at, task, other, log_form::make_word(code, static_cast<unsigned>(told), detail)},
              log_form::bytes_by_processor);
   }
+  // Only where costs are read on the wall clock: it leaves no room for the other clock.
   void put_by_wall(uint64_t at, Told told, uint32_t task, uint32_t other, uint64_t code, unsigned detail) {
     if (__builtin_expect(!has_room(), false) && !grow()) return;
     if (told == Told::Schedule && takes_short(at - last, task) && detail < log_form::slots)
@@ -113,8 +127,11 @@ class alignas(64) ThreadLog {
              log_form::bytes_by_wall);
   }
   // Whether so many ticks after the record before a short one may be put, and nothing else is to be done.
+  // Where the counter went back, `ticks` wraps around, is too large, and the record becomes a long one.
   bool takes_short(uint64_t ticks, uint64_t task) const { return ticks < left && has_room() && task == current; }
   uint64_t ticks_since_last(uint64_t at) const { return at - last; }
+  // Only after `takes_short`. Clear what follows first, then publish all eight bytes by one store: a kill at any
+  // instruction then leaves a whole record or none. No call and no branch here: most records of a run pass this way.
   void put_short(uint64_t ticks, unsigned what, uint32_t other) {
     char *place = next;
     clear(place + sizeof(log_form::ShortRecord));
@@ -127,14 +144,17 @@ class alignas(64) ThreadLog {
     current = other;
     put_short(ticks, status, other);
   }
+  // Only where `like.has` said so in the same call: the converter knows nothing but the slot.
   void put_like(uint64_t ticks, unsigned slot, uint32_t other) { put_short(ticks, log_form::slots + slot, other); }
   bool is_far(uint64_t at) const { return at - looked >= far_ticks; }
   void look_at_clocks(const Moment &now) {
     if (costs_by_processor || is_far(now.at)) compare_clocks(now);
   }
   // What passed between two looks at both clocks of the thread, before its first record.
+  // Only at the log's beginning: it sets the base of both clocks anew.
   void look_back(const Look &from, const Look &until, const Moment &now);
   // Whether a chunk is written as part of the one before, which began just now.
+  // It counts iterations and writes nothing, so the chunk that comes next must report them (`begin_chunk`).
   bool joins_chunk(uint64_t ticks, uint64_t turns) {
     if (!chunk_began || ticks - chunk_began >= near_ticks) return false;
     joined_turns += turns;
@@ -144,21 +164,26 @@ class alignas(64) ThreadLog {
     chunk_began = ticks;
     return std::exchange(joined_turns, 0);
   }
+  // Called by the new thread itself, with the lock of `make_thread_log` held.
   void begin_thread();  // another one goes on with it
+  // Around a wait for a lock, in place of `look_at_clocks`, so that the wait is no code's on either clock.
   void wait_begins(const Moment &now);
   void wait_ends(const Moment &now);
+  // The last record of a call: whatever the recorder does after it counts as the program's code.
   void tell_slow(const Moment &began);  // how long until now
   void tell_stood_still(uint64_t took);
 
  private:
   // No task has this number: the first record of a block is long, so that no two blocks begin alike.
   static constexpr uint32_t nobody = UINT32_MAX;
+  // A record that begins before `end` always fits, with the eight bytes cleared behind it: `kept_free` is larger.
   bool has_room() const { return next < end; }
 
   // The bytes that say that a record is there come last, and before them what follows is cleared.
   void put_long(const log_form::RawRecord &record, uint32_t bytes);
   void follow(const log_form::RawRecord &record);
   void look(uint64_t at) { looked = at, left = 0; }
+  // One store: after a kill there is the old value or 0.
   static void clear(char *place) { __atomic_store_n(reinterpret_cast<uint64_t *>(place), 0, __ATOMIC_RELEASE); }
 
   uint64_t looked = 0, far_ticks;  // when both clocks were looked at last
@@ -170,6 +195,7 @@ class alignas(64) ThreadLog {
   void compare_clocks(const Moment &now);
   void tell_passed(const Moment &now, const Passed &passed);
   uint64_t own_time_since(const Moment &began) const;
+  // False where the log has stopped, and then the record is dropped. It allocates and calls the system.
   bool grow();
   bool write_block();
   Times times(const Moment &now) const;
@@ -178,4 +204,5 @@ class alignas(64) ThreadLog {
 uint64_t time_since(const Moment &began);  // on the clock of costs: in ticks, or nanoseconds of the processor
 
 // How long a call of the recorder takes that only makes a record, in nanoseconds of the clock of costs.
+// Only before the calling thread has a log, since it lends the thread one without a file, and then resets it.
 int64_t time_of_record(void (*call)());

@@ -22,6 +22,7 @@ bool is_the_kernels_clock() {
 }
 }  // namespace
 
+// No two reads are alike, so the order of records is total; the price is a word that all threads write to.
 uint64_t later_wall_time() {
   uint64_t now = static_cast<uint64_t>(wall_time()), before = last_read.load(std::memory_order_relaxed), later;
   do {
@@ -46,6 +47,7 @@ log_form::Pair read_pair() {
     uint64_t before = read_ticks();
     int64_t wall = wall_time();
     uint64_t after = read_ticks();
+    // The shortest try was interrupted least.
     if (after - before >= apart) continue;
     apart = after - before;
     nearest = {before + apart / 2, wall};

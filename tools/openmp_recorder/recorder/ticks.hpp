@@ -19,6 +19,8 @@ uint64_t later_wall_time();  // than whatever another thread read before
 // before whatever others do for it, however early it is read.
 enum class After { Others, Itself };
 
+// The fence keeps the counter from being read before earlier loads are done: without it a task could seem to begin
+// before the end that it waited for.
 inline uint64_t read_time_stamp(After after) {
 #if defined(__x86_64__)
   if (after == After::Others) _mm_lfence();

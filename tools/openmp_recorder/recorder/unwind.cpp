@@ -24,10 +24,12 @@ class Walk {
 };
 
 // An unwinder knows where a function's own frame ends, and below that the return address stands.
+// What stands there is compared with what the unwinder says, since `KnownStacks` later reads nothing but that memory.
 bool Walk::goes_on(_Unwind_Context *context) {
   uintptr_t at = _Unwind_GetCFA(context) - sizeof(uintptr_t), value = _Unwind_GetIP(context);
   if (at < own) return true;  // functions that the recorder called
   uintptr_t stands = 0;
+  // Offsets are kept in 32 bits, so what is farther away is no part of a path.
   if (at - own < farthest) std::memcpy(&stands, reinterpret_cast<const void *>(at), sizeof stands);
   if (!value || stands != value) {  // its caller is not known, or stands elsewhere
     found.path.clear();

@@ -19,4 +19,6 @@ struct CallStack {
 };
 
 // `own` is where the recorder's return address stands, which is in the runtime.
+// It allocates and takes locks of the loader: from callbacks alone, never in a handler (`frames.hpp` is for these).
+// It may throw std::bad_alloc, which must not reach the runtime.
 CallStack unwind_from(const char *own);

@@ -1,6 +1,8 @@
 #include "unwind_rows.hpp"
 
 // Of glibc since 2.35: it takes no lock, so a handler of a signal may call it.
+// As glibc lays it out (`struct dl_find_object`), with spare room at the end. Weak: where the system lacks the function
+// there are no samples; `dl_iterate_phdr`, which takes the loader's lock, is no substitute in a handler.
 struct FoundObject {
   unsigned long long flags;
   void *first, *end;
@@ -63,6 +65,7 @@ struct Common {
 };
 
 // One entry of a table, from behind its length on; its end is nearer than what may be read.
+// The 64-bit form of the length is read as an empty entry, which ends the walk.
 Bytes entry_at(const uint8_t *at) {
   constexpr uint32_t is_long = 0xffffffff;
   Bytes length(at, at + sizeof(uint32_t));
@@ -77,6 +80,7 @@ bool read_letters(const char *letters, Bytes &more, Common &common) {
   for (; *letters; letters++) {
     switch (*letters) {
       case 'R': common.pointers = more.read<uint8_t>(); break;
+      // The value is skipped and never followed: it may be an address that the loader fills in (the bit 0x80).
       case 'P': {
         auto encoding = more.read<uint8_t>();
         more.pointer(encoding & 0x7f);
@@ -103,6 +107,7 @@ bool read_common(const uint8_t *at, Common &common) {
   common.data_unit = entry.signed_leb();
   uint64_t returns = version == 1 ? entry.read<uint8_t>() : entry.unsigned_leb();
   Bytes more = entry;
+  // Letters that are not known change the meaning of what follows, so the entry is refused.
   if (returns != instruction || !read_letters(letters, more, common)) return false;
   if (common.has_length) entry.skip(entry.unsigned_leb());
   common.program = entry;
@@ -117,6 +122,7 @@ class Instructions {
   void keep(const Row &row) { first = row; }
 
  private:
+  // A fixed number: a row has 17 rules, and these lie on the stack of a handler.
   static constexpr unsigned most_kept = 2;
   const Common &common;
   uint64_t at, address;
@@ -129,6 +135,7 @@ class Instructions {
     return at <= address;
   }
   static void set(Row &row, uint64_t of, const Where &where) {
+    // Vector registers have larger numbers: no caller's address depends on them.
     if (of < registers) row.values[of] = where;
   }
   int32_t scaled(int64_t offset) const { return static_cast<int32_t>(offset * common.data_unit); }
@@ -145,6 +152,7 @@ class Instructions {
   bool run_of_rows(uint8_t code, Row &row);
 };
 
+// Instructions beyond the address are not run: there the row is whole.
 bool Instructions::run(Bytes program, Row &row) {
   while (program) {
     auto code = program.read<uint8_t>();
@@ -169,11 +177,13 @@ bool Instructions::run_one(uint8_t code, Bytes &program, Row &row) {
     case 0x02: return advance(program.read<uint8_t>());
     case 0x03: return advance(program.read<uint16_t>());
     case 0x04: return advance(program.read<uint32_t>());
+    // DW_CFA_GNU_args_size, which no rule needs.
     case 0x2e: return program.unsigned_leb(), true;
     default: return run_of_rows(code, row) || run_of_frame(code, program, row) || run_of_values(code, program, row);
   }
 }
 
+// DW_CFA_remember_state and restore_state. More rows than there is room for end the walk.
 bool Instructions::run_of_rows(uint8_t code, Row &row) {
   constexpr uint8_t keep_row = 0x0a, back_to_row = 0x0b;
   if (code == keep_row && count < most_kept) return kept[count++] = row, true;
@@ -181,6 +191,7 @@ bool Instructions::run_of_rows(uint8_t code, Row &row) {
   return false;
 }
 
+// DW_CFA_def_cfa and its forms.
 bool Instructions::run_of_frame(uint8_t code, Bytes &program, Row &row) {
   Where &frame = row.frame;
   switch (code) {
@@ -203,6 +214,7 @@ bool Instructions::run_of_frame(uint8_t code, Bytes &program, Row &row) {
   }
 }
 
+// The rules of one register: DW_CFA_offset_extended and those that follow.
 bool Instructions::run_of_values(uint8_t code, Bytes &program, Row &row) {
   if (code < 0x05 || code > 0x16) return false;
   uint64_t of = program.unsigned_leb();
@@ -222,6 +234,7 @@ bool Instructions::run_of_values(uint8_t code, Bytes &program, Row &row) {
 }
 
 // The entry of the function with this address, by the sorted table that linkers write before .eh_frame; null if none.
+// Only the form with a sorted table of 32-bit offsets from its own start is read: it alone can be searched by halves.
 const uint8_t *find_entry(const uint8_t *tables, uint64_t address) {
   constexpr uint8_t version = 1, count_form = 0x03, table_form = 0x3b;
   struct Line {
@@ -249,6 +262,7 @@ bool read_entry(const uint8_t *at, uint64_t address, Row &row) {
   Common common;
   if (!back || !read_common(own - back, common)) return false;
   uint64_t begin = entry.pointer(common.pointers), length = entry.pointer(common.pointers & 15);
+  // The table is sorted by begins alone: behind the last function of a module, or in a gap, there is no row.
   if (!begin || address - begin >= length) return false;
   if (common.has_length) entry.skip(entry.unsigned_leb());
   row.is_of_signal = common.is_of_signal;

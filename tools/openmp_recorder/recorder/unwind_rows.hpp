@@ -7,6 +7,7 @@
 
 namespace frames {
 // Bytes of a table, read one after the other. Tables lie in memory that is mapped while their code is on a stack.
+// Reads behind the end give 0 and stay at the end: loops over damaged tables finish, and none reads elsewhere.
 class Bytes {
  public:
   Bytes(const uint8_t *from, const uint8_t *until) : at(from), end(until) {}
@@ -42,6 +43,7 @@ struct Where {  // small, since rows are kept on the stack of a handler
   const uint8_t *expression = nullptr;
 };
 
+// Some 300 bytes, of which a walk has a few at a time on the stack of a handler.
 struct Row {
   Where frame{};  // a register and an offset, or an expression
   unsigned frame_register = stack_pointer;
@@ -49,5 +51,6 @@ struct Row {
   bool is_of_signal = false;  // a handler's: what it interrupted is no call
 };
 
+// In handlers too, and so are all functions behind it: no memory, no lock, no exception, and little stack.
 bool find_row(uint64_t address, Row &row);  // of the instruction there; false where no table has it
 }  // namespace frames

@@ -14,6 +14,7 @@ TellCreation tell_creation = on_create;
 
 namespace {
 // The process's beginning; how often its thread had lost its processor by then is known since the library was loaded.
+// For the first thread only: the kernel's counts are those of one thread.
 Look look_at_beginning() {
   Look load = look_at_load();
   return {{this_log().program_start, 0}, load.given_up, load.taken};
@@ -33,6 +34,7 @@ bool begin_runtime() {
     return true;
   }
   runtime_begins();
+  // Clocks first, then both ranges of code, then the log: a record needs all of them.
   find_runtime(own_function("GOMP_parallel"));
   find_recorder();
   begin_recording(make_a_record, 0);
@@ -44,6 +46,7 @@ bool begin_runtime() {
 struct Leaving {
   bool is_of_runtime = false;
   ~Leaving() {
+    // Not of threads that the program made. Without a log, or with one from before a fork, there is nothing to hand on.
     if (!is_of_runtime || !thread_log || this_here.log != thread_log) return;
     tell_left(this_here);
     this_here = {};
@@ -62,6 +65,7 @@ void tell_left(Here &own) {
 
 Here &begin_here(bool in_a_part) {
   const Look met = in_a_part ? Look{} : look_now();
+  // Threads that meet the runtime meanwhile wait here for the first one; `begin_runtime` must not lead here.
   static const bool has_begun = begin_runtime();
   if (!has_begun || (is_stopped() && this_here.task)) return this_here;
   this_here = {};
@@ -69,6 +73,7 @@ Here &begin_here(bool in_a_part) {
   on_thread_begin(in_a_part ? ompt_thread_worker : ompt_thread_initial, nullptr);
   if (in_a_part) this_here.log = own_log();
   else begin_initial(this_here, met);
+  // The first use in a thread registers the destructor, which allocates.
   leaving.is_of_runtime = in_a_part;
   return this_here;
 }

@@ -10,6 +10,7 @@ ompt_wait_id_t name_of(const void *lock) { return reinterpret_cast<ompt_wait_id_
 
 const char unnamed_critical = 0, all_atomics = 0;
 
+// `here` first: a program may call for a lock before anything else of OpenMP.
 template <class Own, class... Lock>
 void take(ompt_mutex_t kind, const void *name, const void *place, Own own, Lock... lock) {
   here();
@@ -18,6 +19,7 @@ void take(ompt_mutex_t kind, const void *name, const void *place, Own own, Lock.
   on_lock_got(kind, name_of(name), place);
 }
 
+// After the lock is free: the record of the next holder may have an earlier time.
 template <class Own, class... Lock>
 void leave(ompt_mutex_t kind, const void *name, const void *place, Own own, Lock... lock) {
   own(lock...);
@@ -38,6 +40,7 @@ struct Held {
   void *lock;
   int times;
 };
+// In storage that is there when the thread begins: a call for a lock must not allocate. So the number is small.
 constexpr unsigned most_held = 16;
 __attribute__((tls_model("initial-exec"))) __thread Held held_here[most_held];
 

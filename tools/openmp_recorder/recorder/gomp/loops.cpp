@@ -10,12 +10,14 @@ namespace {
 using Unsigned = unsigned long long;
 
 void tell_chunk(ompt_dispatch_t kind, uint64_t turns) {
+  // The callback reads it at once and keeps no pointer.
   DispatchedChunk chunk{0, turns};
   ompt_data_t instance;
   instance.ptr = &chunk;
   on_dispatch(nullptr, nullptr, kind, instance);
 }
 
+// After the runtime's call, which may wait for the next chunk: the chunk begins when it returns.
 bool got_chunk(bool is_there, uint64_t turns) {
   if (is_there && turns) tell_chunk(static_cast<ompt_dispatch_t>(dispatched_chunk), turns);
   if (!is_there) end_divided();
@@ -31,6 +33,7 @@ bool got(bool is_there, const Unsigned *from, const Unsigned *to) {
   return got_chunk(is_there, from ? turns_between(step > 0, *from, *to, static_cast<Unsigned>(step)) : 0);
 }
 
+// Before the runtime's call, which hands out the first chunk: `got` needs the step.
 void begin_loop(long from, long to, long step, const void *place) {
   here().step = step;
   begin_divided(ompt_work_loop, turns_between(from, to, step), place);
@@ -55,6 +58,7 @@ unsigned got_section(unsigned number) {
 }
 }  // namespace
 
+// A thread is in one such construct at most, and its record must come before those of its chunks.
 void begin_divided(ompt_work_t what, uint64_t turns, const void *place) {
   Here &own = here();
   end_divided();
@@ -63,6 +67,7 @@ void begin_divided(ompt_work_t what, uint64_t turns, const void *place) {
   on_work(what, ompt_scope_begin, nullptr, own.task, turns, place);
 }
 
+// Before the thread waits at the construct's barrier. A second call does nothing.
 void end_divided() {
   Here &own = here();
   if (!own.in_divided) return;

@@ -14,7 +14,8 @@ using Unsigned = unsigned long long;
 constexpr auto order = static_cast<ompt_mutex_t>(order_of_turns);
 constexpr unsigned most_loops = 16;  // within each other
 
-// The turn by its numbers in the loops.
+// The turn by its numbers in the loops. A source is recorded before the runtime's call, a sink after it, so that their
+// records are in the order of what happened.
 template <class Turn>
 void tell_turn(const Turn *numbers, ompt_dependence_type_t type) {
   std::vector<ompt_dependence_t> items(here().counts);
@@ -25,6 +26,7 @@ void tell_turn(const Turn *numbers, ompt_dependence_type_t type) {
   on_dependences(here().task, items.data(), static_cast<int>(items.size()));
 }
 
+// One for each thread, with the lowest bit set: no lock has this address.
 ompt_wait_id_t name_of_order() { return reinterpret_cast<ompt_wait_id_t>(&this_here.counts) | 1; }
 }  // namespace
 
@@ -38,6 +40,7 @@ ENTRY void GOMP_ordered_start() {
 
 ENTRY void GOMP_ordered_end() {
   ENTER(GOMP_ordered_end);
+  // Before the call, which lets the next turn begin.
   on_lock_left(order, name_of_order(), PLACE);
   own_GOMP_ordered_end();
 }
@@ -55,6 +58,8 @@ ENTRY void GOMP_doacross_ull_post(Unsigned *turn) {
 }
 
 // The turn's numbers in the inner loops follow that in the outermost.
+// Where LLVM's runtime answers, the number of arguments is not known here: the most are read and handed on, and it uses
+// those that there are.
 #define WAIT(name, Turn)                                                                                              \
   ENTRY void name(Turn first, ...) {                                                                                  \
     static const auto llvms = reinterpret_cast<decltype(&name)>(llvms_function(#name));                               \

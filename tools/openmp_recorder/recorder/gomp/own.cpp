@@ -29,6 +29,7 @@ bool is_of_llvm(void *function) {
   return has_fork;
 }
 
+// RTLD_NOLOAD throughout: a second runtime in the process would have threads and teams of its own.
 void *find_runtime_library() {
   if (void *library = dlopen("libgomp.so.1", RTLD_LAZY | RTLD_NOLOAD)) return library;
   std::string path;
@@ -47,6 +48,7 @@ void *own_function(const char *name) {
   static void *const library = find_runtime_library();
   void *function = dlsym(library, name);
   if (function) return function;
+  // The call cannot be carried out, and to return would change what the program computes.
   say(std::string("the runtime has no ") + name + ", which the program calls");
   abort();
 }

@@ -17,6 +17,8 @@ struct Divided {  // at the beginning of a part
   int64_t step = 0;
 };
 
+// All threads of the region read it, and it lives until the region has ended. Once they have begun only `copied` is
+// written, between two barriers.
 struct Team {
   void *first;  // word of the data: the runtime reads it where there are reductions
   Code code;
@@ -30,6 +32,7 @@ struct Team {
 
 // Of the thread that begins a region its end is told where the region ends.
 void end_part(Here &own, const Team &team, bool is_master) {
+  // By value: the team may be gone before this thread's next part.
   own.has_left = !is_master;
   own.left = team.region;
   own.left_place = team.place;
@@ -42,14 +45,17 @@ void begin_part(Here &own, Team &team) {
   own.is_final = false;
   own.in_divided = false;
   own.copied = &team.copied;
+  // Inside of the part: before it the runtime would answer with the team around.
   on_implicit_task(ompt_scope_begin, &team.region, nullptr, threads_here(), 0, ompt_task_implicit);
   own.step = team.divided.step;
   if (team.divided.what) begin_divided(team.divided.what, team.divided.turns, team.place);
 }
 
+// The runtime calls it on each thread of the team, the one that began the region too.
 void run_part(void *of) {
   Team &team = *static_cast<Team *>(of);
   Here &own = here(true);
+  // Compared by the address of its thread-local storage.
   bool is_master = team.master == &own;
   if (!is_master) tell_left(own);
   begin_part(own, team);
@@ -58,6 +64,7 @@ void run_part(void *of) {
 }
 
 // While it stands the calling thread begins the region and waits for its end.
+// Its constructor must run before the runtime begins the region, and its destructor after all threads have left.
 class Region {
  public:
   Region(Code code, void *data, unsigned asked, const void *place, Divided divided = {})
@@ -67,6 +74,7 @@ class Region {
   ~Region() {
     on_sync(ompt_sync_region_barrier_implicit_parallel, ompt_scope_end, nullptr, &implicit_task, team.place);
     on_implicit_task(ompt_scope_end, &team.region, nullptr, 0, 0, ompt_task_implicit);
+    // All of it, since the region changed each part; the end of the region belongs to the task around it.
     own = before;
     on_parallel_end(&team.region, own.task, 0, team.place);
   }
@@ -83,6 +91,7 @@ class Region {
 Divided loop(long from, long to, long step) { return {ompt_work_loop, turns_between(from, to, step), step}; }
 
 // As gcc before 4.9 wrote it: the thread goes on with its part by itself, until it calls for the region's end.
+// The region outlives this call, so it is on the heap: `GOMP_parallel_end` gets it from `own.region` and deletes it.
 template <class Own, class... Asked>
 void begin_apart(Region *region, Own own_start, unsigned threads, Asked... asked) {
   own_start(run_part, &region->team, threads, asked...);
@@ -164,6 +173,7 @@ ENTRY void GOMP_parallel_loop_runtime_start(Code code, void *data, unsigned thre
 ENTRY void GOMP_parallel_end() {
   ENTER(GOMP_parallel_end);
   Here &own = here();
+  // Deleted at the end of this function, after the runtime's call: until then other threads still use the team.
   std::unique_ptr<Region> region(static_cast<Region *>(own.region));
   if (region) end_part(own, region->team, true);
   own_GOMP_parallel_end();

@@ -8,6 +8,7 @@
 ENTRY void *GOMP_single_copy_start() {
   PASS_ON(GOMP_single_copy_start);
   static const auto is_chosen = reinterpret_cast<bool (*)()>(own_function("GOMP_single_start"));
+  // The chosen thread comes to this barrier in `GOMP_single_copy_end`.
   if (is_chosen()) return nullptr;
   wait_for_all(PLACE);
   return *here().copied;

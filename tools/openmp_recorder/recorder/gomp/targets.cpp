@@ -12,6 +12,7 @@ namespace {
 constexpr unsigned target_nowait = 1;
 constexpr unsigned short given_by_value = 13;  // of the kinds of an address
 
+// Of a task it is on the heap and deleted by `run_later`, since the creating call returns before; else on the stack.
 struct Target {
   Head head;
   Code code;
@@ -48,6 +49,7 @@ void run_outside_of_teams(void *of) {
   own.is_final = was_final;
 }
 
+// No task of its own: only what it waited for is recorded.
 void run_at_once(void *addresses) {
   Target &target = target_of(addresses);
   if (target.head.waits) tell_waited_for();

@@ -52,6 +52,7 @@ uint64_t least_tasks(const Loop<Turn> &of, uint64_t threads) {
 }
 
 // Where tasks are deferred each is told when its data are copied.
+// In the runtime's call, on the thread that makes the tasks, one after the other: so one `Given` serves all.
 void copy_deferred(void *to, void *from) {
   auto *given = static_cast<Given *>(from);
   tell_creation(here().task, nullptr, &given->head.task, given->head.flags, 0, given->head.place);
@@ -107,6 +108,7 @@ void make_tasks(Own own_loop, const Loop<Turn> &of, const void *place) {
     call(own_loop, of, run_task, &given, is_undeferred ? copy_undeferred : copy_deferred, bytes);
   } else {
     long to = aligned(of.alignment);
+    // The runtime uses these data in place and is done with them when its call returns, so the stack is enough.
     auto room = reinterpret_cast<uintptr_t>(alloca(static_cast<size_t>(bytes + to)));
     void *data = reinterpret_cast<void *>((room + static_cast<uintptr_t>(to) - 1) & -static_cast<uintptr_t>(to));
     given.copy_to(data);
@@ -130,6 +132,7 @@ void make_group(Own own_loop, Loop<Turn> of, const void *place) {
   } else {
     own_GOMP_taskgroup_start();
     if (of.flags & loop_reduces) own_GOMP_taskgroup_reduction_register(static_cast<Bounds *>(of.data)->reductions);
+    // The group is asked for here, so the runtime must not open a second one.
     of.flags |= loop_without_group;
     make_tasks(own_loop, of, place);
   }

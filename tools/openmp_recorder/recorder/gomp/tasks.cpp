@@ -11,6 +11,7 @@ bool is_cancellation_on() {
   return is_on;
 }
 
+// On the thread that runs the task; where it is undeferred and has items, its wait for them ends here.
 void tell_start(Here &own, Head &head) {
   if (head.waits) tell_waited_for();
   if (head.is_told_at_start) tell_creation(own.task, nullptr, &head.task, head.flags, 0, head.place);
@@ -19,6 +20,7 @@ void tell_start(Here &own, Head &head) {
 
 void copy(void *to, void *from) { static_cast<const Given *>(from)->copy_to(to); }
 
+// The program's arguments: handed on as they are but for the function, its data, their copier, size and alignment.
 struct Asked {
   Code code;
   void *data;
@@ -39,6 +41,7 @@ void call(Own own, const Asked &of, Code code, void *data, Copier copier, long b
 template <class Own>
 void make_task(Own own_task, const Asked &of, const void *place) {
   Here &own = here();
+  // The runtime discards the task, so nothing is recorded and the program's own arguments go on.
   if (is_cancelled(cancelled_group)) return call(own_task, of, of.code, of.data, of.copier, of.bytes, of.alignment);
   bool is_undeferred = !of.is_deferred || own.is_final || !own.in_team, is_detached = of.flags & task_is_detached;
   Given given{{}, of.copier, of.data, of.bytes};
@@ -51,6 +54,7 @@ void make_task(Own own_task, const Asked &of, const void *place) {
   head.is_final = own.is_final || of.flags & task_is_final;
   head.is_detached = is_detached;
   head.may_be_cancelled = !of.copier;
+  // From here on `given` must not change: the call copies it, and may already run it.
   tell_task(own, head, of.flags & task_depends ? of.depend : nullptr);
   call(own_task, of, run_task, &given, copy, head.start + of.bytes, aligned(of.alignment));
 }
@@ -76,11 +80,13 @@ bool is_cancelled(Cancelled what) {
   return __builtin_expect(is_cancellation_on(), false) && point(what);
 }
 
+// Tasks nest on a thread's stack: each restores the task before it, also where its code ran others in between.
 void run_task(void *of) {
   Head &head = *static_cast<Head *>(of);
   Here &own = here(true);
   if (head.may_be_cancelled && is_cancelled(cancelled_group))
     return on_schedule(&head.task, ompt_task_cancel, own.task);
+  // What the runtime wrote into the head is meant for the beginning of the program's data.
   if (head.words_written) std::memcpy(head.data(), head.written, head.words_written * sizeof head.written[0]);
   ompt_data_t *before = own.task;
   bool was_final = own.is_final;
@@ -90,6 +96,7 @@ void run_task(void *of) {
   head.code(head.data());
   own.task = before;
   own.is_final = was_final;
+  // Before the runtime learns that the task has ended: it then releases tasks that wait for it, on other threads too.
   on_schedule(&head.task, head.is_detached ? ompt_task_detach : ompt_task_complete, before);
 }
 

@@ -23,6 +23,8 @@ enum Flags : unsigned {
 
 // What stands in front of the program's data. The runtime writes into its first words: of a taskloop's task the bounds,
 // of a detached one its event.
+// It is copied as bytes and read on other threads, so it has no constructor and no pointer to itself. `written` must
+// stay first. Once `run_task` has returned, its memory may be gone.
 struct Head {
   uint64_t written[2];
   Code code;
@@ -39,6 +41,7 @@ struct Head {
 };
 
 // What is copied to make a task.
+// On the stack of the thread that makes the task: the runtime calls the copier before the creating call returns.
 struct Given {
   Head head;
   Copier copier;  // of the program's data; none where bytes are copied
@@ -55,12 +58,15 @@ inline long aligned(long alignment) {
   constexpr long least = alignof(Head);
   return alignment < least ? least : alignment;
 }
+// The program's data keep the alignment that its compiler asked for: the runtime aligns the head by the same number.
 inline uint32_t start_of_data(long alignment) {
   long to = aligned(alignment);
   return static_cast<uint32_t>((static_cast<long>(sizeof(Head)) + to - 1) & -to);
 }
 
+// The runtime calls it, on whatever thread runs the task; of a taskloop in place, several times with the same head.
 void run_task(void *head);
+// Before the runtime is handed the task: it copies the head with the number in it, and may run the task at once.
 void tell_task(Here &own, Head &, void **depend);  // that it is made
 void make_empty_task(void **depend, const void *place);
 enum Cancelled { cancelled_region = 1, cancelled_group = 8 };

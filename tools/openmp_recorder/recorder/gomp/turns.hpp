@@ -8,6 +8,7 @@ inline uint64_t turns_between(bool is_up, uint64_t from, uint64_t to, uint64_t s
   return from > to ? (from - to - 1) / -step + 1 : 0;
 }
 
+// In unsigned arithmetic, since the distance of two longs may be more than a long holds.
 inline uint64_t turns_between(long from, long to, long step) {
   bool is_up = step > 0;
   if (is_up ? from >= to : from <= to) return 0;

@@ -29,6 +29,7 @@ void wait_for(void **depend, const void *place) {
   tell_waited_for();
 }
 
+// All threads of the team must come here, as at any barrier, or the program hangs.
 void wait_for_all(const void *place) {
   static const auto own_barrier = reinterpret_cast<void (*)()>(own_function("GOMP_barrier"));
   Barrier barrier(ompt_sync_region_barrier_implicit_workshare, place);
