@@ -24,7 +24,8 @@ class Walk {
 
 // The only place that follows an address of the stack: a table can name any, so each is compared with the bounds.
 bool Walk::read(uint64_t at, uint64_t &value) const {
-  if (at % sizeof value || at < stack.lowest || at > stack.end - sizeof value) return false;
+  // A thread on a stack that is not its own has the empty one, from 0 to 0.
+  if (at % sizeof value || at < stack.lowest || stack.end < sizeof value || at > stack.end - sizeof value) return false;
   value = *reinterpret_cast<const uint64_t *>(at);
   return true;
 }

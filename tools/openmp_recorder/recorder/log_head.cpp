@@ -19,6 +19,7 @@
 #include "path_numbers.hpp"
 #include "samples.hpp"
 #include "say.hpp"
+#include "system_calls.hpp"
 
 namespace {
 using log_form::Head;
@@ -148,6 +149,7 @@ void set_time_of_beginning(uint64_t took) { beginning_took = took; }
 
 ThreadLog *make_thread_log() {
   if (forks) return nullptr;
+  KeepErrno kept;
   std::lock_guard<std::mutex> guard(making);
   // Logs of ended threads go first, so that there are no more logs than threads that ran at once.
   if (!of_ended.empty()) {

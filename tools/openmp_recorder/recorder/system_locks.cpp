@@ -57,7 +57,8 @@ __attribute__((noinline)) int wait_for(Lock *lock, int (*systems)(Lock *), unsig
   on_lock_asked(told, 0, 0, name_of(lock), place);
   int status = systems(lock);
   on_lock_got(told, name_of(lock), place);
-  if (status) on_lock_left(told, name_of(lock), place);
+  // EOWNERDEAD: the thread has the lock, whose last holder ended.
+  if (status && status != EOWNERDEAD) on_lock_left(told, name_of(lock), place);
   else hold(lock);
   return status;
 }

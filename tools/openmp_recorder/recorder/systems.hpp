@@ -6,8 +6,7 @@
 
 #define ENTRY extern "C" __attribute__((visibility("default")))
 
-// Found when this library is loaded, since the program may call it in a handler of a signal or while it holds any lock;
-// another library's constructor that ran before finds it by itself. It takes no lock of this library's.
+// Found at the first call, which takes no lock of this library's; dlsym takes the loader's.
 template <class Function>
 class Systems {
  public:
