@@ -8,8 +8,8 @@ from spanprof.proof import proved
 
 MODEL = "predicted: by a model of LLVM's scheduling, not proved; its intervals held in three of four cases of 14 " \
     "programs that nothing was fitted to, on 4 threads, and by five recordings in five of six"
-OF_GNU = "predicted: by a model of gcc's scheduling, not proved; tried on eight programs on 4 threads, recorded with " \
-    "LLVM's runtime; the intervals are those of LLVM's model"
+OF_GNU = "predicted: by a model of gcc's scheduling, not proved; tried on fourteen programs on 4 threads of it; " \
+    "the intervals are those of LLVM's model"
 UNMATCHED = 0.05    # of the work, from which on it is told
 PREEMPTED = 0.01    # likewise
 
