@@ -11,6 +11,7 @@ namespace {
 using Names = std::vector<std::string>;  // innermost first
 
 constexpr const char *of_system = "@";  // before its library
+constexpr const char *headers = "@headers";  // in place of a library's name: the code stands in the program
 
 bool begins_with_one(const std::string &name, const std::vector<const char *> &starts) {
   return std::any_of(starts.begin(), starts.end(), [&](auto *start) { return !name.rfind(start, 0); });
@@ -33,6 +34,13 @@ std::string called_as(std::string name) {
 
 bool has_no_symbol(const std::string &name) { return name[0] == '['; }
 
+// A function of the C++ library that stands in the program, since it is a template: `void std::sort<..>(int*, int*)`.
+bool is_standard(const std::string &name) {
+  std::string qualified = name.substr(0, name.find('('));
+  size_t type_ends = qualified.rfind(' ') + 1;
+  return !qualified.compare(type_ends, 5, "std::") || !qualified.compare(type_ends, 11, "__gnu_cxx::");
+}
+
 // That of the file, in brackets, where the function has none, as those of a program without symbols.
 Names names_of(const void *code, const Places &places) {
   Names out;
@@ -41,10 +49,10 @@ Names names_of(const void *code, const Places &places) {
     return {(name.empty() || has_no_symbol(name) ? library : name) + of_system + library};
   }
   for (const Frame &frame : places.frames(code))
-    if (!frame.function.empty()) out.push_back(frame.function);
+    if (!frame.function.empty()) out.push_back(frame.function + (frame.of_library ? headers : ""));
   if (!out.empty()) return out;
   std::string name = places.function(code);
-  return name.empty() ? out : Names{name};
+  return name.empty() ? out : Names{name + (is_standard(name) ? headers : "")};
 }
 
 bool is_of_system(const std::string &name) { return name.find(of_system) != std::string::npos; }

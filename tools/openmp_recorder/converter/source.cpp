@@ -43,14 +43,14 @@ std::string symbol(const void *code, const ModuleOfRun &module) {
 }
 
 // What a compiler makes of a construct's code: `main.omp_outlined`, `main._omp_fn.0`, `f(int) [clone .omp_outlined]`.
-Frame frame_of(std::string name, std::string at) {
+Frame frame_of(std::string name, const std::string &at) {
   auto has = [&](const char *part) { return name.find(part) != std::string::npos; };
   bool is_outlined = has(".omp_outlined") || has("._omp_fn") || has(".omp_task_entry");
   for (const char *ending : {" [clone ", ".omp_outlined", "._omp_fn", ".omp_task_entry"})
     if (size_t found = name.find(ending); found != std::string::npos) name.resize(found);
   if (name == "??") name.clear();
   std::string few = short_name(name);
-  return {few, std::move(at), is_outlined, few == name ? "" : name};
+  return {few, base_name(at), is_outlined, few == name ? "" : name, is_of_system(at)};
 }
 
 bool next_line(FILE *answers, std::string &line) {
@@ -69,9 +69,22 @@ bool next_line(FILE *answers, std::string &line) {
 std::string place_of(const std::string &answer) { return answer.substr(0, answer.find(" (discriminator ")); }
 
 bool is_address(const std::string &line) { return !line.compare(0, 2, "0x"); }
+
+// What was put into the program's own code from a header of the system's is at the line that calls it.
+void leave_headers(std::vector<Frame> &frames) {
+  auto own = std::find_if(frames.begin(), frames.end(), [](const Frame &one) { return !one.of_library; });
+  if (own != frames.end() && is_known(own->at)) frames.erase(frames.begin(), own);
+}
 }  // namespace
 
+bool is_of_system(const std::string &source) {
+  for (const char *folder : {"/usr/include/", "/usr/lib/", "/usr/bin/../"})  // clang's paths go through its own folder
+    if (!source.rfind(folder, 0)) return true;
+  return false;
+}
+
 void Places::take(const void *code, std::vector<Frame> frames) {
+  leave_headers(frames);
   bool has_line = !frames.empty() && is_known(frames[0].at);
   if (has_line) known[code] = frames[0].at;
   auto remove = [&](auto which) { frames.erase(std::remove_if(frames.begin(), frames.end(), which), frames.end()); };
@@ -85,7 +98,7 @@ void Places::take(const void *code, std::vector<Frame> frames) {
 
 // An answer is the address, and then a line for each function and one for each place.
 void Places::ask(const ModuleOfRun &module, const std::vector<const void *> &codes) {
-  std::string command = "addr2line -a -f -i -C -s -e " + quoted(module.path);
+  std::string command = "addr2line -a -f -i -C -e " + quoted(module.path);
   for (const void *code : codes) {
     char text[32];
     snprintf(text, sizeof text, " 0x%zx", static_cast<size_t>(in_file(code, module)));

@@ -94,6 +94,21 @@ static std::string calls_of(const std::vector<const char *> &innermost_first) {
   return named_calls(calls, places);
 }
 
+TEST(code_in_headers_of_the_system_is_called_by_the_program) {
+  Places places;
+  places.put_frames(code(100),
+                    {{"copy", "char_traits.h:9", false, "", true}, {"insert", "string.h:4", false, "", true}});
+  places.put_frames(code(200), {{"main", "a.cpp:3"}});
+  EXPECT(named_calls({code(100), code(200)}, places), "main;insert@headers");
+}
+
+TEST(what_the_distribution_installs_is_of_the_system) {
+  EXPECT(is_of_system("/usr/include/c++/12/mutex:229"), true);
+  EXPECT(is_of_system("/usr/bin/../lib/gcc/x86_64-linux-gnu/12/../../../../include/c++/12/bits/stl_vector.h:9"), true);
+  EXPECT(is_of_system("/usr/local/src/solver/main.cpp:7"), false);
+  EXPECT(is_of_system("./src/tree.c:12"), false);
+}
+
 TEST(calls_end_where_the_system_called_the_program) {
   EXPECT(calls_of({"f", "f", "main", "_start"}), "main;f");
   EXPECT(calls_of({"inflate", "[tool]", "libc_start_main@libc.so.6", "[tool]"}), "main;[tool];inflate");
