@@ -18,9 +18,14 @@ std::set<std::string> lines_of(const std::set<const void *> &codes, const Places
   return lines;
 }
 
+bool begins_construct(const void *call, const Places &places) {
+  return places.modules() && places.modules()->begins_construct(call);
+}
+
 bool is_of_gcc(const void *place, const Places &places) {
-  const ModuleOfRun *module = places.modules() ? places.modules()->of(places.call_at(place)) : nullptr;
-  return module && module->is_optimised_by_gcc();
+  const void *call = places.call_at(place);
+  const ModuleOfRun *module = places.modules() ? places.modules()->of(call) : nullptr;
+  return module && module->is_optimised_by_gcc() && !begins_construct(call, places);
 }
 
 // What gcc calls of the runtime in optimised code has the line of a statement before the construct, as often as not.
@@ -53,6 +58,7 @@ void remark_lines(Region &region, const Places &places) {
     const std::string &line = places.at(code);
     bool shared = !line.empty() && (line == of_region || (is_wait && of_tasks.count(line)));
     const void *call = places.call_at(code);
+    if (begins_construct(call, places)) return;
     if (shared || (places.modules() && !places.modules()->follows_call_of_runtime(call))) seen.add(code);
   };
   for (const void *code : all.tasks) look_at(code, false);

@@ -47,6 +47,13 @@ bool ModulesOfRun::is_import_of_runtime(const ModuleOfRun &module, uint64_t entr
   });
 }
 
+bool ModulesOfRun::begins_construct(const void *code) const {
+  const ModuleOfRun *module = of(code);
+  if (!module || !module->file) return false;
+  auto function = module->file->function_at(reinterpret_cast<uint64_t>(code) - 1 - module->base);
+  return function && !function->offset && function->name.find("._omp_fn.") != std::string_view::npos;
+}
+
 // By the bytes before the place, on x86-64: a call of a function, of a stub, or by the table that a stub takes.
 bool ModulesOfRun::follows_call_of_runtime(const void *code) const {
 #if defined(__x86_64__)

@@ -23,6 +23,7 @@ class ModulesOfRun {
   const ModuleOfRun *of(const void *code) const;  // null where none is known
   bool in_runtime(const void *code) const;
   bool follows_call_of_runtime(const void *code) const;  // true where that cannot be known
+  bool begins_construct(const void *code) const;  // of gcc's: its function begins before this place
 
  private:
   std::vector<ModuleOfRun> all;  // of two at one place the later one is last

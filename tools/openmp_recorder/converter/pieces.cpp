@@ -10,7 +10,7 @@
 
 namespace {
 constexpr int64_t shortest = 1000;  // of a piece, in nanoseconds
-constexpr uint64_t most_pieces = 1 << 20;
+constexpr uint64_t most_pieces = 1 << 17;
 constexpr int64_t share_that_moves_little = 50;  // of the span
 
 using Row = std::vector<Chunk *>;  // those of one loop that one part makes, one after the other

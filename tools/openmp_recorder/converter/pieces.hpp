@@ -5,8 +5,8 @@
 #include "run.hpp"
 
 // Turns and short chunks that together cost less than a microsecond, or than a unit, are one piece. Longer pieces are
-// taken where the text fits the ten commands then and its span is nearly the same, or where there would be more than a
-// million. The chunks' region is added up, and is so afterwards.
+// taken where the text fits the ten commands then and its span is nearly the same, or where there would be more than
+// 131,072, which take longer to analyse than most programs run. The chunks' region is added up, and is so afterwards.
 void choose_pieces(WholeProgram &whole, int64_t unit);
 
 // Of chunks from one to before another, whose tasks are added up.

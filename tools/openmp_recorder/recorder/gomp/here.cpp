@@ -3,6 +3,7 @@
 #include <unistd.h>
 
 #include "callbacks.hpp"
+#include "construct.hpp"
 #include "callers.hpp"
 #include "life.hpp"
 #include "program_start.hpp"
@@ -37,6 +38,7 @@ bool begin_runtime() {
   // Clocks first, then both ranges of code, then the log: a record needs all of them.
   find_runtime(own_function("GOMP_parallel"));
   find_recorder();
+  find_lines();
   begin_recording(make_a_record, 0);
   if (this_log().call_paths) tell_creation = on_create_by_path;
   return true;

@@ -3,14 +3,13 @@
 #include <memory>
 
 #include "callbacks.hpp"
+#include "construct.hpp"
 #include "here.hpp"
 #include "own.hpp"
 #include "turns.hpp"
 #include "waits.hpp"
 
 namespace {
-using Code = void (*)(void *);
-
 struct Divided {  // at the beginning of a part
   ompt_work_t what{};
   uint64_t turns = 0;
@@ -67,9 +66,9 @@ void run_part(void *of) {
 // Its constructor must run before the runtime begins the region, and its destructor after all threads have left.
 class Region {
  public:
-  Region(Code code, void *data, unsigned asked, const void *place, Divided divided = {})
-      : team{nullptr, code, data, place, &own, divided, {0}, nullptr} {
-    on_parallel_begin(own.task, nullptr, &team.region, asked ? asked : most_threads_here(), 0, place);
+  Region(Code code, void *data, unsigned asked, const void *call, Divided divided = {})
+      : team{nullptr, code, data, place_of(code, call), &own, divided, {0}, nullptr} {
+    on_parallel_begin(own.task, nullptr, &team.region, asked ? asked : most_threads_here(), 0, team.place);
   }
   ~Region() {
     on_sync(ompt_sync_region_barrier_implicit_parallel, ompt_scope_end, nullptr, &implicit_task, team.place);

@@ -153,7 +153,7 @@ ENTRY void GOMP_taskloop(Code code, void *data, Copier copier, long bytes, long 
                          unsigned long tasks, int priority, long from, long to, long step) {
   ENTER(GOMP_taskloop, code, data, copier, bytes, alignment, flags, tasks, priority, from, to, step);
   Loop<long> of{code, data, copier, bytes, alignment, flags, tasks, priority, from, to, step};
-  loop(own_GOMP_taskloop, of, PLACE);
+  loop(own_GOMP_taskloop, of, place_of(code, PLACE));
 }
 
 ENTRY void GOMP_taskloop_ull(Code code, void *data, Copier copier, long bytes, long alignment, unsigned flags,
@@ -161,5 +161,5 @@ ENTRY void GOMP_taskloop_ull(Code code, void *data, Copier copier, long bytes, l
                              unsigned long long step) {
   ENTER(GOMP_taskloop_ull, code, data, copier, bytes, alignment, flags, tasks, priority, from, to, step);
   Loop<unsigned long long> of{code, data, copier, bytes, alignment, flags, tasks, priority, from, to, step};
-  loop(own_GOMP_taskloop_ull, of, PLACE);
+  loop(own_GOMP_taskloop_ull, of, place_of(code, PLACE));
 }

@@ -47,7 +47,7 @@ void make_task(Own own_task, const Asked &of, const void *place) {
   Given given{{}, of.copier, of.data, of.bytes};
   Head &head = given.head;
   head.code = of.code;
-  head.place = place;
+  head.place = place_of(of.code, place);
   head.start = start_of_data(of.alignment);
   head.flags = ompt_task_explicit | (is_undeferred ? ompt_task_undeferred : 0);
   head.words_written = is_detached && of.data;

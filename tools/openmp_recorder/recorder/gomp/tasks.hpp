@@ -5,9 +5,9 @@
 #include <cstdint>
 #include <cstring>
 
+#include "construct.hpp"
 #include "here.hpp"
 
-using Code = void (*)(void *);
 using Copier = void (*)(void *, void *);
 
 enum Flags : unsigned {
