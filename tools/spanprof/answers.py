@@ -7,8 +7,6 @@ from functools import cached_property
 
 from spanprof import client
 from spanprof.c_calls import MOST_THREADS
-from spanprof.changed_text import with_costs, without_costs
-from spanprof.client import named_numbers
 from spanprof.head import head_of
 from spanprof.limits import is_long
 from spanprof.recording import open_recording, shown_name
@@ -189,24 +187,6 @@ class Answers:
     def predecessors(self):
         self.note("graph")
         return client.predecessors(self.file, len(self.code))
-
-    @cached_property
-    def text_without_costs(self):
-        return without_costs(self.ask("show") if self.file.has_loops() else self.text)
-
-    def greedy_end(self, changes, threads):
-        """Where the greedy schedule on so many threads ends, where `changes` gives segments other costs."""
-        costs = [changes.get(s, cost) for s, cost in enumerate(self.rows.cost)]
-        self.noted("spanprof greedy --threads %d < %s with other costs" % (threads, self.name))
-        table = client.ask(["greedy", "--threads", str(threads)], with_costs(self.text_without_costs, costs))
-        return max((int(row["end"]) for row in client.rows(table)), default=0)
-
-    def what_if(self, changes):
-        """Work, span and the span before, where `changes` gives segments other costs."""
-        if not changes:
-            return {"work": self.work, "span": self.span, "was": self.span}
-        words = ["%d=%d" % change for change in sorted(changes.items())]
-        return named_numbers(self.ask("whatif", *words))
 
 
 def curve_in(table):

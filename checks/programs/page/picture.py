@@ -25,6 +25,8 @@ def main(words):
         page.emulate("light")
         page.open(source)
         page.settled()
+        page.evaluate("location.hash = '#%s'; unfold()" % (part if words[5:] else ""))
+        page.settled()
         bottom = edge_of(page, part, "bottom")
         if not bottom:
             sys.exit("%s has no part %s" % (source, part))

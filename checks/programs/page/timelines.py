@@ -1,5 +1,4 @@
-"""What a timeline does beside zoom and movement: names, choice, search, marks, fingers. Each trial yields faults."""
-SHIFT = 8   # the bit of the key in an event of the mouse
+"""What a timeline does beside zoom and movement: names, choice, search, fingers. Each trial yields faults."""
 
 
 def widest(page):
@@ -68,25 +67,6 @@ def search_finds(page):
     show_all(page)
 
 
-def stretches_are_marked(page):
-    """A drag with Shift marks a stretch; the line tells of it, and Escape takes it away."""
-    bar = widest(page)
-    first, last = bar["left"] + 40, bar["right"] - 40
-    page.mouse("mousePressed", first, bar["y"], button="left", buttons=1, clickCount=1, modifiers=SHIFT)
-    page.mouse("mouseMoved", last, bar["y"], button="left", buttons=1, modifiers=SHIFT)
-    page.mouse("mouseReleased", last, bar["y"], button="left", clickCount=1, modifiers=SHIFT)
-    told = page.evaluate("allLanes[0].figure.querySelector('.stretch').textContent")
-    if not told.startswith("Chosen stretch: ") or "% " not in told.replace("%,", "% "):
-        yield "a marked stretch tells %r" % told
-    if not page.evaluate("!!allLanes[0].element.querySelector('.mark')"):
-        yield "a marked stretch is not drawn"
-    page.evaluate("allLanes[0].element.focus()")
-    page.key("Escape")
-    if page.evaluate("!!allLanes[0].mark"):
-        yield "Escape does not take a mark away"
-    show_all(page)
-
-
 def runs_zoom_by_themselves(page):
     lengths = "allLanes.map(lanes => lanes.stretch.length)"
     before = page.evaluate(lengths)
@@ -104,14 +84,14 @@ def runs_zoom_by_themselves(page):
 def fingers_are_told(page):
     """A tap on a number tells its title."""
     number = page.evaluate("""(() => {
-      const number = document.querySelector('.tile data');
+      const number = document.querySelector('td data');
       number.scrollIntoView({block: 'center'});
       const box = number.getBoundingClientRect();
       return {x: box.left + box.width / 2, y: box.top + box.height / 2, title: number.title};
     })()""")
     page.touch("touchStart", [{"x": number["x"], "y": number["y"], "id": 0}])
     page.touch("touchEnd", [])
-    told = page.evaluate("fingerTip.classList.contains('shown') ? fingerTip.textContent : ''")
+    told = page.evaluate("(t => t ? t.textContent : '')(document.querySelector('.tip.shown'))")
     if told != number["title"]:
         yield "a tap on a number tells %r, and not %r" % (told, number["title"])
 

@@ -7,7 +7,7 @@ COLOURS = {
     "soft": ("#59636e", "#9aa5b1"), "rule": ("#d9dee4", "#343c46"), "grid": ("#e8ebef", "#262d35"),
     "accent": ("#1f5fbf", "#78aef5"), "second": ("#b3590a", "#f0a05a"), "red": ("#c8281e", "#ff6b60"),
     "measured": ("#8a5300", "#e3b25c"), "recorded": ("#1f5fbf", "#78aef5"), "proved": ("#18703a", "#66c98a"),
-    "declared": ("#6d3fa0", "#c59cf0"), "predicted": ("#a3195b", "#f48ab8"), "shade": ("#fff6e5", "#2b2417"),
+    "declared": ("#6d3fa0", "#c59cf0"),
 }
 BARS = (("#88ccee", "#8fd8f5"), ("#cc6677", "#e4788f"), ("#ddcc77", "#f0d47c"), ("#117733", "#27a35c"),
         ("#332288", "#6a46c4"), ("#aa4499", "#c58be8"), ("#44aa99", "#c4efdc"), ("#999933", "#8f9a24"),
@@ -40,18 +40,13 @@ def variables(number):
     return " ".join("--%s: %s;" % pair for pair in named.items())
 
 
-OF_A_BAR = ".lanes .c%d { fill: var(--c%d); } .lanes .t%d { fill: var(--t%d); } .key.c%d { background: var(--c%d); }"
-
-
 def of_bars():
-    return [OF_A_BAR % ((i,) * 6) for i in range(len(BARS))]
+    rule = ".lanes .c%d { fill: var(--c%d); } .lanes .t%d { fill: var(--t%d); } .key.c%d { background: var(--c%d); }"
+    return [rule % ((i,) * 6) for i in range(len(BARS))]
 
 
 def colour_rules():
-    """What is chosen on the page goes before what the reader's system asks for."""
     light, dark = (variables(number) for number in (0, 1))
     return "\n".join([":root { color-scheme: light; %s }" % light,
                       "@media (prefers-color-scheme: dark) { :root { color-scheme: dark; %s } }" % dark,
-                      ':root[data-theme="light"] { color-scheme: light; %s }' % light,
-                      ':root[data-theme="dark"] { color-scheme: dark; %s }' % dark, *of_bars(),
-                      "@media print { :root, :root[data-theme] { color-scheme: light; %s } }" % light]) + "\n"
+                      *of_bars(), "@media print { :root { color-scheme: light; %s } }" % light]) + "\n"

@@ -3,16 +3,13 @@ halved. The answers stand on the page, and the line that asks for each."""
 import shlex
 
 from spanprof.claims import speaks_of, why_not_of_more_threads
-from spanprof.report.figures import BURDENED, PREDICTED, PROVED, badge, badges
-from spanprof.report.markup import details, join, note, section, tag
-from spanprof.report.part_predicted import short_words
+from spanprof.report.figures import PROVED, badges
+from spanprof.report.markup import details, note, section, tag
 from spanprof.report.tables import table
 from spanprof.whatif.advice import in_words
-from spanprof.whatif.requests import Request
 from spanprof.whatif.tell import yours_to_know
 from spanprof.whatif.trials import LEAST_CHANGE
 
-MOST_LINES = 3
 NEARLY_NOTHING = "Changes that let the greedy schedule end as soon or later"
 
 
@@ -22,13 +19,11 @@ def command(view, request, threads):
 
 
 def change_cell(view, number, trial):
-    """In words, and the command, which is broken between its options."""
-    name, threads = "change-%d" % number, view.tried.trials.threads[0]
-    first, *options = command(view, trial.request, threads).split(" --")
-    line = join([first, *[tag("span", "--" + option, class_="option") for option in options]], " ")
+    """In words, and the command."""
+    name, line = "change-%d" % number, command(view, trial.request, view.tried.trials.threads[0])
     copy = tag("button", "copy", type="button", data_copy=name)
-    return tag("span", tag("span", in_words(trial.request), class_="place"), tag("code", line, id=name), copy,
-               class_="where change")
+    return tag("span", tag("span", in_words(trial.request), class_="place"), tag("code", line, id=name, title=line),
+               copy, class_="where change")
 
 
 def end_cells(view, number, trial, threads):
@@ -37,18 +32,10 @@ def end_cells(view, number, trial, threads):
     return [show.time(end, source, PROVED), show.share(was - end, was, "%s - %s / %s" % (ended, source, ended), PROVED)]
 
 
-def predicted_cells(view, number, trial):
-    """The time by the model of the machine, where there is one, of the first changes."""
-    if not view.predicted_changes:
-        return []
-    found = view.predicted_changes.get(trial.request)
-    return [short_words(view, *found, "trial-predicted %d " % number) if found else ""]
-
-
 def row(view, number, trial, threads):
     show, named = view.figures, "trial %d " % number
     cells = [cell for p in threads for cell in end_cells(view, number, trial, p)]
-    return [change_cell(view, number, trial), *cells, *predicted_cells(view, number, trial),
+    return [change_cell(view, number, trial), *cells,
             *[show.time(getattr(trial.numbers, name), named + name, PROVED) for name in ("span", "work")]]
 
 
@@ -61,17 +48,11 @@ def on_threads(words, p):
     return tag("span", "%s on %d thread%s" % (words, p, "" if p == 1 else "s"), class_="given")
 
 
-def heads(view, threads):
-    ends = [[on_threads("end", p), "less"] for p in threads]
-    time = [join([on_threads("time", view.tried.trials.threads[0]), " ", badge(PREDICTED), ", at least ",
-                  badge(BURDENED)])]
-    return ["change", *(words for pair in ends for words in pair), *time * bool(view.predicted_changes), "span", "work"]
-
-
 def rows_table(view, chosen, threads):
-    numbered = [(number, trial) for number, trial in enumerate(view.tried.trials.ranked) if chosen(trial)]
-    rows, columns = [row(view, number, trial, threads) for number, trial in numbered], heads(view, threads)
-    return table(columns, rows, numeric=range(1, len(columns)), is_sortable=True) if rows else ""
+    rows = [row(view, number, trial, threads) for number, trial in enumerate(view.tried.trials.ranked) if chosen(trial)]
+    ends = [[on_threads("end", p), "less"] for p in threads]
+    heads = ["change", *(words for pair in ends for words in pair), "span", "work"]
+    return table(heads, rows, numeric=range(1, len(heads)), is_sortable=True) if rows else ""
 
 
 def silent(view):
@@ -90,20 +71,10 @@ def notes(view):
     return tag("ul", *[tag("li", line) for line in words], class_="given note")
 
 
-def lines_to_ask(view):
-    """Of a text that is so long that there was no time: half the cost of the first places, each in a line that asks for
-    it."""
-    lines = [tag("pre", tag("code", command(view, Request("factor", place.name + "=0.5"), view.answers.threads),
-                            id="ask-%d" % i), tag("button", "copy", type="button", data_copy="ask-%d" % i))
-             for i, place in enumerate(view.places[:MOST_LINES])]
-    return [note("No single change is tried, for want of time. These lines ask what one brings; ",
-                 tag("code", "--places"), " lists what can be changed."), *lines]
-
-
-def changes_part(view, of=""):
-    """`of` names the program where the page has two. Nothing where no change was tried."""
+def changes_part(view):
+    """Nothing where no change was tried."""
     if not view.tried or not view.tried.trials.made:
-        return section("changes", "Changes of the program" + of, *lines_to_ask(view)) if view.is_long else ""
+        return ""
     trials, threads = view.tried.trials, told_threads(view)
     gain = {id(trial): max((trials.share(trial, p) for p in threads), default=0) for trial in trials.made}
     brings = rows_table(view, lambda trial: gain[id(trial)] >= LEAST_CHANGE, threads)
@@ -112,5 +83,5 @@ def changes_part(view, of=""):
                  "text ends, its span and its work ", badges(PROVED), ". The line below a change asks for it again; "
                  "several options make several changes at once.")
     none = "" if brings else note("No single change that was tried lets the greedy schedule end sooner.")
-    return section("changes", "Changes of the program" + of, first, *silent(view), brings, none,
+    return section("changes", "What-if changes", first, *silent(view), brings, none,
                    details(NEARLY_NOTHING, other) if other else "", details("What was assumed", notes(view)))

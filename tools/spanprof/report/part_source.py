@@ -1,6 +1,6 @@
 """The source with heat: which lines the work and the span are of."""
 from spanprof.report.figures import badges, percent
-from spanprof.report.markup import breakable, details, join, note, section, tag
+from spanprof.report.markup import breakable, join, note, section, tag
 from spanprof.text import CALLED_FROM
 
 MOST_FILES, MOST_LINES, AROUND = 6, 800, 3
@@ -73,17 +73,12 @@ def file_table(view, places, lines):
     return tag("div", tag("table", tag("tbody", *rows), class_="source"), class_="wide")
 
 
-def source_part(view, of=""):
-    """`of` names the program where the page has two. Nothing where no file is found."""
+def source_part(view):
+    """Nothing where no file is found."""
     files = [(name, places, view.sources.lines_of(name)) for name, places in of_files(view)]
     found = [(name, places, lines) for name, places, lines in files if lines][:MOST_FILES]
-    if not found:
-        return ""
-    pieces = [details(tag("span", name, class_="place"), file_table(view, places, lines), is_open=i == 0)
-              for i, (name, places, lines) in enumerate(found)]
-    return section("source", "Source" + of, note(
-        "The darker a line, the more of the work a place is whose segments run it, and the redder the bar at its left, "
-        "the more of the span: from where they begin to the construct that ends them. Where the statement of a "
-        "directive ends, this page reads off the file's braces. Places with next to nothing of both have no words. "
-        "Shares ",
-        badges(view.cost_kind), "."), join(pieces))
+    pieces = [join([tag("h3", name, class_="place"), file_table(view, places, lines)]) for name, places, lines in found]
+    return section("source", "Source", note(
+        "The darker a line, the more of the work its segments are, and the redder the bar at its left, the more of the "
+        "span: from where they begin to the construct that ends them. Shares ", badges(view.cost_kind), "."),
+        *pieces) if found else ""

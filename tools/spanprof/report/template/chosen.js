@@ -21,20 +21,19 @@ function arrowsOf(lanes) {
     ...after.slice(0, MOST_ARROWS).map((s) => arrow(lanes, "waits", chosen, s))].join("");
 }
 
-function choose(lanes, segment, isTold = true) {
+function choose(lanes, segment) {
   const bar = lanes.barOf(segment);
   if (!bar) return;
   lanes.chosen = segment;
   lanes.stretch.reveal(bar.start, bar.end);
   lanes.draw();
-  if (!isTold) return;
   const box = lanes.element.getBoundingClientRect(), { row } = lanes.run.where.get(segment);
-  lanes.tell(lanes.words([bar]), box.left + Math.max(lanes.x(bar.start), LEFT), box.top + lanes.top(row + 1));
+  showTip(lanes.words([bar]), box.left + Math.max(lanes.x(bar.start), LEFT), box.top + lanes.top(row + 1));
 }
 
 function leave(lanes) {
-  Object.assign(lanes, { chosen: null, mark: null });
-  lanes.hush();
+  lanes.chosen = null;
+  showTip("");
   lanes.draw();
 }
 

@@ -1,16 +1,11 @@
 """The table of single changes, and the source with heat, on the worked programs."""
 import re
 import unittest
-from typing import NamedTuple
 
 from spanprof.report.part_changes import changes_part, command
-from spanprof.report.nesting import creators, nesting
-from spanprof.report.part_nesting import nesting_part
 from spanprof.report.part_source import source_part
 from spanprof.report.tests import worked
 from spanprof.report.tests.test_parts import seen
-from spanprof.tests.columns import code_of
-from spanprof.text import Segment
 from spanprof.whatif.requests import Request
 
 
@@ -54,31 +49,3 @@ class Source(unittest.TestCase):
 
     def test_without_a_file(self):
         self.assertEqual(source_part(worked.view("plain")), "")
-
-
-class Costs(NamedTuple):
-    """Columns of three tasks."""
-    cost: list
-    critical_cost: list
-
-    def __len__(self):
-        return 3
-
-
-class Nesting(unittest.TestCase):
-    def test_boxes_below_their_creators(self):
-        part = nesting_part(worked.view("mesh"))
-        self.assertIn('data-from="percent nested', part)
-        self.assertIn("mesh.c:10, 2 tasks, 19 µs with all below: 46.3 %", part)
-
-    def test_levels_of_a_recursion(self):
-        code = [Segment(0, "", "", ""), Segment(1, "a.c:3", "", ""), Segment(2, "a.c:3", "", ""),
-                Segment(1, "a.c:3", "creating a task", "a.c:3"), Segment(0, "", "creating a task", "a.c:3")]
-        self.assertEqual(creators(code_of(code)), [None, 0, 1])
-        root = nesting([None, 0, 1], Costs([5, 3, 2], [1, 3, 2]), [0, 1, 1])
-        one = root.below[1]
-        self.assertEqual([(node.path, node.cost, node.critical_cost) for node in (root, one, one.below[1])],
-                         [((0,), 10, 6), ((0, 1), 5, 5), ((0, 1, 1), 2, 2)])
-
-    def test_nothing_where_no_task_creates_another(self):
-        self.assertEqual(nesting_part(worked.view("plain")), "")

@@ -24,8 +24,6 @@ class Numbers(unittest.TestCase):
                          'data-from="span work" data-scale="1000000" class="proved">1.23 s</data>')
         self.assertIn('data-rounded="up" data-scale="1000" class="proved">1.24 ms<',
                       show.time(1231, "curve 2 bound", PROVED, "up"))
-        self.assertEqual(show.told_time("tspan", 5000, "task 3 cost"),
-                         '<tspan data-from="task 3 cost" data-scale="1000">5.00 ms</tspan>')
 
     def test_the_second_program(self):
         self.assertIn('data-from="other percent span span / span work"',

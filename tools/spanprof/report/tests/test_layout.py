@@ -23,10 +23,6 @@ class Positions(unittest.TestCase):
     def test_edges_lead_down(self):
         self.assertTrue(all(self.layout.y[a] < self.layout.y[b] for a, b in EDGES))
 
-    def test_a_long_edge_bends_in_the_layer_between(self):
-        route = self.layout.routes["root", "end"]
-        self.assertEqual((len(route), route[0], route[-1]), (3, "root", "end"))
-
     def test_all_of_it_is_inside(self):
         for name in NAMES:
             self.assertTrue(40 <= self.layout.x[name] <= self.layout.width - 40)

