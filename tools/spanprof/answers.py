@@ -1,6 +1,5 @@
 """A program text of any size with what the proved program answers of it. Each command is run once, when its answer is
 first needed; what it tells of each segment is read as it comes, and kept in columns of numbers."""
-import time
 from array import array
 from dataclasses import dataclass
 from functools import cached_property
@@ -70,7 +69,7 @@ class Answers:
     def __init__(self, recording, threads=None, tell=None):
         self.path, self.tell = getattr(recording, "text", recording), tell or (lambda words: None)
         self.name = shown_name(self.path)
-        self.asked, self.wanted_threads, self.seconds_to_read = [], threads, 0
+        self.asked, self.wanted_threads = [], threads
         self.file = TextFile(self.path)
         self.numbers = client.measured(self.path)
         self.head = head_of(self.path)
@@ -128,11 +127,8 @@ class Answers:
     @cached_property
     def code(self):
         """The segments; of a text with loops those of its canonical text, which has none."""
-        begun = time.monotonic()
         lines = client.ask(["show"], self.file).splitlines(True) if self.file.has_loops() else self.file.lines()
-        found = read_code(lines, self.name)
-        self.seconds_to_read = time.monotonic() - begun
-        return found
+        return read_code(lines, self.name)
 
     @cached_property
     def rows(self):

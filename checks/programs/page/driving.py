@@ -1,12 +1,11 @@
 """The first screen, zoom, movement, tooltips, tables and changes of a page, by keys and mouse, as trials that yield
 faults."""
-import json
 import os
 import shlex
 import subprocess
 
 from measured import what_was_measured_is_told
-from timelines import (fingers_are_told, fingers_zoom, names_stand_in_bars, runs_zoom_by_themselves, search_finds,
+from timelines import (fingers_are_told, fingers_zoom, names_stand_in_bars, runs_zoom_by_themselves,
                        segments_are_chosen)
 
 TOP = os.path.dirname(os.path.dirname(os.path.dirname(os.path.dirname(os.path.abspath(__file__)))))
@@ -66,16 +65,13 @@ def letters_zoom_and_move(page):
         yield "s does not zoom out, or 0 does not show all"
 
 
-def keys_go_from_segment_to_segment(page):
+def a_key_goes_along_the_path(page):
     page.evaluate("document.querySelector('.lanes').focus()")
-    seen = []
-    for name in (".", ".", ",", "n", "ArrowDown", "ArrowUp"):
-        page.key(name, name if len(name) == 1 else None)
-        seen.append(tip(page))
-    if not all("segment" in words and "cost" in words and "slack" in words for words in seen):
-        yield "no tooltip after a key: %r" % seen
-    if "on the critical path" not in seen[3]:
-        yield "n does not go to the critical path: %r" % seen[3]
+    for _ in range(2):
+        page.key("n", "n")
+        words = tip(page)
+        if not all(part in words for part in ("segment", "cost", "slack", "on the critical path")):
+            yield "n does not go to the critical path: %r" % words
     page.key("Escape")
     if tip(page):
         yield "Escape does not close the tooltip"
@@ -168,21 +164,14 @@ def links_unfold(page):
 
 
 def changes_give_a_line(page, text, program):
-    """The first change's line, run, tells what stands in its row."""
-    row = page.evaluate("""(() => {
-      const line = document.querySelector('.change code');
-      if (!line) return null;
-      const found = line.closest('tr').querySelector('data[data-from^="trial "][data-from$=" span"]');
-      return {line: line.textContent, span: found.value};
-    })()""")
-    if row is None:
+    """The first change's line can be run."""
+    line = page.evaluate("(line => line && line.textContent)(document.querySelector('.change code'))")
+    if not line:
         return
-    words = shlex.split(row["line"])
-    done = subprocess.run([WHATIF, text, *words[2:], "--json"], capture_output=True, text=True,
+    done = subprocess.run([WHATIF, text, *shlex.split(line)[2:]], capture_output=True, text=True,
                           env=dict(os.environ, SPANPROF=program), check=False)
-    told = json.loads(done.stdout)["changed text"]["span"] if done.returncode == 0 else done.stderr
-    if str(told) != row["span"]:
-        yield "the table has %s, and the line %r tells %s" % (row["span"], row["line"], told)
+    if done.returncode or "span" not in done.stdout:
+        yield "the line %r fails: %s" % (line, done.stderr)
 
 
 def focus_goes_through(page):
@@ -192,7 +181,7 @@ def focus_goes_through(page):
     for _ in range(page.evaluate("document.querySelectorAll('a, button, input, summary, [tabindex]').length") + 1):
         page.key("Tab")
         seen.add(page.evaluate("document.activeElement.className || document.activeElement.tagName"))
-        if {"lanes", "search", "SUMMARY"} <= seen:
+        if {"lanes", "BUTTON", "SUMMARY"} <= seen:
             return
     yield "Tab comes to %s alone" % sorted(seen)
 
@@ -205,8 +194,8 @@ def drive(page, text, program):
     page.settled()
     trials = [tables_sort]
     if has_timeline(page):
-        trials += [focus_goes_through, keys_zoom_and_move, letters_zoom_and_move, keys_go_from_segment_to_segment,
-                   mouse_tells, mouse_zooms_and_moves, names_stand_in_bars, segments_are_chosen, search_finds,
+        trials += [focus_goes_through, keys_zoom_and_move, letters_zoom_and_move, a_key_goes_along_the_path,
+                   mouse_tells, mouse_zooms_and_moves, names_stand_in_bars, segments_are_chosen,
                    runs_zoom_by_themselves, fingers_are_told, fingers_zoom]
     for trial in trials:
         yield from trial(page)

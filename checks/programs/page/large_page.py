@@ -18,7 +18,7 @@ from visit import LOOKS, look_at, looks
 TOP = os.path.dirname(os.path.dirname(os.path.dirname(os.path.dirname(os.path.abspath(__file__)))))
 REPORT = os.path.join(TOP, "tools", "spanprof-report")
 MOST_BYTES, MOST_SECONDS, MOST_TO_OPEN = 5000000, 30, 2
-PARTS = ("summary", "speedup", "timeline", "places", "changes", "numbers")
+PARTS = ("summary", "speedup", "timeline", "places", "numbers")
 
 
 def processor_time():

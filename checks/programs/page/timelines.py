@@ -1,4 +1,4 @@
-"""What a timeline does beside zoom and movement: names, choice, search, fingers. Each trial yields faults."""
+"""What a timeline does beside zoom and movement: names, choice, fingers. Each trial yields faults."""
 
 
 def widest(page):
@@ -43,27 +43,6 @@ def segments_are_chosen(page):
         yield "a click on segment %d chooses %s" % (bar["segment"], seen["chosen"])
     if seen["arrows"] != seen["wanted"]:
         yield "%s arrows, and not %s" % (seen["arrows"], seen["wanted"])
-    show_all(page)
-
-
-def search_finds(page):
-    """A place's name finds its bars, and Enter goes to one of them."""
-    seen = page.evaluate("""(() => {
-      const lanes = allLanes[0], box = lanes.figure.querySelector('input.search');
-      const { place, places } = lanes.program, first = [...lanes.run.where.keys()][0], name = places[place[first]];
-      const type = (words) => { box.value = words; box.dispatchEvent(new Event('input', {bubbles: true})); };
-      type(name);
-      const wanted = [...lanes.run.where.keys()].filter(s => places[place[s]].includes(name)).length;
-      const told = lanes.figure.querySelector('output').textContent;
-      box.dispatchEvent(new KeyboardEvent('keydown', {key: 'Enter', bubbles: true}));
-      const chosen = lanes.chosen === null ? '' : places[place[lanes.chosen]];
-      type('');
-      return {name, wanted, told, chosen, after: lanes.figure.querySelector('output').textContent};
-    })()""")
-    if seen["told"] != "%s found" % "{:,}".format(seen["wanted"]):
-        yield "a search for %r tells %r, and not %d" % (seen["name"], seen["told"], seen["wanted"])
-    if seen["name"] not in seen["chosen"] or seen["after"]:
-        yield "Enter goes to %r; an empty search tells %r" % (seen["chosen"], seen["after"])
     show_all(page)
 
 

@@ -14,7 +14,6 @@ RIGHT = {
     "callers": [
         r"recorded from callers, the whole program: 1 region",
         r"serial code 1 task [\d.]+ % of the work",
-        r"the code after the barrier of the region at " + AT + r" in 4 tasks",
         r"called from solve at " + AT,
     ],
 }

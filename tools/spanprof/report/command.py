@@ -92,19 +92,13 @@ class Progress:
         show(["spanprof-report: written: %s" % path for path in written], self.stream)
 
 
-def views_of(chosen, tell):
-    views = [View(chosen.program, chosen.threads, chosen.source, tell=tell)]
-    if chosen.other:
-        views.append(View(chosen.other, chosen.threads, chosen.source, "other ", tell))
-    return views
-
-
 def write_the_rest(chosen, progress):
     """What was asked for; what was written is told."""
     if chosen.json:
         print(json.dumps(told_of(open_recording(chosen.program), chosen.source or ()).json(), indent=2))
     written = outputs(chosen)
-    views = views_of(chosen, progress) if written else []
+    texts = ((chosen.program, ""), (chosen.other, "other ")) if written else ()
+    views = [View(text, chosen.threads, chosen.source, prefix, progress) for text, prefix in texts if text]
     if chosen.trace and views[0].is_long:
         raise Fault("%s: the text is beyond the limits of spanprof, and has no --trace" % chosen.program)
     for path, what in written:

@@ -1,7 +1,6 @@
 """Numbers of the page. Each tells where it comes from: it carries the answer of spanprof that it is, or the sum.
 
-A source is written in a few words that the tests read again: `span work`, `curve 4 end`, `place 3 cost`,
-`trial 3 span`. `A - B` is a difference, `A / B` a quotient, `percent A / B` the same in per cent. `other` before
+A source is written in a few words that the tests read again: `span work`, `curve 4 end`, `place 3 cost`. `A - B` is a difference, `A / B` a quotient, `percent A / B` the same in per cent. `other` before
 all of it means the second program of the page, and `change A` how that differs from the first in per cent.
 """
 from spanprof.proof import proved
@@ -70,10 +69,6 @@ class Figures:
         """A part of a whole in per cent; the source is that of the quotient."""
         value = percent(part, whole)
         return self.data(grouped(value, 1) + " %", value, "percent " + source, kind)
-
-    def times(self, above, below, source, kind):
-        """A quotient such as a speedup; 1 where nothing costs anything."""
-        return self.number(above / below if below else 1.0, source, kind, 2)
 
     def times_at_most(self, above, below, source, kind):
         """A quotient that nothing passes, rounded up."""

@@ -9,7 +9,6 @@ from spanprof.report.layout import lay_out
 from spanprof.report.markup import join, tag
 from spanprof.report.units import grouped
 
-WIDEST = 1700   # what is wider is not made to fit, but scrolls
 LETTER, LINE, PAD = 6.9, 16, 10
 DARKEST = 45    # per cent of the colour, so that words on it can be read
 WORDS = {CREATES: ("%s created", "%s created"), DEPENDS: ("%s depends", "%s depend"), WAITS: ("%s wait", "%s waits")}
@@ -81,32 +80,33 @@ def draw_box(box, x, y):
     return tag("g", box.title, rectangle, *words, class_="box critical" if box.is_critical else "box")
 
 
-def side_of(layout, boxes, a, b):
+def side_of(middles, boxes, a, b):
     """Where a line passes to the right of the boxes between two others; None where nothing stands between."""
-    low, high = sorted((layout.y[a], layout.y[b]))
-    right = [layout.x[name] + box.size[0] / 2 for name, box in boxes.items() if low < layout.y[name] < high]
+    low, high = sorted((middles[a][1], middles[b][1]))
+    right = [middles[name][0] + box.size[0] / 2 for name, box in boxes.items() if low < middles[name][1] < high]
     return max(right) + 30 if right else None
 
 
-def line_between(layout, boxes, a, b):
+def line_between(middles, boxes, a, b):
     """The path of a line, its middle, and whether it goes round boxes: from below one box to above another, round those
     between them; or backward round the right of both."""
-    (wide_a, high_a), (wide_b, high_b) = boxes[a].size, boxes[b].size
-    if layout.y[a] < layout.y[b]:
-        (x0, y0), (x1, y1) = (layout.x[a], layout.y[a] + high_a / 2), (layout.x[b], layout.y[b] - high_b / 2 - 4)
-        side, middle = side_of(layout, boxes, a, b), (y0 + y1) / 2
+    (wide_a, high_a), (wide_b, high_b), side = boxes[a].size, boxes[b].size, side_of(middles, boxes, a, b)
+    (x0, y0), (x1, y1) = middles[a], middles[b]
+    if y0 < y1:
+        y0, y1 = y0 + high_a / 2, y1 - high_b / 2 - 4
+        middle = (y0 + y1) / 2
         bends = (x0, middle, x1, middle) if side is None else \
             ((4 * side - x0) / 3, y0 + 30, (4 * side - x1) / 3, y1 - 30)
         path = "M%.1f %.1fC%.1f %.1f %.1f %.1f %.1f %.1f" % (x0, y0, *bends, x1, y1)
         return path, side or (x0 + x1) / 2, middle, side is not None
-    (x0, y0), (x1, y1) = (layout.x[a] + wide_a / 2, layout.y[a]), (layout.x[b] + wide_b / 2 + 4, layout.y[b])
-    side, middle = max(x0, x1, side_of(layout, boxes, a, b) or 0) + 26, (y0 + y1) / 2
+    x0, x1, middle = x0 + wide_a / 2, x1 + wide_b / 2 + 4, (y0 + y1) / 2
+    side = max(x0, x1, side or 0) + 26
     return "M%.1f %.1fQ%.1f %.1f %.1f %.1f" % (x0, y0, side, middle, x1, y1), (x0 + 2 * side + x1) / 4, middle, True
 
 
-def draw_edge(layout, boxes, pair, joined):
+def draw_edge(middles, boxes, pair, joined):
     """The line, and its label."""
-    path, x, y, is_round = line_between(layout, boxes, *pair)
+    path, x, y, is_round = line_between(middles, boxes, *pair)
     names, label = ["edge"] + joined.kinds + ["critical"] * joined.is_critical, Label(joined, x, y)
     label.x += label.half * is_round
     return tag("path", d=path, class_=" ".join(names), marker_end="url(#arrow)"), label
@@ -138,16 +138,18 @@ def arrow():
 def picture(figures, boxes, edges):
     """`boxes` by name in an order in which most edges go forward; `edges` are Joined by pairs of names."""
     names, rank = list(boxes), {name: i for i, name in enumerate(boxes)}
-    layout = lay_out(names, [pair for pair in edges if rank[pair[0]] < rank[pair[1]]],
-                     {name: box.size for name, box in boxes.items()})
-    drawn = [draw_edge(layout, boxes, pair, joined) for pair, joined in edges.items()]
+    middles = lay_out(names, [pair for pair in edges if rank[pair[0]] < rank[pair[1]]],
+                      {name: box.size for name, box in boxes.items()})
+    drawn = [draw_edge(middles, boxes, pair, joined) for pair, joined in edges.items()]
     labels = apart([label for _, label in drawn])
     left = min([0, *(label.x - label.half for label in labels)]) - 4
-    width = max([layout.width, *(label.x + label.half for label in labels)]) + 34 - left
-    height = max([layout.height, *(label.y + LINE for label in labels)]) + 8
+    right = max([middles[name][0] + box.size[0] / 2 for name, box in boxes.items()] +
+                [label.x + label.half for label in labels]) + 8
+    bottom = max([middles[name][1] + box.size[1] / 2 for name, box in boxes.items()] +
+                 [label.y + LINE for label in labels]) + 8
     svg = tag("svg", arrow(), *[line for line, _ in drawn],
-              *[draw_box(box, layout.x[name], layout.y[name]) for name, box in boxes.items()],
-              *[draw_label(figures, label) for label in labels], viewBox="%.0f -4 %.0f %.0f" % (left, width, height),
-              width="%.0f" % width, height="%.0f" % height, class_="graph large" if width > WIDEST else "graph",
-              role="img", aria_label=join(["Dependences of %d places" % len(boxes)]))
+              *[draw_box(box, *middles[name]) for name, box in boxes.items()],
+              *[draw_label(figures, label) for label in labels], width="%.0f" % (right - left), height="%.0f" % bottom,
+              viewBox="%.0f -4 %.0f %.0f" % (left, right - left, bottom), class_="graph", role="img",
+              aria_label="Dependences of %d places" % len(boxes))
     return tag("div", svg, class_="wide")

@@ -1,18 +1,6 @@
 """Boxes in layers: an edge that goes forward leads to a lower layer, and boxes stand near those they are joined to."""
-from dataclasses import dataclass, field
-from typing import Dict
-
 SWEEPS = 8
 GAP, LAYER_GAP = 60, 72
-
-
-@dataclass
-class Layout:
-    """Middles of the boxes, by name."""
-    x: Dict = field(default_factory=dict)
-    y: Dict = field(default_factory=dict)
-    width: float = 0
-    height: float = 0
 
 
 def layers_of(names, edges):
@@ -55,16 +43,14 @@ def positions(rows, edges, widths):
 
 
 def lay_out(names, edges, sizes):
-    """`edges` are pairs that go forward in the list `names`; `sizes` are width and height of each box."""
-    layer = layers_of(names, edges)
+    """Of each name the middle of its box. `edges` are pairs that go forward in the list `names`; `sizes` are width and
+    height of each box. All of it begins at 0, 0."""
+    layer, y, top = layers_of(names, edges), {}, 0
     rows = [[name for name in names if layer[name] == depth] for depth in range(1 + max(layer.values(), default=0))]
-    x = positions(rows, edges, {name: sizes[name][0] for name in names})
-    left, out, top = min(x[name] - sizes[name][0] / 2 for name in names), Layout(), 0
     for row in rows:
         height = max(sizes[name][1] for name in row)
-        out.y.update((name, top + height / 2) for name in row)
+        y.update((name, top + height / 2) for name in row)
         top += height + LAYER_GAP
-    out.x = {name: x[name] - left for name in names}
-    out.width = max(out.x[name] + sizes[name][0] / 2 for name in names)
-    out.height = top - LAYER_GAP
-    return out
+    x = positions(rows, edges, {name: sizes[name][0] for name in names})
+    left = min(x[name] - sizes[name][0] / 2 for name in names)
+    return {name: (x[name] - left, y[name]) for name in names}

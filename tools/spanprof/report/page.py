@@ -16,8 +16,8 @@ from spanprof.report.part_timeline import timeline_part
 from spanprof.report.timeline_data import timeline_data
 
 HERE = os.path.dirname(os.path.abspath(__file__))
-SCRIPTS = ("data.js", "level_run.js", "stretch.js", "drawing.js", "words.js", "chosen.js", "lanes.js",
-           "levels.js", "controls.js", "page.js")
+SCRIPTS = ("data.js", "stretch.js", "drawing.js", "words.js", "chosen.js", "lanes.js", "levels.js", "controls.js",
+           "page.js")
 
 
 def kept(name):
@@ -32,16 +32,6 @@ def parts(views):
             places_part(view), changes_part(view), curve_part(views), compare_part(views) if len(views) > 1 else "",
             source_part(view), graph_part(view), numbers_part(view)]
     return list(filter(None, made))
-
-
-def tried_data(view):
-    """The changes whose answers stand on the page, in their order."""
-    return view.tried and {"threads": view.tried.trials.threads,
-                           "requests": [trial.request for trial in view.tried.trials.ranked]}
-
-
-def data(views):
-    return {"programs": [timeline_data(view) for view in views], "tried": [tried_data(view) for view in views[:1]]}
 
 
 def as_script(found):
@@ -65,5 +55,5 @@ def page(views):
     made = parts(views)
     return filled(kept("page.html"), {
         "title": markup(" and ".join(view.name for view in views)), "main": join(made, "\n"),
-        "data": as_script(data(views)), "style": colour_rules() + kept("style.css"),
+        "data": as_script({"programs": [timeline_data(view) for view in views]}), "style": colour_rules() + kept("style.css"),
         "script": "\n".join(map(kept, SCRIPTS))})

@@ -1,6 +1,5 @@
 """Two programs: which is faster, where, and their numbers in a table."""
-from dataclasses import dataclass
-from typing import Optional
+from typing import NamedTuple, Optional
 
 from spanprof.diagnosis.compare import compared, lines as compared_lines
 from spanprof.report.figures import MEASURED, PROVED, badges, percent
@@ -9,8 +8,7 @@ from spanprof.report.part_numbers import recorded_words, warnings
 from spanprof.report.tables import table
 
 
-@dataclass
-class Line:
+class Line(NamedTuple):
     """A number of both programs; `is_time` where it is one of their units. Without a kind it is one of their shapes."""
     name: str
     first: Optional[int]

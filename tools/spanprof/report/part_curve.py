@@ -116,11 +116,8 @@ def picture(views):
     axes = Axes(most_threads, max(most_shown(views) * 1.06, 1.5))
     ideal = [(1, 1), (min(most_threads, axes.most_times), min(most_threads, axes.most_times))]
     pieces = [grid(axes), tag("polyline", points=axes.points(ideal), class_="ideal")]
-    for number_of, view in enumerate(views):
-        pieces.append(curve_lines(axes, view, "s%d" % number_of))
-    for number_of, view in enumerate(views):
-        pieces.append(reached_mark(axes, view, "s%d" % number_of))
-        pieces.append(true_marks(axes, view, "s%d" % number_of))
+    for draw in (curve_lines, reached_mark, true_marks):
+        pieces += [draw(axes, view, "s%d" % number) for number, view in enumerate(views)]
     return tag("svg", *pieces, viewBox="0 0 %d %d" % (WIDTH, HEIGHT), class_="chart", role="img",
                aria_label="Speedup on 1 to %d threads" % most_threads)
 
@@ -128,12 +125,11 @@ def picture(views):
 def keys(view, colour, name):
     """What line, band and diamond of a program mean."""
     greedy = tag("span", tag("i", class_="key line " + colour), name, "the greedy schedule")
-    items = [greedy if speed_ups(view.answers, "end") else "",
-             tag("span", tag("i", class_="key area " + colour), name,
-                 "from what every greedy schedule of the text reaches to what none passes")]
-    if reached(view):
-        items.append(tag("span", tag("i", class_="key diamond " + colour), name, REACHED))
-    return items + true_keys(view, name)
+    diamond = tag("span", tag("i", class_="key diamond " + colour), name, REACHED)
+    return [*[greedy] * bool(speed_ups(view.answers, "end")),
+            tag("span", tag("i", class_="key area " + colour), name,
+                "from what every greedy schedule of the text reaches to what none passes"),
+            *[diamond] * bool(reached(view)), *true_keys(view, name)]
 
 
 def legend(views):
@@ -146,18 +142,12 @@ def legend(views):
 
 def limits(view):
     """What keeps the curve from being the program's."""
-    head, reasons = view.answers.head, []
-    if why_not_of_more_threads(head):
-        reasons.append("the text is of one run: " + why_not_of_more_threads(head))
-    if gain_may_be_more(head):
-        reasons.append("by the warnings the program may gain more")
-    if gain_may_be_less(head):
-        reasons.append("by locks or warnings a run of the program may be below the band")
-    if not reasons:
-        return ""
-    words = "; ".join(reasons)
-    return tag("p", "Of ", tag("span", view.name, class_="place"), " as a program this says less: ", words, ".",
-               class_="limits")
+    head = view.answers.head
+    reasons = list(filter(None, [
+        why_not_of_more_threads(head), "by the warnings the program may gain more" * gain_may_be_more(head),
+        "by locks or warnings a run of the program may be below the band" * gain_may_be_less(head)]))
+    return note("Of ", tag("span", view.name, class_="place"), " as a program this says less: ", "; ".join(reasons),
+                ".") if reasons else ""
 
 
 def curve_part(views):

@@ -117,7 +117,8 @@ def without_run(view):
         "p", why, "Work ", show.time(answers.work, "span work", PROVED), ", span ",
         show.time(answers.span, "span span", PROVED), ": on any number of threads at most ",
         show.times_at_most(answers.work, answers.span, "span work / span span", PROVED), " times as fast ",
-        badge(PROVED), "."), class_="diagnosis")
+        badge(PROVED), ". What changes bring: ", tag("code", "spanprof-whatif %s --advise" % view.name), "."),
+        class_="diagnosis")
 
 
 def first_part(view):

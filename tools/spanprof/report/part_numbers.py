@@ -36,7 +36,7 @@ def spread(view, name):
     if name not in head.spread:
         return ""
     least, _, most = head.spread[name]
-    return given("%s to %s in %d runs" % (view.units.words(least), view.units.words(most), head.runs))
+    return given("%s to %s in %d runs" % (view.units.shown(least).words, view.units.shown(most).words, head.runs))
 
 
 def of_the_text(view):
@@ -74,8 +74,8 @@ def of_the_run(view):
     head, show = view.answers.head, view.figures
     if head.elapsed:
         yield "elapsed", show.time(head.elapsed, "elapsed", MEASURED), MEASURED, ""
-        yield "threads busy, on average", show.times(view.answers.work, head.elapsed, "span work / elapsed",
-                                                     MEASURED), MEASURED, ""
+        yield "threads busy, on average", show.number(view.answers.work / head.elapsed, "span work / elapsed",
+                                                      MEASURED, 2), MEASURED, ""
     for point in view.true_times:
         yield given("true speedup on %d threads" % point.threads), show.number(
             point.speed_up, "scale %d speedup" % point.threads, MEASURED, 2), MEASURED, \
@@ -105,9 +105,9 @@ def warnings(view):
 
 def asked(view):
     """The commands whose answers the page shows; one line for all changed texts."""
-    lines = [line for line in dict.fromkeys(view.answers.asked)]
-    return note("Asked: ", join([tag("code", line) for line in lines], ", "), ". Each number is what one of these "
-                "printed, or a sum, difference or quotient of such numbers; its tooltip says of which.")
+    lines = [tag("code", line) for line in dict.fromkeys(view.answers.asked)]
+    return note("Asked: ", join(lines, ", "), ". Each number is what one of these printed, or a sum, difference or "
+                "quotient of such numbers; its tooltip says of which.")
 
 
 def numbers_part(view):

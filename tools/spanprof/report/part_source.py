@@ -27,20 +27,17 @@ def shown_lines(view, places, lines):
     return sorted(number for number in near if 0 < number <= len(lines))[:MOST_LINES]
 
 
+def shares_of(view, place):
+    """Its parts of the work and of the span, in per cent."""
+    return percent(place.cost, view.answers.work), percent(place.critical_cost, view.answers.span)
+
+
 def heat(view, places, number):
     """The greatest parts of the work and of the span that a place is whose segments run the line; none without any."""
-    here = [place for place in places
+    here = [shares_of(view, place) for place in places
             if view.stretches[place.name].first <= number <= view.stretches[place.name].last]
-    if not here:
-        return None
-    work = max(percent(place.cost, view.answers.work) for place in here)
-    span = max(percent(place.critical_cost, view.answers.span) for place in here)
-    return "--heat:%.1f%%;--span:%.1f%%" % (DARKEST * work, span)
-
-
-def is_told(view, place):
-    """Whether one of its shares is seen in a note."""
-    return max(percent(place.cost, view.answers.work), percent(place.critical_cost, view.answers.span)) >= LEAST
+    work, span = (max(column) for column in zip(*here)) if here else (0, 0)
+    return "--heat:%.1f%%;--span:%.1f%%" % (DARKEST * work, span) if here else None
 
 
 def words_of(view, place):
@@ -54,20 +51,17 @@ def words_of(view, place):
 
 
 def line_row(view, places, lines, number):
-    here = [place for place in places if view.stretches[place.name].first == number and is_told(view, place)]
+    here = [place for place in places
+            if view.stretches[place.name].first == number and max(shares_of(view, place)) >= LEAST]
     cells = [tag("td", number, class_="n given"), tag("td", tag("code", lines[number - 1] or " ")),
              tag("td", *[words_of(view, place) for place in here])]
     return tag("tr", *cells, style=heat(view, places, number))
 
 
-def gap_row():
-    return tag("tr", tag("td", "⋮", colspan=3), class_="gap")
-
-
 def file_table(view, places, lines):
     rows, before = [], 0
     for number in shown_lines(view, places, lines):
-        rows += [gap_row()] if before and number > before + 1 else []
+        rows += [tag("tr", tag("td", "⋮", colspan=3))] if before and number > before + 1 else []
         rows.append(line_row(view, places, lines, number))
         before = number
     return tag("div", tag("table", tag("tbody", *rows), class_="source"), class_="wide")

@@ -4,17 +4,15 @@ from spanprof.report.markup import details, join, note, section, tag
 from spanprof.report.view import COLOURS
 
 KEYS = (("w s", "or + −: zoom"), ("a d", "or ← →: move"), ("0", "show all"),
-        (", .", "the segment before, and the next"), ("↑ ↓", "another thread"),
         ("n", "the next segment on the critical path"), ("Esc", "let go of what is chosen"))
 HANDS = "Click or tap a segment: arrows come from those that it waited for (solid) and go to those that waited for " \
-    "it (dashed). A drag moves, and Ctrl with the wheel or two fingers zoom. A search dims all other places, and " \
-    "Enter goes to the next one found; a number is a segment's."
+    "it (dashed). A drag moves, and Ctrl with the wheel or two fingers zoom."
 IN_BINS = "Each bin of time is as high as the share of it that its thread was in code, and has the colour of the " \
     "tasks that it was in most."
+THIN = "segments thinner than a pixel: as high as the share of its time that the thread is busy"
 TIMED = "Each bar stands where the recorder's clock saw it. A gap is a thread that waited, slept, or was in the " \
     "runtime."
 UNTIMED = "There are no recorded times of its segments%s. So there is only the greedy schedule to show."
-AFTER_THE_LAST = " of it after the last segment, while the threads came to the region's end."
 NAMES = {"recorded": "The run as it was", "greedy": "The greedy schedule"}
 AS_MANY = "The greedy schedule of the text on as many threads"
 
@@ -35,16 +33,6 @@ def recorded_title(view):
                  show.share(busy, run.count * run.end, "run busy / run time", kind), [RECORDED, kind])
 
 
-def until_the_end(view):
-    """Why what elapsed is more than the end of the recorded run."""
-    run, elapsed, show = view.run, view.answers.head.elapsed, view.figures
-    if not elapsed or elapsed <= round(run.end):
-        return ""
-    return note("From the region's beginning to its end ", show.time(elapsed, "elapsed", MEASURED),
-                " elapsed ", badge(MEASURED), ", ",
-                show.time(elapsed - round(run.end), "elapsed - run end", MEASURED), AFTER_THE_LAST)
-
-
 def greedy_title(view):
     answers, show = view.answers, view.figures
     end = answers.curve[answers.threads]["end"]
@@ -52,37 +40,29 @@ def greedy_title(view):
                  show.share(answers.work, answers.threads * end, "span work / greedy time", PROVED), [PROVED])
 
 
-def controls(has_search=True):
-    def button(act, words, label):
-        return tag("button", words, type="button", data_act=act, aria_label=label)
-
-    find = tag("input", type="search", class_="search", placeholder="place or segment", aria_label="search")
-    return tag("div", button("in", "+", "zoom in"), button("out", "−", "zoom out"), button("all", "all", "show all"),
-               button("left", "←", "to the left"), button("right", "→", "to the right"),
-               find if has_search else "", tag("output", class_="keys"), class_="controls")
+def controls():
+    buttons = (("in", "+", "zoom in"), ("out", "−", "zoom out"), ("all", "all", "show all"),
+               ("left", "←", "to the left"), ("right", "→", "to the right"))
+    return tag("div", *[tag("button", words, type="button", data_act=act, aria_label=label)
+                        for act, words, label in buttons], class_="controls")
 
 
 def lane(title, program, run, has_segments=True):
     """One timeline; the script fills the drawing, and the line that tells of the stretch that is shown."""
-    more = ", comma and dot go from segment to segment" if has_segments else ""
+    more = ", n goes along the critical path" if has_segments else ""
     drawing = tag("div", class_="lanes", tabindex="0", role="application", data_program=program, data_run=run,
                   aria_label="Timeline; arrow keys move, plus and minus zoom" + more)
-    return tag("figure", tag("figcaption", title), controls(has_segments), drawing,
+    return tag("figure", tag("figcaption", title), controls(), drawing,
                tag("p", class_="note stretch", role="status"), class_="timeline")
-
-
-def key(class_, words):
-    return tag("span", tag("i", class_="key " + class_), words)
 
 
 def colour_legend(view, has_segments=True):
     shown = [place for place in view.task_places if place.cost]
-    items = [key("c%d" % view.colour_of(place), place.name) for place in shown[:COLOURS - 1]]
-    items += [key("c%d" % (COLOURS - 1), "all others")] * (len(shown) >= COLOURS)
-    items += [key("strip", "below a segment: on the critical path"),
-              key("merged", "segments thinner than a pixel: as high as the share of its time that the thread is "
-                            "busy")] * has_segments
-    return tag("p", *items, class_="legend given")
+    items = [("c%d" % view.colour_of(place), place.name) for place in shown[:COLOURS - 1]]
+    items += [("c%d" % (COLOURS - 1), "all others")] * (len(shown) >= COLOURS)
+    items += [("strip", "below a segment: on the critical path"), ("merged", THIN)] * has_segments
+    return tag("p", *[tag("span", tag("i", class_="key " + class_), words) for class_, words in items],
+               class_="legend given")
 
 
 def lanes_of(view, program):
@@ -92,7 +72,7 @@ def lanes_of(view, program):
     greedy = lane(greedy_title(view), program, "greedy")
     if not view.run:
         return [greedy, colour_legend(view)]
-    return [lane(recorded_title(view), program, "recorded"), until_the_end(view), colour_legend(view),
+    return [lane(recorded_title(view), program, "recorded"), colour_legend(view),
             details(AS_MANY, greedy, class_="greedy")]
 
 

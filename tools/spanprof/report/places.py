@@ -7,10 +7,6 @@ from typing import Sequence
 ROOTS = ("the root", "serial code")     # as the first task is named; in the whole program it runs all serial code
 
 
-def root_name(head):
-    return ROOTS[bool(head.whole)]
-
-
 def numbers():
     """Of segments or tasks, or costs."""
     return field(default_factory=lambda: array("q"))
@@ -68,31 +64,18 @@ class TaskPlace:
         return median_low(self.costs)
 
 
-class Tasks:
-    """Each task's cost, and its part of the critical path, in columns by its number."""
-
-    def __init__(self, answers):
-        code, rows, self.root = answers.code, answers.rows, root_name(answers.head)
-        self.first, self.code = code.firsts(), code
-        self.cost, self.critical_cost = (array("q", [0]) * len(self.first) for _ in range(2))
-        for task, cost in zip(code.task, rows.cost):
-            self.cost[task] += cost
-        for s in answers.path_segments:
-            self.critical_cost[code.task[s]] += rows.cost[s]
-
-    def __len__(self):
-        return len(self.first)
-
-    def place(self, number):
-        return self.code.kinds[self.code.of[self.first[number]]][1] or ("a task" if number else self.root)
-
-
 def task_places(answers):
     """By the cost of all their tasks."""
-    found, every = {}, Tasks(answers)
-    for number, cost in enumerate(every.cost):
-        place = found.setdefault(every.place(number), TaskPlace(every.place(number)))
+    code, rows, root, found = answers.code, answers.rows, ROOTS[bool(answers.head.whole)], {}
+    cost, critical_cost = (array("q", [0]) * (answers.tasks + 1) for _ in range(2))
+    for task, segment_cost in zip(code.task, rows.cost):
+        cost[task] += segment_cost
+    for s in answers.path_segments:
+        critical_cost[code.task[s]] += rows.cost[s]
+    for number, first in enumerate(code.firsts()):
+        name = code.kinds[code.of[first]][1] or ("a task" if number else root)
+        place = found.setdefault(name, TaskPlace(name))
         place.tasks.append(number)
-        place.costs.append(cost)
-        place.critical_cost += every.critical_cost[number]
+        place.costs.append(cost[number])
+        place.critical_cost += critical_cost[number]
     return numbered(found.values(), lambda place: (-place.cost, place.name))

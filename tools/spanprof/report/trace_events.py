@@ -3,8 +3,7 @@
 Times of a trace are microseconds. Where the text names a unit they are true; else a cost of 1 shows as 1 microsecond.
 """
 import json
-from dataclasses import dataclass
-from typing import Sequence
+from typing import NamedTuple, Sequence
 
 from spanprof.report.graph import kind_of
 from spanprof.report.timeline_data import or_none
@@ -12,8 +11,7 @@ from spanprof.report.timeline_data import or_none
 FLOWS_OF_A_RUN = 10 ** 7    # numbers of flows are of one run each
 
 
-@dataclass
-class Run:
+class Run(NamedTuple):
     """One run as a process of the trace."""
     process: int
     title: str
@@ -27,12 +25,9 @@ class Run:
 
 
 def runs_of(view):
-    answers, run, out = view.answers, view.run, []
-    if run:
-        out.append(Run(1, "the run as it was", run.starts, run.ends, run.workers, run.count))
-    made = answers.greedy
-    out.append(Run(2, "the greedy schedule", made.starts, made.ends, or_none(made.threads), answers.threads))
-    return out
+    made, run = view.answers.greedy, view.run
+    own = [Run(1, "the run as it was", run.starts, run.ends, run.workers, run.count)] if run else []
+    return own + [Run(2, "the greedy schedule", made.starts, made.ends, or_none(made.threads), view.answers.threads)]
 
 
 def names(run):

@@ -19,12 +19,6 @@ class Point(NamedTuple):
     greatest: float
 
 
-def number(value):
-    if isinstance(value, bool) or not isinstance(value, (int, float)) or not 0 < value < 1e9:
-        raise TypeError("no number")
-    return value
-
-
 def true_times_beside(answers) -> List[Point]:
     """What `spanprof-record --scale` wrote in the recording; nothing where the file is not of it."""
     folder = folder_of(answers.path)
@@ -32,7 +26,7 @@ def true_times_beside(answers) -> List[Point]:
         with open(os.path.join(folder or "", SCALE), encoding="utf-8") as file:
             told = json.load(file)
         is_of_it = folder and told["date"] == answers.head.date
-        return [Point(*(number(row[name]) for name in NAMES)) for row in told["threads"]] if is_of_it else []
+        return [Point(*(row[name] + 0 for name in NAMES)) for row in told["threads"]] if is_of_it else []
     except (OSError, ValueError, KeyError, TypeError):
         return []
 

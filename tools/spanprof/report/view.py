@@ -7,23 +7,17 @@ from typing import List, NamedTuple
 from spanprof.account import account_beside, times_name
 from spanprof.answers import Answers
 from spanprof.diagnosis.tell import diagnosis_of
-from spanprof.errors import Fault
 from spanprof.recording import folder_of, open_recording
 from spanprof.report.colours import BARS
 from spanprof.report.figures import DECLARED, MEASURED, RECORDED, Figures
-from spanprof.report.level_runs import levels_in, levels_of_greedy
+from spanprof.report.levels import levels_in, levels_of_greedy
 from spanprof.report.places import places, task_places
 from spanprof.report.true_times import true_times_beside
 from spanprof.report.units import Units
 from spanprof.source import Sources
 from spanprof.source_lines import OF_A_STATEMENT, line_of, stretches
-from spanprof.whatif.creating import Costs, costs_for
-from spanprof.whatif.survey import survey
-from spanprof.whatif.texts import Text, version_of
-from spanprof.whatif.trials import Trials, has_time_for, trials
 
 COLOURS = len(BARS)
-MOST_TRIED = 10     # places of each kind of change
 
 
 class RecordedRun(NamedTuple):
@@ -37,24 +31,6 @@ class RecordedRun(NamedTuple):
     @property
     def end(self):
         return max(self.ends, default=0)
-
-
-class Tried(NamedTuple):
-    trials: Trials
-    costs: Costs
-
-
-def tried(answers, most=MOST_TRIED):
-    """Single changes of shape and of costs; None where the text cannot be read so, or there is no time for it."""
-    if not has_time_for(answers):
-        return None
-    try:
-        text = Text(answers.path, version_of(answers.path))
-        seen = survey(text.statements())
-        costs = costs_for(text.head, seen)
-        return Tried(trials(text, seen, costs, answers.threads, most), costs)
-    except (Fault, OSError):
-        return None
 
 
 class View:
@@ -125,13 +101,9 @@ class View:
         return levels_in(times, self)
 
     @cached_property
-    def tried(self):
-        self.answers.tell("single changes of %s" % self.name)
-        return tried(self.answers)
-
-    @cached_property
     def diagnosis(self):
         """Of a recorded run on several threads; None where there is none, as of a text without times."""
+        self.answers.tell("changes of %s" % self.name)
         return diagnosis_of(self.answers, self.sources.folders)
 
     @cached_property

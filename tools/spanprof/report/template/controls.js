@@ -20,10 +20,7 @@ const ACTS = {
 };
 const KEYS = { "+": "in", "=": "in", w: "in", "-": "out", s: "out", "0": "all", a: "left", ArrowLeft: "left",
   d: "right", ArrowRight: "right" };
-const STEPS_OF_KEYS = {
-  ".": (lanes) => step(lanes, 1), ",": (lanes) => step(lanes, -1), n: nextCritical,
-  ArrowUp: (lanes) => changeRow(lanes, -1), ArrowDown: (lanes) => changeRow(lanes, 1), Escape: leave,
-};
+const STEPS_OF_KEYS = { n: nextCritical, Escape: leave };
 
 const at = (lanes, event) => {
   const box = lanes.element.getBoundingClientRect();
@@ -54,7 +51,6 @@ function listenToZoom(lanes) {
     event.preventDefault();
     zoom(event.deltaY > 0 ? 1.25 : 0.8, event);
   }, { passive: false });
-  element.addEventListener("dblclick", (event) => zoom(0.4, event));
 }
 
 // What fingers or the mouse do with a timeline: a drag moves it, two fingers zoom, a tap chooses.
@@ -114,12 +110,6 @@ function listenToControls(lanes) {
     ACTS[button.dataset.act](lanes.stretch);
     drawSoon(lanes);
   }));
-  const box = lanes.figure.querySelector("input.search");
-  if (!box) return;
-  box.addEventListener("input", () => search(lanes, box.value));
-  box.addEventListener("keydown", (event) => {
-    if (event.key === "Enter" && lanes.finds) nextWhere(lanes, lanes.finds);
-  });
 }
 
 for (const listen of [listenToKeys, listenToZoom, listenToPointer, listenToControls]) allLanes.forEach(listen);

@@ -19,7 +19,6 @@ class Lanes {
     this.rows = this.run.rows;
     this.stretch = stretchOf(this.program, element.dataset.run);
     this.chosen = null;         // a segment
-    this.finds = null;          // tells whether a segment is looked for
     this.height = rowHeight(this.rows.length);
   }
   get scale() { return (this.width - LEFT) / this.stretch.length; }
@@ -42,14 +41,10 @@ class Lanes {
       `${names.join("")}${arrowsOf(this)}${this.chosenBox()}</svg>`;
     this.figure.querySelector(".stretch").textContent = `Shown: ${this.tellStretch(this.stretch)}.`;
   }
-  classOf(segment) {
-    const colour = this.program.colour[this.program.task[segment]];
-    return this.finds && !this.finds(segment) ? `c${colour} dim` : `c${colour}`;
-  }
   drawRow(paths, names, row, i) {
     const { from, to } = this.stretch, bars = new Bars(paths, this.top(i), this.height);
     for (let k = firstToEndAfter(row, from); k < row.length && row[k].start < to; k++) {
-      const { segment, start, end } = row[k], name = this.classOf(segment);
+      const { segment, start, end } = row[k], name = `c${this.program.colour[this.program.task[segment]]}`;
       const left = Math.max(this.x(start), LEFT), right = Math.min(this.x(end), this.width);
       const isCritical = this.program.critical.has(segment), width = right - left;
       if ((end - start) * this.scale < 1) { bars.addThin(left, right, name, isCritical); continue; }
@@ -60,7 +55,7 @@ class Lanes {
     bars.flush(-1);
   }
   addName(names, bars, segment, left, width) {
-    if (width < 24 || bars.height < 13 || names.length >= MOST_NAMES || this.finds && !this.finds(segment)) return;
+    if (width < 24 || bars.height < 13 || names.length >= MOST_NAMES) return;
     const words = nameFor(this.program.places[this.program.place[segment]], width);
     const { top, height } = bars, colour = this.program.colour[this.program.task[segment]];
     if (words) names.push(nameIn({ left, top, width, height }, words, colour));

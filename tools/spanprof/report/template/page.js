@@ -1,4 +1,4 @@
-// What is not of timelines: tables that are sorted, lines that are copied, tooltips of fingers, links into folded parts.
+// What is not of timelines: tables that are sorted, lines that are copied, tooltips, links into folded parts.
 
 function sortBy(table, column) {
   const head = table.tHead.rows[0].cells[column], body = table.tBodies[0];
@@ -34,14 +34,10 @@ document.addEventListener("click", (event) => {
   showTip(inPicture ? inPicture.textContent : event.target.closest("[title]")?.title, event.clientX, event.clientY);
 });
 
-// A part that a link leads to, and a graph that is wider than the page: from its middle, where the root is.
+// A part that a link leads to is opened.
 function unfold() {
   const part = location.hash && byId(location.hash.slice(1))?.querySelector("details");
   if (part) part.open = true;
 }
 addEventListener("hashchange", unfold);
 unfold();
-document.querySelectorAll("section details").forEach((part) => part.addEventListener("toggle", () =>
-  part.querySelectorAll(".wide:has(.graph.large)").forEach((wide) => {
-    wide.scrollLeft = (wide.scrollWidth - wide.clientWidth) / 2;
-  })));

@@ -7,7 +7,6 @@ import json
 import math
 import os
 import sys
-from itertools import zip_longest
 
 from spanprof.report.tests.expected import Program, table, unpacked
 from spanprof.report.tests.page_reader import read_page
@@ -85,9 +84,7 @@ def drawn_differences(program, data):
 
 def programs_of(reader, paths, ask):
     """The programs of a page, with what its script knows of them."""
-    found = json.loads(reader.data)
-    data = [dict(own, tried=tried) for own, tried in zip_longest(found["programs"], found["tried"])]
-    return [Program(path, own, ask) for path, own in zip(paths, data)]
+    return [Program(path, own, ask) for path, own in zip(paths, json.loads(reader.data)["programs"])]
 
 
 def differences(page, paths, ask):

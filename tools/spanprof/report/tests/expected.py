@@ -8,9 +8,6 @@ from spanprof.head import read_head
 from spanprof.recording import document, open_recording
 from spanprof.segment_table import read_code
 from spanprof.text import has_loops, statements, text_lines
-from spanprof.whatif.creating import costs_for
-from spanprof.whatif.requests import Request, applied, changes
-from spanprof.whatif.survey import survey
 
 ROWS_OF_A_CURVE = 64
 
@@ -142,29 +139,6 @@ class Program(Sums):
             return {**parts, "whole": self.found.whole, "elapsed": self.found.elapsed}[what]
         name = self.found.places[self.segments({int(number)})[0]]
         return {"delayed-at": self.found.delayed_by, "starved-at": self.found.starved_by}[what][name]
-
-    def trial(self, number, what, threads=None):
-        """Of the text with one change, which is made here again."""
-        if ("trial", number) not in self.kept:
-            self.kept["trial", number] = self.tried(Request(*self.data["tried"]["requests"][int(number)]))
-        span, curve = self.kept["trial", number]
-        return int(re.search(r"(?m)^%s (\d+)$" % what, span)[1]) if threads is None else \
-            int(curve[int(threads) - 1][what])
-
-    def tried(self, request):
-        made = changes([request], *self.surveyed)
-        text, upto = "".join(text_lines(applied(self.statements, made), 1)), max(self.data["tried"]["threads"])
-        return self.ask(["span"], text), table(self.ask(["curve", "--upto", str(upto)], text))
-
-    @cached_property
-    def statements(self):
-        text = self.answer("show") if has_loops(self.text) else self.text
-        return list(statements(line + "\n" for line in text.split("\n")))
-
-    @cached_property
-    def surveyed(self):
-        seen = survey(self.statements)
-        return seen, costs_for(read_head(self.text), seen)
 
     @cached_property
     def measured(self):

@@ -2,7 +2,7 @@ import re
 import unittest
 from itertools import combinations
 
-from spanprof.report.colours import BARS, COLOURS, colour_rules, contrast, ink_on
+from spanprof.report.colours import BARS, COLOURS, INK, INKS, colour_rules
 
 # How people see who have no cones for red, for green, or for blue (Machado and others, 2009), in linear RGB.
 SEEN_BY = {
@@ -17,6 +17,13 @@ TO_XYZ = ((0.4124, 0.3576, 0.1805), (0.2126, 0.7152, 0.0722), (0.0193, 0.1192, 0
 def linear(colour):
     parts = (int(colour[i:i + 2], 16) / 255 for i in (1, 3, 5))
     return [part / 12.92 if part <= 0.04045 else ((part + 0.055) / 1.055) ** 2.4 for part in parts]
+
+
+def contrast(a, b):
+    """That of WCAG 2."""
+    low, high = sorted(sum(weight * part for weight, part in zip((0.2126, 0.7152, 0.0722), linear(colour)))
+                       for colour in (a, b))
+    return (high + 0.05) / (low + 0.05)
 
 
 def times(matrix, vector):
@@ -43,9 +50,9 @@ class Bars(unittest.TestCase):
                     self.assertGreater(distance(a, b, who), least, (who, number, a, b))
 
     def test_words_on_bars_can_be_read(self):
-        for pair in BARS:
-            for colour in pair:
-                self.assertGreater(contrast(colour, ink_on(colour)), 4.5, colour)
+        for i, pair in enumerate(BARS):
+            for number, colour in enumerate(pair):
+                self.assertGreater(contrast(colour, INK[INKS[number][i]]), 4.5, colour)
 
     def test_bars_can_be_told_from_the_panel(self):
         for number in (0, 1):

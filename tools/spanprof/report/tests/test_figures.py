@@ -33,8 +33,8 @@ class Numbers(unittest.TestCase):
         self.assertIn(">−3.4 %<", Figures().share(-34, 1000, "tasks / tasks", PROVED))
 
     def test_quotients(self):
-        self.assertIn('value="0.333333"', Figures().times(1, 3, "span work / elapsed", MEASURED))
-        self.assertIn(">1.00<", Figures().times(0, 0, "span work / span span", PROVED))
+        self.assertIn('value="0.333333"', Figures().number(1 / 3, "span work / elapsed", MEASURED, 2))
+        self.assertIn(">1.00<", Figures().times_at_most(0, 0, "span work / span span", PROVED))
 
     def test_bounds_are_rounded_away_from_what_they_bound(self):
         show, source = Figures(), "span work / curve 2 least"

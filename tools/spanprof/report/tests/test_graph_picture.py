@@ -48,10 +48,10 @@ class Pictures(unittest.TestCase):
 
     def test_a_line_goes_round_what_stands_between(self):
         boxes = {i: Box([["box %d" % i]], 0.5, False, tag("title", "t")) for i in range(3)}
-        layout = lay_out([0, 1, 2], [(0, 1), (1, 2), (0, 2)], {i: box.size for i, box in boxes.items()})
-        right = layout.x[1] + boxes[1].size[0] / 2
-        self.assertGreater(line_between(layout, boxes, 0, 2)[1], right)
-        self.assertLess(line_between(layout, boxes, 0, 1)[1], right)
+        middles = lay_out([0, 1, 2], [(0, 1), (1, 2), (0, 2)], {i: box.size for i, box in boxes.items()})
+        right = middles[1][0] + boxes[1].size[0] / 2
+        self.assertGreater(line_between(middles, boxes, 0, 2)[1], right)
+        self.assertLess(line_between(middles, boxes, 0, 1)[1], right)
 
     def test_an_edge_backward_goes_round_the_right(self):
         self.assertRegex(self.draw({(2, 0): joined()}), r'd="M[\d.]+ [\d.]+Q')

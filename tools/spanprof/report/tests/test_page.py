@@ -34,8 +34,8 @@ class Pages(unittest.TestCase):
     def test_parts(self):
         text = worked.page_text(["mesh", "split"])
         names = re.findall(r'<section id="(\S+)"', text)
-        self.assertEqual(names, ["summary", "timeline", "timeline-other", "places", "changes", "speedup", "compared",
-                                 "source", "graph", "numbers"])
+        self.assertEqual(names, ["summary", "timeline", "timeline-other", "places", "speedup", "compared", "source",
+                                 "graph", "numbers"])
         self.assertEqual(text.count("<section"), text.count("<section id="))
 
     def test_words_of_a_text_are_words_on_the_page(self):
@@ -65,7 +65,7 @@ class WrongNumbers(unittest.TestCase):
         reader = read_page(self.text)
         programs = programs_of(reader, [worked.path(name + ".tasks") for name in ("mesh", "split")], worked.Kept())
         whole = [figure for figure in reader.figures if figure.exact.isdigit()]
-        self.assertGreater(len(whole), 100)
+        self.assertGreater(len(whole), 50)
         for figure in whole:
             self.assertEqual(faults_of(figure, programs), [])
             self.assertTrue(faults_of(replace(figure, exact=str(int(figure.exact) + 1)), programs))

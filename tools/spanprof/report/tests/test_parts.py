@@ -115,10 +115,7 @@ class OfOneProgram(Patched):
 
     def test_a_run_with_times_is(self):
         view = worked.view("split")
-        words = seen(timeline_part(view, 0, [view]))
-        self.assertIn("The run as it was , 2 threads , 28 µs", words)
-        self.assertIn("From the region's beginning to its end 30 µs elapsed measured , 2 µs of it after the last",
-                      words)
+        self.assertIn("The run as it was , 2 threads , 28 µs", seen(timeline_part(view, 0, [view])))
 
     def test_no_run(self):
         view = worked.view("plain")

@@ -3,7 +3,7 @@ from array import array
 from types import SimpleNamespace
 
 from spanprof.report.graph import CREATES, DEPENDS, WAITS, critical_pairs, place_edges
-from spanprof.report.places import Tasks, places, task_places
+from spanprof.report.places import places, task_places
 from spanprof.report.tests import worked
 
 
@@ -23,11 +23,6 @@ class OfTheWorkedProgram(unittest.TestCase):
         shares = [place.critical_cost for place in self.view.places]
         self.assertEqual(shares, sorted(shares, reverse=True))
         self.assertEqual([place.number for place in self.view.places], list(range(len(shares))))
-
-    def test_tasks(self):
-        found = Tasks(self.view.answers)
-        self.assertEqual(list(found.cost), [10, 12, 7, 4, 8, 0])
-        self.assertEqual([cost > 0 for cost in found.critical_cost], [True, True, True, True, False, False])
 
     def test_tasks_by_the_construct_that_creates_them(self):
         found = {place.name: place for place in task_places(self.view.answers)}
