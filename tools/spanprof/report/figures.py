@@ -1,7 +1,8 @@
 """Numbers of the page. Each tells where it comes from: it carries the answer of spanprof that it is, or the sum.
 
-A source is written in a few words that the tests read again: `span work`, `curve 4 end`, `place 3 cost`. `A - B` is a difference, `A / B` a quotient, `percent A / B` the same in per cent. `other` before
-all of it means the second program of the page, and `change A` how that differs from the first in per cent.
+A source is written in a few words that the tests read again: `span work`, `curve 4 end`, `place 3 cost`. `A - B` is a
+difference, `A / B` a quotient, `percent A / B` the same in per cent. `other` before all of it means the second program
+of the page, and `change A` how that differs from the first in per cent.
 """
 from spanprof.proof import proved
 from spanprof.report.markup import join, tag

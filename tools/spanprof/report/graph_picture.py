@@ -6,7 +6,7 @@ import re
 
 from spanprof.report.graph import CREATES, DEPENDS, WAITS
 from spanprof.report.layout import lay_out
-from spanprof.report.markup import join, tag
+from spanprof.report.markup import tag
 from spanprof.report.units import grouped
 
 LETTER, LINE, PAD = 6.9, 16, 10

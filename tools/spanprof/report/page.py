@@ -55,5 +55,5 @@ def page(views):
     made = parts(views)
     return filled(kept("page.html"), {
         "title": markup(" and ".join(view.name for view in views)), "main": join(made, "\n"),
-        "data": as_script({"programs": [timeline_data(view) for view in views]}), "style": colour_rules() + kept("style.css"),
-        "script": "\n".join(map(kept, SCRIPTS))})
+        "data": as_script({"programs": [timeline_data(view) for view in views]}),
+        "style": colour_rules() + kept("style.css"), "script": "\n".join(map(kept, SCRIPTS))})

@@ -7,7 +7,7 @@ from spanprof.account import account_of
 from spanprof.head import read_head
 from spanprof.recording import document, open_recording
 from spanprof.segment_table import read_code
-from spanprof.text import has_loops, statements, text_lines
+from spanprof.text import has_loops
 
 ROWS_OF_A_CURVE = 64
 
