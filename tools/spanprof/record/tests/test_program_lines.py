@@ -12,7 +12,7 @@ def region(number, text, begin, end, code, place):
 
 
 STEPS = Program(1000, [region(1, 1, 0, 100, 90, "steps.c:5"), region(2, 2, 200, 500, 900, "steps.c:5"),
-                           region(3, 3, 500, 650, 300, "steps.c:5"), region(4, 4, 700, 900, 800, "last.c:9")])
+                       region(3, 3, 500, 650, 300, "steps.c:5"), region(4, 4, 700, 900, 800, "last.c:9")])
 
 
 class Lines(unittest.TestCase):
