@@ -50,7 +50,7 @@ def places_part(view):
     rows, left_out = [row(view, place) for place in shown], len(view.places) - len(shown)
     columns = [i for i in range(len(HEADS)) if any(cells[i] for cells in rows)]
     count = view.figures.number(len(view.answers.path_segments), "path segments", PROVED)
-    more = [tag("span", left_out, class_="given"), " more places with little or no work are left out."] * bool(left_out)
+    more = ["Left out: ", tag("span", left_out, class_="given"), " with little or no work."] * bool(left_out)
     return section("places", "Critical path and tasks by place", note(
         "The segments at a place begin there. ", count, " segments are on the critical path: with threads to spare, "
         "only a shorter one lets the program end sooner. Slack is the delay that a segment bears. Idle time is of the "
