@@ -38,7 +38,7 @@ function listenToKeys(lanes) {
     act(lanes.stretch);
     drawSoon(lanes);
   });
-  lanes.element.addEventListener("blur", () => showTip(""));
+  lanes.element.addEventListener("blur", (event) => { if (event.relatedTarget) showTip(""); });
 }
 
 function listenToZoom(lanes) {

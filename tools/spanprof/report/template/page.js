@@ -28,7 +28,7 @@ document.querySelectorAll("[data-copy]").forEach((button) => button.addEventList
 }));
 
 // A finger that taps what has a tooltip is told it, as a mouse is.
-document.addEventListener("click", (event) => {
+document.addEventListener("pointerup", (event) => {
   if (event.target.closest(".lanes")) return;
   const inPicture = event.target.closest("svg") && event.target.querySelector(":scope > title");
   showTip(inPicture ? inPicture.textContent : event.target.closest("[title]")?.title, event.clientX, event.clientY);
