@@ -47,12 +47,6 @@ def of_library(folder):
             (os.path.join(TOOLS, "man", "spanprof.3"), "share/man/man3/spanprof.3")]
 
 
-def of_module(folder):
-    """The module for live pages, where it is made."""
-    module = os.path.join(folder, "spanprof.wasm")
-    return with_checksum(module, "lib/spanprof.wasm") if os.path.isfile(module) else []
-
-
 def with_checksum(program, path):
     """A program, and the checksum that stands beside it where it was proved."""
     pairs = [(program, path), (program + SUFFIX, path + SUFFIX)]
@@ -63,7 +57,7 @@ def plan(spanprof=SPANPROF, large=LARGE, library=LIBRARY):
     """Where each file goes: pairs of a file and its path below the prefix. The program for texts of any size goes there
     where it is built, and so does the library. What users call is a script; it calls the programs."""
     pairs = [(os.path.join(TOOLS, "bin", "spanprof"), "bin/spanprof"), *with_checksum(spanprof, PROGRAM)]
-    pairs += of_library(library) + of_module(library)
+    pairs += of_library(library)
     if os.path.isfile(large):
         pairs += [*with_checksum(large, LARGE_PROGRAM),
                   (os.path.join(TOOLS, "completion", "spanprof.bash"),

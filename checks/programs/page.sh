@@ -3,8 +3,8 @@
 # where clang and LLVM's OpenMP runtime are there, each program of docs/TUNING.md recorded anew, programs that are slow
 # for a known cause, and one with call paths and as a whole: the page is made, each of its numbers is compared with
 # spanprof's answers, its first words with that cause, and it is opened in Chromium: errors, sizes, looks in light, dark,
-# narrow, wide and print, keys, mouse and fingers. One program is measured on several numbers of threads, and times are predicted by the machine of
-# checks/programs/predictions. Then the page of a million tasks, where spanprof_large is there. Build spanprof first.
+# narrow, wide and print, keys, mouse and fingers. One program is measured on several numbers of threads. Then the page of
+# a million tasks, where spanprof_large is there. Build spanprof first.
 #
 #     checks/programs/page.sh [PROGRAM [FOLDER]]    instead of crates/spanprof/out/spanprof; where pages and pictures go
 #     checks/programs/page.sh kept                  only pages of texts that lie here, of which three are opened
@@ -16,7 +16,7 @@ only_kept=
 [ "${1:-}" != kept ] || { only_kept=1; shift; set -- "${SPANPROF:-crates/spanprof/out/spanprof}"; }
 program=$(realpath "${1:-crates/spanprof/out/spanprof}")
 [ -x "$program" ] || { echo "no program $program"; exit 1; }
-export SPANPROF=$program SPANPROF_MACHINE=$PWD/checks/programs/predictions/machine.json
+export SPANPROF=$program
 large=crates/spanprof_large/out/spanprof_large    # where it is there, pages of recordings have the account
 [ -n "${SPANPROF_LARGE:-}" ] || [ ! -x "$large" ] || export SPANPROF_LARGE=$PWD/$large
 if [ $# -gt 1 ]; then

@@ -22,6 +22,5 @@ for file in tools/conformance/{found,mutants}/*.c examples/openmp/*.c bench/{rec
     reads "clang-$llvm" "${syntax[@]}" -Itools/conformance/harness "$file"
 done
 for file in checks/recorders/runtime_calls/*.cpp; do reads "clang++-$llvm" "${syntax[@]}" -std=c++17 "$file"; done
-reads "clang-$llvm" -fsyntax-only --target=wasm64-unknown-unknown -ffreestanding tools/live/heap.c
 echo "$count programs read, $wrong wrong"
 [ "$wrong" -eq 0 ]

@@ -114,7 +114,7 @@ _spanprof_report() {
     local current=${COMP_WORDS[COMP_CWORD]} before=${COMP_WORDS[COMP_CWORD - 1]}
     case $before in
         -o | --output) _spanprof_files "$current" .html ;;
-        --trace | --speedscope) _spanprof_files "$current" .json ;;
+        --trace) _spanprof_files "$current" .json ;;
         --source) _spanprof_folders "$current" ;;
         --threads) ;;
         *) case $current in

@@ -1,14 +1,11 @@
 """A program text of any size with what the proved program answers of it. Each command is run once, when its answer is
 first needed; what it tells of each segment is read as it comes, and kept in columns of numbers."""
-import time
 from array import array
 from dataclasses import dataclass
 from functools import cached_property
 
 from spanprof import client
 from spanprof.c_calls import MOST_THREADS
-from spanprof.changed_text import with_costs, without_costs
-from spanprof.client import named_numbers
 from spanprof.head import head_of
 from spanprof.limits import is_long
 from spanprof.recording import open_recording, shown_name
@@ -72,7 +69,7 @@ class Answers:
     def __init__(self, recording, threads=None, tell=None):
         self.path, self.tell = getattr(recording, "text", recording), tell or (lambda words: None)
         self.name = shown_name(self.path)
-        self.asked, self.wanted_threads, self.seconds_to_read = [], threads, 0
+        self.asked, self.wanted_threads = [], threads
         self.file = TextFile(self.path)
         self.numbers = client.measured(self.path)
         self.head = head_of(self.path)
@@ -130,11 +127,8 @@ class Answers:
     @cached_property
     def code(self):
         """The segments; of a text with loops those of its canonical text, which has none."""
-        begun = time.monotonic()
         lines = client.ask(["show"], self.file).splitlines(True) if self.file.has_loops() else self.file.lines()
-        found = read_code(lines, self.name)
-        self.seconds_to_read = time.monotonic() - begun
-        return found
+        return read_code(lines, self.name)
 
     @cached_property
     def rows(self):
@@ -189,24 +183,6 @@ class Answers:
     def predecessors(self):
         self.note("graph")
         return client.predecessors(self.file, len(self.code))
-
-    @cached_property
-    def text_without_costs(self):
-        return without_costs(self.ask("show") if self.file.has_loops() else self.text)
-
-    def greedy_end(self, changes, threads):
-        """Where the greedy schedule on so many threads ends, where `changes` gives segments other costs."""
-        costs = [changes.get(s, cost) for s, cost in enumerate(self.rows.cost)]
-        self.noted("spanprof greedy --threads %d < %s with other costs" % (threads, self.name))
-        table = client.ask(["greedy", "--threads", str(threads)], with_costs(self.text_without_costs, costs))
-        return max((int(row["end"]) for row in client.rows(table)), default=0)
-
-    def what_if(self, changes):
-        """Work, span and the span before, where `changes` gives segments other costs."""
-        if not changes:
-            return {"work": self.work, "span": self.span, "was": self.span}
-        words = ["%d=%d" % change for change in sorted(changes.items())]
-        return named_numbers(self.ask("whatif", *words))
 
 
 def curve_in(table):

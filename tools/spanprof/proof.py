@@ -1,5 +1,5 @@
 """Whether the program that answers is one that was proved: its checksum stands beside it, in PROGRAM.sha256, which the
-gate, tools/prove_program.sh and tools/live_module.sh write. Whatever else answers is named in place of `proved`."""
+gate and tools/prove_program.sh write. Whatever else answers is named in place of `proved`."""
 import hashlib
 import os
 import shutil

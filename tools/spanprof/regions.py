@@ -80,7 +80,6 @@ class Place:
 @dataclass
 class Program:
     elapsed: int
-    outside_code: int
     regions: List[Region]
 
     @property
@@ -126,7 +125,7 @@ def read_regions(path):
         raise Fault("%s is no table of regions: %s" % (path, wrong)) from wrong
     if [name for name in names if name != "asked"] != list(COLUMNS) or whole.number != 0 or not whole.elapsed > 0:
         raise Fault("%s is no table of regions" % path)
-    return Program(whole.elapsed, whole.code, rest)
+    return Program(whole.elapsed, rest)
 
 
 def program_of(text):

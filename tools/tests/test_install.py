@@ -55,20 +55,16 @@ class Library(InFolder):
         for path in ("lib/libspanprof.so", "lib/libspanprof.so.0", "lib/libspanprof.a", "include/spanprof.h",
                      "share/man/man3/spanprof.3"):
             self.assertIn(path, places)
-        self.assertNotIn("lib/spanprof.wasm", places)
-        self.write("spanprof.wasm")
-        self.assertIn("lib/spanprof.wasm", [path for _, path in install.plan(library=self.folder)])
 
     def test_checksums_go_with_proved_programs(self):
-        programs = [self.write(name) for name in ("spanprof", "spanprof_large", "spanprof.wasm")]
-        self.assertFalse([path for _, path in install.plan(*programs[:2], self.folder) if path.endswith(".sha256")])
+        programs = [self.write(name) for name in ("spanprof", "spanprof_large")]
+        self.assertFalse([path for _, path in install.plan(*programs, self.folder) if path.endswith(".sha256")])
         checksums = {program + ".sha256" for program in programs}
         for path in checksums:
             self.write(path)
-        self.assertEqual({source: path for source, path in install.plan(*programs[:2], self.folder)
+        self.assertEqual({source: path for source, path in install.plan(*programs, self.folder)
                           if source in checksums}, dict(zip((one + ".sha256" for one in programs), (
-                              "libexec/spanprof/spanprof.sha256", "libexec/spanprof/spanprof_large.sha256",
-                              "lib/spanprof.wasm.sha256"))))
+                              "libexec/spanprof/spanprof.sha256", "libexec/spanprof/spanprof_large.sha256"))))
 
 
 class Prefix(InFolder):

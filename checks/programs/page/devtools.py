@@ -151,10 +151,6 @@ class Page:
         self.call("Input.dispatchTouchEvent", type=kind, touchPoints=points)
         self.settled()
 
-    def reload(self):
-        self.call("Page.navigate", url=self.url)
-        self.wait_for_the_page()
-
     def complaints(self):
         """Errors and warnings of the console, exceptions, and whatever was fetched beside the page itself."""
         out = []

@@ -1,16 +1,17 @@
-"""Zoom, movement, tooltips, tables, factors and colours of a page, by keys and mouse. Each trial yields faults."""
-import json
+"""The first screen, zoom, movement, tooltips, tables and changes of a page, by keys and mouse, as trials that yield
+faults."""
 import os
 import shlex
 import subprocess
 
 from measured import what_was_measured_is_told
-from timelines import (fingers_are_told, fingers_zoom, names_stand_in_bars, runs_zoom_by_themselves, search_finds,
-                       segments_are_chosen, stretches_are_marked)
+from timelines import (fingers_are_told, fingers_zoom, names_stand_in_bars, runs_zoom_by_themselves,
+                       segments_are_chosen)
 
 TOP = os.path.dirname(os.path.dirname(os.path.dirname(os.path.dirname(os.path.abspath(__file__)))))
 WHATIF = os.path.join(TOP, "tools", "spanprof-whatif")
-FIRST_SCREEN = 800  # pixels
+FIRST_SCREEN = 900  # pixels
+UNFOLD = "document.querySelectorAll('section > details').forEach(part => { part.open = true; })"
 CTRL = 2    # the bit of the key in an event of the mouse
 
 
@@ -64,16 +65,13 @@ def letters_zoom_and_move(page):
         yield "s does not zoom out, or 0 does not show all"
 
 
-def keys_go_from_segment_to_segment(page):
+def a_key_goes_along_the_path(page):
     page.evaluate("document.querySelector('.lanes').focus()")
-    seen = []
-    for name in (".", ".", ",", "n", "ArrowDown", "ArrowUp"):
-        page.key(name, name if len(name) == 1 else None)
-        seen.append(tip(page))
-    if not all("segment" in words and "cost" in words and "slack" in words for words in seen):
-        yield "no tooltip after a key: %r" % seen
-    if "on the critical path" not in seen[3]:
-        yield "n does not go to the critical path: %r" % seen[3]
+    for _ in range(2):
+        page.key("n", "n")
+        words = tip(page)
+        if not all(part in words for part in ("segment", "cost", "slack", "on the critical path")):
+            yield "n does not go to the critical path: %r" % words
     page.key("Escape")
     if tip(page):
         yield "Escape does not close the tooltip"
@@ -148,63 +146,32 @@ def tables_sort(page):
             yield "column %d of table %d is not sorted: %s" % (column, table, said)
 
 
-def factors_give_a_line(page, text, program):
-    """The line for the first place at half its cost answers what stands in the table."""
-    row = page.evaluate("""(() => {
-      const box = document.querySelector('input.factor');
-      if (!box) return null;
-      const half = box.closest('tr').querySelector('data[data-from$=" 0.5 span"]').value;
-      box.value = '0.5';
-      box.dispatchEvent(new Event('input', {bubbles: true}));
-      return {half, short: document.getElementById('factors-line').textContent,
-              exact: document.getElementById('changes-line').textContent};
-    })()""")
-    if row is None:
-        return
-    if "--factor" not in row["short"]:
-        yield "no factor in %r" % row["short"]
-    words = row["exact"].partition(" <")[0].split()[1:]
-    with open(text, encoding="utf-8") as file:
-        told = subprocess.run([program, *words], stdin=file, capture_output=True, text=True).stdout
-    if "\nspan %s\n" % row["half"] not in told:
-        yield "the table has %s, and the line %r prints %r" % (row["half"], row["exact"][:60], told)
-
-
-def the_lead_is_seen_first(page):
-    bottom = page.evaluate("(e => e ? e.getBoundingClientRect().bottom + scrollY : 0)(document.querySelector('.lead'))")
+def the_diagnosis_is_one_screen(page):
+    bottom = page.evaluate("document.querySelector('.diagnosis').getBoundingClientRect().bottom + scrollY")
     if bottom > FIRST_SCREEN:
-        yield "the cause ends %d pixels below the top of the page" % bottom
+        yield "the diagnosis ends %d pixels below the top of the page" % bottom
 
 
-def colours_change(page):
-    before = page.evaluate("getComputedStyle(document.body).backgroundColor")
-    page.evaluate("document.getElementById('theme').click()")
-    page.settled()
-    changed = page.evaluate("getComputedStyle(document.body).backgroundColor")
-    if changed == before:
-        yield "the button does not change light and dark"
-    page.reload()
-    if page.evaluate("getComputedStyle(document.body).backgroundColor") != changed:
-        yield "light or dark is not kept"
-    page.evaluate("localStorage.clear(); delete document.documentElement.dataset.theme")     # for the next page
+def links_unfold(page):
+    """A link to a part opens it."""
+    is_open = page.evaluate("""(() => {
+      location.hash = '#numbers';
+      unfold();
+      return document.querySelector('#numbers > details').open;
+    })()""")
+    if not is_open:
+        yield "a link to a part does not unfold it"
 
 
 def changes_give_a_line(page, text, program):
-    """The first change's line, run, tells what stands in its row."""
-    row = page.evaluate("""(() => {
-      const line = document.querySelector('.change code');
-      if (!line) return null;
-      const found = line.closest('tr').querySelector('data[data-from^="trial "][data-from$=" span"]');
-      return {line: line.textContent, span: found.value};
-    })()""")
-    if row is None:
+    """The first change's line can be run."""
+    line = page.evaluate("(line => line && line.textContent)(document.querySelector('.change code'))")
+    if not line:
         return
-    words = shlex.split(row["line"])
-    done = subprocess.run([WHATIF, text, *words[2:], "--json"], capture_output=True, text=True,
+    done = subprocess.run([WHATIF, text, *shlex.split(line)[2:]], capture_output=True, text=True,
                           env=dict(os.environ, SPANPROF=program), check=False)
-    told = json.loads(done.stdout)["changed text"]["span"] if done.returncode == 0 else done.stderr
-    if str(told) != row["span"]:
-        yield "the table has %s, and the line %r tells %s" % (row["span"], row["line"], told)
+    if done.returncode or "span" not in done.stdout:
+        yield "the line %r fails: %s" % (line, done.stderr)
 
 
 def focus_goes_through(page):
@@ -214,20 +181,23 @@ def focus_goes_through(page):
     for _ in range(page.evaluate("document.querySelectorAll('a, button, input, summary, [tabindex]').length") + 1):
         page.key("Tab")
         seen.add(page.evaluate("document.activeElement.className || document.activeElement.tagName"))
-        if {"skip", "lanes", "factor", "SUMMARY"} <= seen:
+        if {"lanes", "BUTTON", "SUMMARY"} <= seen:
             return
     yield "Tab comes to %s alone" % sorted(seen)
 
 
 def drive(page, text, program):
     """All trials. Those of the timelines are left out where nothing takes time."""
-    trials = [the_lead_is_seen_first, tables_sort, colours_change]
+    yield from the_diagnosis_is_one_screen(page)
+    yield from links_unfold(page)
+    page.evaluate(UNFOLD)
+    page.settled()
+    trials = [tables_sort]
     if has_timeline(page):
-        trials += [focus_goes_through, keys_zoom_and_move, letters_zoom_and_move, keys_go_from_segment_to_segment,
-                   mouse_tells, mouse_zooms_and_moves, names_stand_in_bars, segments_are_chosen, search_finds,
-                   stretches_are_marked, runs_zoom_by_themselves, fingers_are_told, fingers_zoom]
+        trials += [focus_goes_through, keys_zoom_and_move, letters_zoom_and_move, a_key_goes_along_the_path,
+                   mouse_tells, mouse_zooms_and_moves, names_stand_in_bars, segments_are_chosen,
+                   runs_zoom_by_themselves, fingers_are_told, fingers_zoom]
     for trial in trials:
         yield from trial(page)
     yield from what_was_measured_is_told(page, text)
-    yield from factors_give_a_line(page, text, program)
     yield from changes_give_a_line(page, text, program)

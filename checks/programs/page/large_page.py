@@ -11,13 +11,14 @@ import sys
 import time
 
 from devtools import Browser, find_browser
+from driving import UNFOLD
 from million import main as write_million
 from visit import LOOKS, look_at, looks
 
 TOP = os.path.dirname(os.path.dirname(os.path.dirname(os.path.dirname(os.path.abspath(__file__)))))
 REPORT = os.path.join(TOP, "tools", "spanprof-report")
 MOST_BYTES, MOST_SECONDS, MOST_TO_OPEN = 5000000, 30, 2
-PARTS = ("summary", "speedup", "timeline", "path", "tasks", "changes")
+PARTS = ("summary", "speedup", "timeline", "places", "numbers")
 
 
 def processor_time():
@@ -47,6 +48,8 @@ def faults_in_the_browser(page):
         for name in PARTS:
             if not tab.evaluate("!!document.getElementById('%s')" % name):
                 yield "there is no part %s" % name
+        tab.evaluate(UNFOLD)
+        tab.settled()
         if not tab.evaluate("!!document.querySelector('.lanes path')"):
             yield "the timeline is empty"
         tab.close()

@@ -15,13 +15,13 @@ function isSeen(element) {
 
 function faultsOfSizes() {
   const faults = [], wide = document.documentElement.scrollWidth;
-  for (const part of document.querySelectorAll("section, figure, svg, .tiles, table")) {
+  for (const part of document.querySelectorAll("section, figure, svg, .times, .went, table")) {
     const { width, height } = part.getBoundingClientRect();
     if (part.checkVisibility() && !(width > 0 && height > 0)) faults.push(`without a size: ${short(part)}`);
   }
   if (wide > innerWidth) faults.push(`the page is ${wide} wide in a window of ${innerWidth}`);
   for (const lanes of document.querySelectorAll(".lanes")) {
-    if (!lanes.querySelector("path")) faults.push("a timeline without bars");
+    if (isSeen(lanes) && !lanes.querySelector("path")) faults.push("a timeline without bars");
   }
   for (const line of document.querySelectorAll(".edge.creates:not(.depends)")) {
     if (getComputedStyle(line).strokeDasharray === "none") faults.push(`not dashed: ${short(line)}`);
@@ -102,7 +102,7 @@ function faultsOfPicture(picture) {
 }
 
 function faultsOfWords() {
-  const elements = document.querySelectorAll("h1, h2, h3, button, a, .tile, .badge, p, li, figcaption, td .place");
+  const elements = document.querySelectorAll("h1, h2, h3, button, a, .time, .went i, .badge, p, li, figcaption, td .place");
   const isCut = (element) => isSeen(element) && element.clientWidth > 0 &&
     element.scrollWidth > element.clientWidth + slack();
   return [...[...document.querySelectorAll("svg")].flatMap(faultsOfPicture),

@@ -1,10 +1,8 @@
-"""What `spanprof-record --scale` has measured, as a page draws it: a square for each number of threads of the curve,
-and predicted times."""
+"""What `spanprof-record --scale` has measured, as a page draws it: a square for each number of threads of the curve."""
 import json
 import os
 
 SQUARES = "document.querySelectorAll('.chart .true').length"
-PREDICTED = "document.querySelectorAll('.predicted data').length"
 
 
 def what_was_measured_is_told(page, text):
@@ -16,5 +14,3 @@ def what_was_measured_is_told(page, text):
     squares = page.evaluate(SQUARES)
     if squares != len(rows):
         yield "%s true times are drawn, and not %d" % (squares, len(rows))
-    if os.path.exists(os.environ.get("SPANPROF_MACHINE", "")) and not page.evaluate(PREDICTED):
-        yield "no time is predicted"

@@ -1,17 +1,16 @@
 #!/usr/bin/env python3
 """A picture of a page, from its top to the end of one part, as docs/page.png is; or of that part alone, as the others.
 
-    picture.py PAGE.html PICTURE.png PART WIDTH SCALE [alone]    PART is the name of a section, such as timeline
+    picture.py PAGE.html PICTURE.png PART WIDTH SCALE [alone]    PART is a selector, such as '#timeline .lanes'
 """
+import json
 import sys
 
 from devtools import Browser, find_browser
+from driving import UNFOLD
 
-
-def edge_of(page, part, edge):
-    """Where the part begins (top) or ends (bottom); none where there is no such part."""
-    return page.evaluate("(p => p && p.getBoundingClientRect().%s + scrollY)(document.getElementById('%s'))" % (
-        edge, part))
+EDGES = "(p => p && [p.getBoundingClientRect().top + scrollY, p.getBoundingClientRect().bottom + scrollY])" \
+    "(document.querySelector(%s))"
 
 
 def main(words):
@@ -24,12 +23,13 @@ def main(words):
         page = browser.page(int(width))
         page.emulate("light")
         page.open(source)
+        page.evaluate(UNFOLD if words[5:] else "")
         page.settled()
-        bottom = edge_of(page, part, "bottom")
-        if not bottom:
+        edges = page.evaluate(EDGES % json.dumps(part))
+        if not edges:
             sys.exit("%s has no part %s" % (source, part))
-        top = edge_of(page, part, "top") if words[5:] else 0
-        clip = {"x": 0, "y": top, "width": int(width), "height": bottom - top, "scale": float(scale)}
+        top = edges[0] if words[5:] else 0
+        clip = {"x": 0, "y": top, "width": int(width), "height": edges[1] - top, "scale": float(scale)}
         page.keep(picture, page.call("Page.captureScreenshot", format="png", captureBeyondViewport=True, clip=clip))
 
 

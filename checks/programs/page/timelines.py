@@ -1,5 +1,4 @@
-"""What a timeline does beside zoom and movement: names, choice, search, marks, fingers. Each trial yields faults."""
-SHIFT = 8   # the bit of the key in an event of the mouse
+"""What a timeline does beside zoom and movement: names, choice, fingers. Each trial yields faults."""
 
 
 def widest(page):
@@ -47,46 +46,6 @@ def segments_are_chosen(page):
     show_all(page)
 
 
-def search_finds(page):
-    """A place's name finds its bars, and Enter goes to one of them."""
-    seen = page.evaluate("""(() => {
-      const lanes = allLanes[0], box = lanes.figure.querySelector('input.search');
-      const { place, places } = lanes.program, first = [...lanes.run.where.keys()][0], name = places[place[first]];
-      const type = (words) => { box.value = words; box.dispatchEvent(new Event('input', {bubbles: true})); };
-      type(name);
-      const wanted = [...lanes.run.where.keys()].filter(s => places[place[s]].includes(name)).length;
-      const told = lanes.figure.querySelector('output').textContent;
-      box.dispatchEvent(new KeyboardEvent('keydown', {key: 'Enter', bubbles: true}));
-      const chosen = lanes.chosen === null ? '' : places[place[lanes.chosen]];
-      type('');
-      return {name, wanted, told, chosen, after: lanes.figure.querySelector('output').textContent};
-    })()""")
-    if seen["told"] != "%s found" % "{:,}".format(seen["wanted"]):
-        yield "a search for %r tells %r, and not %d" % (seen["name"], seen["told"], seen["wanted"])
-    if seen["name"] not in seen["chosen"] or seen["after"]:
-        yield "Enter goes to %r; an empty search tells %r" % (seen["chosen"], seen["after"])
-    show_all(page)
-
-
-def stretches_are_marked(page):
-    """A drag with Shift marks a stretch; the line tells of it, and Escape takes it away."""
-    bar = widest(page)
-    first, last = bar["left"] + 40, bar["right"] - 40
-    page.mouse("mousePressed", first, bar["y"], button="left", buttons=1, clickCount=1, modifiers=SHIFT)
-    page.mouse("mouseMoved", last, bar["y"], button="left", buttons=1, modifiers=SHIFT)
-    page.mouse("mouseReleased", last, bar["y"], button="left", clickCount=1, modifiers=SHIFT)
-    told = page.evaluate("allLanes[0].figure.querySelector('.stretch').textContent")
-    if not told.startswith("Chosen stretch: ") or "% " not in told.replace("%,", "% "):
-        yield "a marked stretch tells %r" % told
-    if not page.evaluate("!!allLanes[0].element.querySelector('.mark')"):
-        yield "a marked stretch is not drawn"
-    page.evaluate("allLanes[0].element.focus()")
-    page.key("Escape")
-    if page.evaluate("!!allLanes[0].mark"):
-        yield "Escape does not take a mark away"
-    show_all(page)
-
-
 def runs_zoom_by_themselves(page):
     lengths = "allLanes.map(lanes => lanes.stretch.length)"
     before = page.evaluate(lengths)
@@ -104,14 +63,14 @@ def runs_zoom_by_themselves(page):
 def fingers_are_told(page):
     """A tap on a number tells its title."""
     number = page.evaluate("""(() => {
-      const number = document.querySelector('.tile data');
+      const number = document.querySelector('td data');
       number.scrollIntoView({block: 'center'});
       const box = number.getBoundingClientRect();
       return {x: box.left + box.width / 2, y: box.top + box.height / 2, title: number.title};
     })()""")
     page.touch("touchStart", [{"x": number["x"], "y": number["y"], "id": 0}])
     page.touch("touchEnd", [])
-    told = page.evaluate("fingerTip.classList.contains('shown') ? fingerTip.textContent : ''")
+    told = page.evaluate("(t => t ? t.textContent : '')(document.querySelector('.tip.shown'))")
     if told != number["title"]:
         yield "a tap on a number tells %r, and not %r" % (told, number["title"])
 

@@ -40,6 +40,7 @@ def look_at(browser, path, look, script):
 
 
 SPOIL = """
+    document.querySelectorAll('details').forEach(part => { part.open = true; });
     document.querySelector('.chart text').setAttribute('x', '-30');
     document.querySelector('h2').style.color = getComputedStyle(document.body).backgroundColor;
     document.querySelector('section').style.minWidth = '3000px';

@@ -13,11 +13,7 @@ AT = r"callers\.c:\d+"
 RIGHT = {
     "callers": [
         r"recorded from callers, the whole program: 1 region",
-        r"segments, and \d+ parts of the regions' own code",
-        r"What follows is of the whole program, as one text\.",
-        r"the beginning serial code, up to the region at " + AT,
         r"serial code 1 task [\d.]+ % of the work",
-        r"the code after the barrier of the region at " + AT + r" in 4 tasks",
         r"called from solve at " + AT,
     ],
 }

@@ -7,51 +7,30 @@ COLOURS = {
     "soft": ("#59636e", "#9aa5b1"), "rule": ("#d9dee4", "#343c46"), "grid": ("#e8ebef", "#262d35"),
     "accent": ("#1f5fbf", "#78aef5"), "second": ("#b3590a", "#f0a05a"), "red": ("#c8281e", "#ff6b60"),
     "measured": ("#8a5300", "#e3b25c"), "recorded": ("#1f5fbf", "#78aef5"), "proved": ("#18703a", "#66c98a"),
-    "declared": ("#6d3fa0", "#c59cf0"), "predicted": ("#a3195b", "#f48ab8"), "shade": ("#fff6e5", "#2b2417"),
+    "declared": ("#6d3fa0", "#c59cf0"),
 }
 BARS = (("#88ccee", "#8fd8f5"), ("#cc6677", "#e4788f"), ("#ddcc77", "#f0d47c"), ("#117733", "#27a35c"),
         ("#332288", "#6a46c4"), ("#aa4499", "#c58be8"), ("#44aa99", "#c4efdc"), ("#999933", "#8f9a24"),
         ("#882255", "#9c1f3e"), ("#c3c8ce", "#525c67"))    # the last is that of all others
-DARK, LIGHT = "#14181d", "#ffffff"
-
-
-def luminance(colour):
-    """The relative luminance of WCAG 2."""
-    parts = (int(colour[i:i + 2], 16) / 255 for i in (1, 3, 5))
-    linear = [part / 12.92 if part <= 0.03928 else ((part + 0.055) / 1.055) ** 2.4 for part in parts]
-    return 0.2126 * linear[0] + 0.7152 * linear[1] + 0.0722 * linear[2]
-
-
-def contrast(a, b):
-    low, high = sorted((luminance(a), luminance(b)))
-    return (high + 0.05) / (low + 0.05)
-
-
-def ink_on(colour):
-    """In which of two colours words on it can be read best."""
-    return max((DARK, LIGHT), key=lambda ink: contrast(ink, colour))
+INKS = ("dddlllddld", "ddddldddll")     # of words on them: dark or light
+INK = {"d": "#14181d", "l": "#ffffff"}
 
 
 def variables(number):
     """`number` is 0 for light paper, and 1 for dark."""
     named = {name: pair[number] for name, pair in COLOURS.items()}
     for i, pair in enumerate(BARS):
-        named.update({"c%d" % i: pair[number], "t%d" % i: ink_on(pair[number])})
+        named.update({"c%d" % i: pair[number], "t%d" % i: INK[INKS[number][i]]})
     return " ".join("--%s: %s;" % pair for pair in named.items())
 
 
-OF_A_BAR = ".lanes .c%d { fill: var(--c%d); } .lanes .t%d { fill: var(--t%d); } .key.c%d { background: var(--c%d); }"
-
-
 def of_bars():
-    return [OF_A_BAR % ((i,) * 6) for i in range(len(BARS))]
+    rule = ".lanes .c%d { fill: var(--c%d); } .lanes .t%d { fill: var(--t%d); } .key.c%d { background: var(--c%d); }"
+    return [rule % ((i,) * 6) for i in range(len(BARS))]
 
 
 def colour_rules():
-    """What is chosen on the page goes before what the reader's system asks for."""
     light, dark = (variables(number) for number in (0, 1))
     return "\n".join([":root { color-scheme: light; %s }" % light,
                       "@media (prefers-color-scheme: dark) { :root { color-scheme: dark; %s } }" % dark,
-                      ':root[data-theme="light"] { color-scheme: light; %s }' % light,
-                      ':root[data-theme="dark"] { color-scheme: dark; %s }' % dark, *of_bars(),
-                      "@media print { :root, :root[data-theme] { color-scheme: light; %s } }" % light]) + "\n"
+                      *of_bars(), "@media print { :root { color-scheme: light; %s } }" % light]) + "\n"

@@ -9,10 +9,7 @@ from spanprof.diagnosis.compare import as_json as comparison_json, compared, is_
 from spanprof.diagnosis.tell import told_of
 from spanprof.errors import Fault
 from spanprof.recording import open_recording, text_of
-from spanprof.report.live import module
 from spanprof.report.page import page
-from spanprof.report.speedscope import speedscope_text
-from spanprof.report.summary_json import summary_json
 from spanprof.report.trace_events import trace_text
 from spanprof.report.view import View
 from spanprof.version import Version
@@ -23,7 +20,6 @@ AFTER = """Exit status 1: a file or a place is missing, a file cannot be written
 SLOWER = 3
 LONGEST_WORDS = 100
 MOST_THREADS = 1024
-NOT_OF_A_LONG_TEXT = ("trace", "live")
 
 
 def beside(text):
@@ -34,8 +30,7 @@ def beside(text):
 
 def outputs(chosen):
     """The files that are asked for, and what each is."""
-    named = ((chosen.output, "page"), (chosen.trace, "trace"), (chosen.speedscope, "speedscope file"))
-    return [(path, what) for path, what in named if path]
+    return [(path, what) for path, what in ((chosen.output, "page"), (chosen.trace, "trace")) if path]
 
 
 def arguments(words):
@@ -53,11 +48,8 @@ def arguments(words):
         help="of the greedy schedule; without it as many as were recorded")
     add("--source", action="append", metavar="FOLDER",
         help="where the source is; without it next to the text, and here")
-    add("--live", action="store_true",
-        help="the page carries spanprof as a WebAssembly module, which answers factors, threads, dropped waits at once")
-    add("--trace", metavar="FILE.json", help="the runs as a trace for ui.perfetto.dev")
-    add("--speedscope", metavar="FILE.json", help="the work and the span by place, for speedscope.app")
-    add("--json", action="store_true", help="print the summary as JSON")
+    add("--trace", metavar="FILE.json", help="the runs as a trace for ui.perfetto.dev and speedscope.app")
+    add("--json", action="store_true", help="print the diagnosis as JSON")
     add("--version", action=Version)
     chosen = parser.parse_args(words)
     check_words(parser, chosen)
@@ -70,13 +62,10 @@ def check_words(parser, chosen):
         parser.error("--fail-above compares two recordings: name a second one")
     if chosen.after:
         return
-    if not (chosen.output or chosen.trace or chosen.speedscope or chosen.json):
+    if not (chosen.output or chosen.trace or chosen.json):
         chosen.output = beside(chosen.program)
-    if chosen.live and not chosen.output:
-        parser.error("--live is for the page (-o)")
-    paths = [os.path.realpath(path) for path, _ in outputs(chosen)]
-    if len(set(paths)) < len(paths):
-        parser.error("-o, --trace and --speedscope are for different files")
+    if chosen.output and chosen.trace and os.path.realpath(chosen.output) == os.path.realpath(chosen.trace):
+        parser.error("-o and --trace are for different files")
 
 
 def write(path, text):
@@ -103,38 +92,18 @@ class Progress:
         show(["spanprof-report: written: %s" % path for path in written], self.stream)
 
 
-def views_of(chosen, tell):
-    views = [View(chosen.program, chosen.threads, chosen.source, tell=tell)]
-    if chosen.other:
-        views.append(View(chosen.other, chosen.threads, chosen.source, "other ", tell))
-    return views
-
-
-def write_all(chosen, views):
-    """What was asked for; what was written is told."""
-    wasm = module() if chosen.live else None
-    written = [(chosen.output, lambda: page(views, wasm)), (chosen.trace, lambda: trace_text(views[0])),
-               (chosen.speedscope, lambda: speedscope_text(views[0]))]
-    for path, make in written:
-        if path:
-            write(path, make())
-    return [path for path, _ in written if path]
-
-
-def refuse_of_a_long_text(chosen, view):
-    """What would be as long as the text, or keep all of its graph."""
-    asked = ["--" + option for option in NOT_OF_A_LONG_TEXT if getattr(chosen, option)]
-    if asked and view.is_long:
-        raise Fault("%s: the text is beyond the limits of spanprof, and has no %s" % (
-            chosen.program, " or ".join(asked)))
-
-
 def write_the_rest(chosen, progress):
-    views = views_of(chosen, progress)
-    refuse_of_a_long_text(chosen, views[0])
+    """What was asked for; what was written is told."""
     if chosen.json:
-        print(json.dumps(summary_json(views[0]), indent=2))
-    progress.end(write_all(chosen, views))
+        print(json.dumps(told_of(open_recording(chosen.program), chosen.source or ()).json(), indent=2))
+    written = outputs(chosen)
+    texts = ((chosen.program, ""), (chosen.other, "other ")) if written else ()
+    views = [View(text, chosen.threads, chosen.source, prefix, progress) for text, prefix in texts if text]
+    if chosen.trace and views[0].is_long:
+        raise Fault("%s: the text is beyond the limits of spanprof, and has no --trace" % chosen.program)
+    for path, what in written:
+        write(path, page(views) if what == "page" else trace_text(views[0]))
+    progress.end([path for path, _ in written])
 
 
 def check(chosen):

@@ -1,26 +1,22 @@
 """Numbers of the page. Each tells where it comes from: it carries the answer of spanprof that it is, or the sum.
 
-A source is written in a few words that the tests read again: `span work`, `curve 4 end`, `place 3 cost`,
-`whatif 3 0.5 span`. `A - B` is a difference, `A / B` a quotient, `percent A / B` the same in per cent. `other` before
-all of it means the second program of the page, and `change A` how that differs from the first in per cent.
+A source is written in a few words that the tests read again: `span work`, `curve 4 end`, `place 3 cost`. `A - B` is a
+difference, `A / B` a quotient, `percent A / B` the same in per cent. `other` before all of it means the second program
+of the page, and `change A` how that differs from the first in per cent.
 """
-from spanprof.head import Head
 from spanprof.proof import proved
 from spanprof.report.markup import join, tag
-from spanprof.report.units import Units, grouped
+from spanprof.report.units import grouped
 
 MEASURED, RECORDED, PROVED, DECLARED = "measured", "recorded", "proved", "declared"
-PREDICTED, BURDENED = "predicted", "burdened"
 MEANINGS = {
     MEASURED: "read from the recorder's clock, or a sum or quotient of such readings",
     DECLARED: "stated by the text, with no recording behind it, or a sum of such statements",
     RECORDED: "from the run: tasks and segments, dependences, the order of events",
     PROVED: "follows from the costs and the shape that the text has, %s; of the program that was recorded it says as "
             "much as the text is that program",
-    PREDICTED: "predicted by a model of the runtime's scheduling and of this machine, without a proof",
-    BURDENED: "the same of the text with what a dispatch takes put in its code",
 }
-LABELS = {PROVED: "proved of the text", BURDENED: "proved of the burdened text"}
+OF_THE_TEXT = "proved of the text"
 
 
 def percent(part, whole):
@@ -39,7 +35,7 @@ def rounded_up(above, below):
 
 def label(kind):
     """The word for a kind of number; what is proved is proved of the text."""
-    return proved(LABELS[kind]) if kind in LABELS else kind
+    return proved(OF_THE_TEXT) if kind == PROVED else kind
 
 
 def meaning(kind):
@@ -75,10 +71,6 @@ class Figures:
         value = percent(part, whole)
         return self.data(grouped(value, 1) + " %", value, "percent " + source, kind)
 
-    def times(self, above, below, source, kind):
-        """A quotient such as a speedup; 1 where nothing costs anything."""
-        return self.number(above / below if below else 1.0, source, kind, 2)
-
     def times_at_most(self, above, below, source, kind):
         """A quotient that nothing passes, rounded up."""
         return self.data(rounded_up(above, below), above / below if below else 1.0, source, kind, "up")
@@ -92,20 +84,10 @@ class Figures:
         listed = "; ".join(self.prefix + source for source in sources)
         return tag(name, words, data_from=listed or None, **attributes)
 
-    def told_time(self, name, value, source, **attributes):
-        """The same of one time, in a human unit."""
-        words, scale = self.units.shown(value)
-        return self.told(name, words, [source], data_scale=None if scale == 1 else "%.12g" % scale, **attributes)
-
-
-def in_nanoseconds(prefix):
-    """Of times in that unit, whatever the unit of the text."""
-    return Figures(prefix, Units(Head(unit="ns")))
-
 
 def badge(kind):
     """The word itself, where a column or a tile holds numbers of one kind."""
-    colour = kind if label(kind) == LABELS.get(kind, kind) else "unverified"
+    colour = kind if label(kind) in (kind, OF_THE_TEXT) else "unverified"
     return tag("span", label(kind), class_="badge " + colour, title=meaning(kind))
 
 

@@ -1,4 +1,4 @@
-"""Which task creates which, depends on which and waits for which, from spanprof's kept edges; also by their places."""
+"""Which place's tasks create those of which, depend on them and wait for them, from spanprof's kept edges."""
 from collections import Counter
 
 CREATES, DEPENDS, WAITS = "creates", "depends", "waits"
@@ -11,24 +11,17 @@ def kind_of(code, p, s):
     return CREATES if p == s - 1 else DEPENDS
 
 
-def task_edges(code, predecessors):
-    """How many kept edges of each kind there are between two tasks."""
-    edges = Counter()
+def place_edges(code, predecessors, place_of):
+    """How many kept edges of each kind there are between the tasks of two places; `place_of` has each task's."""
+    edges, task = Counter(), code.task
     for s, before in enumerate(predecessors):
         for p in before:
-            if code[p].task != code[s].task:
-                edges[kind_of(code, p, s), code[p].task, code[s].task] += 1
+            if task[p] != task[s]:
+                edges[kind_of(code, p, s), place_of[task[p]], place_of[task[s]]] += 1
     return edges
 
 
-def place_edges(edges, place_of):
-    """The same between the places of the tasks."""
-    out = Counter()
-    for (kind, a, b), count in edges.items():
-        out[kind, place_of[a], place_of[b]] += count
-    return out
-
-
-def critical_pairs(code, path):
-    """The pairs of tasks between which the critical path goes on."""
-    return {(code[a].task, code[b].task) for a, b in zip(path, path[1:]) if code[a].task != code[b].task}
+def critical_pairs(code, path, place_of):
+    """The pairs of places between whose tasks the critical path goes on."""
+    return {(place_of[code.task[a]], place_of[code.task[b]]) for a, b in zip(path, path[1:])
+            if code.task[a] != code.task[b]}

@@ -31,15 +31,14 @@ def tag(name, *pieces, **attributes):
     return Markup("<%s%s>%s</%s>" % (name, words, join(pieces), name))
 
 
-def section(name, title, *pieces):
-    """A part of the page, which the list of parts at its top leads to."""
-    heading = tag("h2", title, id=name + "-title")
-    return tag("section", heading, *pieces, id=name, aria_labelledby=name + "-title")
-
-
 def note(*pieces):
     return tag("p", *pieces, class_="note")
 
 
 def details(summary, *pieces, is_open=False, class_=None):
     return tag("details", tag("summary", summary), *pieces, open="" if is_open else None, class_=class_)
+
+
+def section(name, title, *pieces, is_open=False):
+    """A part of the page, folded until asked for."""
+    return tag("section", details(tag("h2", title), *pieces, is_open=is_open), id=name)

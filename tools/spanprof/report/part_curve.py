@@ -1,8 +1,7 @@
 """The speedup on more and more threads, between `least` and `bound`, with the point that the run reached."""
 from spanprof.claims import gain_may_be_less, gain_may_be_more, least_end, why_not_of_more_threads
 from spanprof.report.figures import MEASURED, PROVED, badges
-from spanprof.report.markup import details, join, note, section, tag
-from spanprof.report.tables import table
+from spanprof.report.markup import join, note, section, tag
 from spanprof.report.true_times import keys as true_keys, marks as true_marks, shown_points
 
 WIDTH, HEIGHT = 720, 380
@@ -80,7 +79,7 @@ def curve_lines(axes, view, colour):
     fastest, slowest = most_speed_ups(view.answers), speed_ups(view.answers, "bound")
     greedy = speed_ups(view.answers, "end")
     low = [(threads, min(slow, fast)) for (threads, slow), (_, fast) in zip(slowest, fastest)]
-    pieces = [tag("polygon", points=axes.points(fastest + low[::-1]), class_="band " + colour), lock_line(axes, view),
+    pieces = [tag("polygon", points=axes.points(fastest + low[::-1]), class_="band " + colour),
               tag("polyline", points=axes.points(greedy), class_="curve " + colour)]
     for threads, speed_up in greedy:
         pieces.append(tag("circle", told(view, threads), cx=axes.x(threads), cy=axes.y(speed_up), r=3,
@@ -88,30 +87,19 @@ def curve_lines(axes, view, colour):
     return join(pieces)
 
 
-def lock_limit(answers):
-    """Work over the time inside the most held lock, where that is below what the text allows; else None."""
-    inside = answers.head.most_held
-    binds = inside and inside > answers.curve[max(answers.curve)]["least"]
-    return answers.work / inside if binds else None
-
-
-def lock_line(axes, view):
-    limit = lock_limit(view.answers)
-    if not limit:
-        return ""
-    words = "%.2f: work / time inside the most held lock" % limit
-    title = view.figures.told("title", words, ["span work / head most held lock"])
-    return tag("line", title, x1=axes.x(1), x2=axes.x(axes.most_threads), y1=axes.y(limit), y2=axes.y(limit),
-               class_="limit")
+def reached(view):
+    """How fast the recorded run was, by the clock; None where that is not known."""
+    head = view.answers.head
+    return view.answers.work / head.elapsed if head.elapsed and head.threads else None
 
 
 def reached_mark(axes, view, colour):
     """A diamond where the recorded run stands."""
-    reached = view.reached
-    if not reached or reached.threads > axes.most_threads:
+    threads = view.answers.head.threads
+    if not reached(view) or threads > axes.most_threads:
         return ""
-    x, y = axes.x(reached.threads), axes.y(reached.speed_up)
-    words = "%d threads: %.2f, %s" % (reached.threads, reached.speed_up, REACHED)
+    x, y = axes.x(threads), axes.y(reached(view))
+    words = "%d threads: %.2f, %s" % (threads, reached(view), REACHED)
     title = view.figures.told("title", words, ["threads", "span work / elapsed"])
     return tag("path", title, d="M%g %gl7 7l-7 7l-7 -7z" % (x, y - 7), class_="reached " + colour)
 
@@ -120,7 +108,7 @@ def most_shown(views):
     """The greatest speedup of the picture."""
     bounds = [speed_up for view in views for _, speed_up in speed_ups(view.answers, "least")]
     true = [point.greatest for view in views for point in shown_points(view)]
-    return max(bounds + true + [view.reached.speed_up for view in views if view.reached])
+    return max(bounds + true + list(filter(None, map(reached, views))))
 
 
 def picture(views):
@@ -128,11 +116,8 @@ def picture(views):
     axes = Axes(most_threads, max(most_shown(views) * 1.06, 1.5))
     ideal = [(1, 1), (min(most_threads, axes.most_times), min(most_threads, axes.most_times))]
     pieces = [grid(axes), tag("polyline", points=axes.points(ideal), class_="ideal")]
-    for number_of, view in enumerate(views):
-        pieces.append(curve_lines(axes, view, "s%d" % number_of))
-    for number_of, view in enumerate(views):
-        pieces.append(reached_mark(axes, view, "s%d" % number_of))
-        pieces.append(true_marks(axes, view, "s%d" % number_of))
+    for draw in (curve_lines, reached_mark, true_marks):
+        pieces += [draw(axes, view, "s%d" % number) for number, view in enumerate(views)]
     return tag("svg", *pieces, viewBox="0 0 %d %d" % (WIDTH, HEIGHT), class_="chart", role="img",
                aria_label="Speedup on 1 to %d threads" % most_threads)
 
@@ -140,14 +125,11 @@ def picture(views):
 def keys(view, colour, name):
     """What line, band and diamond of a program mean."""
     greedy = tag("span", tag("i", class_="key line " + colour), name, "the greedy schedule")
-    items = [greedy if speed_ups(view.answers, "end") else "",
-             tag("span", tag("i", class_="key area " + colour), name,
-                 "from what every greedy schedule of the text reaches to what none passes")]
-    if lock_limit(view.answers):
-        items.append(tag("span", tag("i", class_="key limit"), name, "work / time inside the most held lock"))
-    if view.reached:
-        items.append(tag("span", tag("i", class_="key diamond " + colour), name, REACHED))
-    return items + true_keys(view, name)
+    diamond = tag("span", tag("i", class_="key diamond " + colour), name, REACHED)
+    return [*[greedy] * bool(speed_ups(view.answers, "end")),
+            tag("span", tag("i", class_="key area " + colour), name,
+                "from what every greedy schedule of the text reaches to what none passes"),
+            *[diamond] * bool(reached(view)), *true_keys(view, name)]
 
 
 def legend(views):
@@ -158,53 +140,20 @@ def legend(views):
     return tag("p", *items, class_="legend given")
 
 
-def shown_threads(answers):
-    """1, 2, 4 and so on, the recorded number, and the last one."""
-    powers = {2 ** i for i in range(11)} | {answers.threads, max(answers.curve)}
-    return sorted(powers & set(answers.curve))
-
-
-def cells(view, threads):
-    answers, show = view.answers, view.figures
-    words = show.told("span", threads, ["curve %d threads" % threads])
-    out = [tag("b", words) if threads == answers.threads else words]
-    columns = (("least", "down", show.times_at_most), ("end", None, show.times), ("bound", "up", show.times_at_least))
-    for column, way, times in columns:
-        if column not in answers.curve[threads]:
-            out += ["", ""] if speed_ups(answers, column) else []
-            continue
-        source, value = "curve %d %s" % (threads, column), answers.curve[threads][column]
-        out += [show.time(value, source, PROVED, way), times(answers.work, value, "span work / " + source, PROVED)]
-    return out
-
-
-def numbers(view):
-    greedy = ["the greedy schedule ends at", "times"] if speed_ups(view.answers, "end") else []
-    heads = ["threads", "no run ends before", "times", *greedy, "no greedy schedule ends after", "times"]
-    return table(heads, [cells(view, threads) for threads in shown_threads(view.answers)], numeric=range(7))
-
-
 def limits(view):
     """What keeps the curve from being the program's."""
-    head, reasons = view.answers.head, []
-    if why_not_of_more_threads(head):
-        reasons.append("the text is of one run: " + why_not_of_more_threads(head))
-    if gain_may_be_more(head):
-        reasons.append("by the warnings the program may gain more")
-    if gain_may_be_less(head):
-        reasons.append("by locks or warnings a run of the program may be below the band")
-    if not reasons:
-        return ""
-    words = "; ".join(reasons)
-    return tag("p", "Of ", tag("span", view.name, class_="place"), " as a program this says less: ", words, ".",
-               class_="limits")
+    head = view.answers.head
+    reasons = list(filter(None, [
+        why_not_of_more_threads(head), "by the warnings the program may gain more" * gain_may_be_more(head),
+        "by locks or warnings a run of the program may be below the band" * gain_may_be_less(head)]))
+    return note("Of ", tag("span", view.name, class_="place"), " as a program this says less: ", "; ".join(reasons),
+                ".") if reasons else ""
 
 
 def curve_part(views):
-    tables = [details("The numbers" + (" of " + view.name if len(views) > 1 else ""), numbers(view)) for view in views]
-    return section("speedup", "Speedup", tag("figure", picture(views), legend(views)),
+    return section("speedup", "Speedup over threads", tag("figure", picture(views), legend(views)),
                    note("The speedup of the text over serial code: the curve, and its bounds ",
                         badges(PROVED), ". A run of the text that leaves no thread idle while a segment is ready lies "
-                        "in the band, whatever its order; tied tasks can force a thread to idle. The diamond is how "
-                        "many threads were busy in this code on average ", badges(MEASURED), "."),
-                   *[limits(view) for view in views], *tables)
+                        "in the band; tied tasks can force a thread to idle. The diamond is how many threads were busy "
+                        "in this code on average ", badges(MEASURED), ". A dot's tooltip has its numbers."),
+                   *[limits(view) for view in views])

@@ -1,24 +1,27 @@
-"""The first screen: one sentence, three times, where the threads' time went, the change as a diff, the plan."""
+"""The first screen: a sentence, three times, where the threads' time went, the change as a diff, the plan, how sure."""
 from spanprof.account_words import lasting
-from spanprof.diagnosis.sentences import (change_sentence, loss_name, lost_sentence, speed_words, sure_words,
+from spanprof.diagnosis.sentences import (change_sentence, loss_name, lost_sentence, several, speed_words, sure_words,
                                           unsure)
 from spanprof.diagnosis.source_change import diff
+from spanprof.report.figures import PROVED, badge
 from spanprof.report.markup import join, tag
 
-LEAST = 0.04        # of the threads' time, from which on a loss is a part of the bar, and a part has room for words
+LEAST = 0.02        # of the threads' time, from which on a loss is a part of the bar
+LEAST_SEEN = 0.04   # from which on there is room for its share
 MOST_PARTS = 4
+LETTERS = 110       # that fit into a line of the bar
 
 
 def headline(found):
     facts = found.facts
-    return tag("p", "%s takes %s on %d threads%s." % (facts.program or "The program", lasting(found.now), facts.threads,
-                                                      speed_words(facts)), class_="headline")
+    return tag("h1", "%s takes %s on %s%s." % (facts.program or "The program", lasting(found.now),
+                                               several(facts.threads, "thread"), speed_words(facts)))
 
 
 def lost_words(told):
     found = told.found
     return [tag("p", tag("b", "%.0f %%" % (100 * found.facts.share(loss.time))), " lost: ",
-                lost_sentence(found.facts, told.names, loss), ".") for loss in found.causes]
+                lost_sentence(found.facts, told.names, loss), ".", class_="lost") for loss in found.causes]
 
 
 def one_time(time, words):
@@ -26,31 +29,44 @@ def one_time(time, words):
 
 
 def times(found):
-    first = found.plan[:1]
-    return tag("div", one_time(found.now, "now, on %d threads" % found.facts.threads),
-               *[one_time(step.after, "after the first change, %s" % ("predicted" if step.change else "at best"))
-                 for step in first],
-               one_time(found.best, "if all threads ran its code all the time"), class_="times")
+    facts = found.facts
+    now = "now, on %s" % several(facts.threads, "thread") + (" of %s" % facts.runtime if facts.runtime else "")
+    first = [one_time(step.after, "after the first change, %s" % ("predicted" if step.change else "at best"))
+             for step in found.plan[:1]]
+    return tag("div", one_time(found.now, now), *first,
+               one_time(found.best, "at best: all threads in code all the time"), class_="times")
 
 
 def parts(told):
-    """Of the bar: words, a share and a class."""
-    found = told.found
-    facts, out = found.facts, [("in code", found.facts.share(found.code_on_one), "of-code")]
-    for loss in found.losses[:MOST_PARTS]:
-        if facts.share(loss.time) >= LEAST:
-            out.append((loss_name(told.names, loss).partition(" (")[0], facts.share(loss.time), "of-loss"))
+    """Of the bar: words, a share and a class. Losses in one function are one part."""
+    found, lost = told.found, {}
+    for loss in found.losses:
+        words = loss_name(told.names, loss).partition(" (")[0]
+        lost[words] = lost.get(words, 0) + found.facts.share(loss.time)
+    large = [pair for pair in sorted(lost.items(), key=lambda pair: -pair[1]) if pair[1] >= LEAST][:MOST_PARTS]
+    out = [("in code", found.facts.share(found.code_on_one), "of-code")] + \
+        [(words, share, "of-loss%d" % i) for i, (words, share) in enumerate(large)]
     rest = 1 - sum(share for _, share, _ in out)
     return out + [("the rest", rest, "of-rest")] * (rest >= 0.005)
 
 
+def has_room(words, share):
+    """For its words, in two lines at most."""
+    return len(words) <= 2 * LETTERS * share and max(map(len, words.split())) + 2 <= LETTERS * share
+
+
 def part_bar(told):
-    pieces = [tag("i", "%s %.0f %%" % (words, 100 * share) if share >= LEAST else "",
-                  style="flex:%d" % max(1, 1000 * share), class_=class_, title="%s: %.1f %%" % (words, 100 * share))
-              for words, share, class_ in parts(told)]
+    """What has no room for its words in the bar has them below it; on a phone the bar stands upright, and has all."""
+    pieces, below = [], []
+    for words, share, class_ in parts(told):
+        inside, seen = has_room(words + " 99 %", share), "%.0f %%" % (100 * share)
+        pieces.append(tag("i", tag("span", words, " "), tag("b", seen), style="flex:%d" % max(1, 1000 * share),
+                          title="%s: %.1f %%" % (words, 100 * share),
+                          class_=class_ + " thin" * (not inside) + " thinnest" * (share < LEAST_SEEN)))
+        below += [] if inside else [tag("span", tag("i", class_="key " + class_), "%s %s" % (words, seen))]
     spoken = ", ".join("%s %.0f %%" % (words, 100 * share) for words, share, _ in parts(told))
-    return tag("div", *pieces, class_="where", role="img",
-               aria_label="Where the time of the threads went: " + spoken)
+    return [tag("div", *pieces, class_="went", role="img", aria_label=spoken),
+            tag("p", *below, class_="legend of-went") if below else ""]
 
 
 def source_diff(told, step):
@@ -61,28 +77,51 @@ def source_diff(told, step):
 
 
 def gain(step):
-    return tag("b", "%s %s %s" % (lasting(step.before), "to" if step.change else "to at best", lasting(step.after)),
+    less = " (−%.0f %%)" % (100 * (step.before - step.after) / step.before) if step.before else ""
+    return tag("b", lasting(step.before), " → ", "" if step.change else "at best ", lasting(step.after), less,
                class_="gain")
 
 
 def first_change(told):
-    return [tag("div", tag("p", tag("b", "First: "), change_sentence(told.found.facts, told.names, step), ". ",
-                           gain(step)), source_diff(told, step), class_="first") for step in told.found.plan[:1]]
+    return [tag("div", tag("h3", "First"), tag("p", change_sentence(told.found.facts, told.names, step), " ",
+                                               gain(step)), source_diff(told, step), class_="first")
+            for step in told.found.plan[:1]]
 
 
 def then(told):
-    rows = [tag("li", change_sentence(told.found.facts, told.names, step), " ", gain(step))
+    rows = [tag("li", tag("span", change_sentence(told.found.facts, told.names, step)), " ", gain(step))
             for step in told.found.plan[1:]]
-    return [tag("p", "Then, on top of it:"), tag("ol", *rows)] if rows else []
+    return [tag("h3", "Then, on top of it"), tag("ol", *rows)] if rows else []
 
 
-def sure(told):
+def sure(told, warnings=0):
     rest = unsure(told.found, told.names)
-    return tag("p", ", ".join(sure_words(told.found)) + (". Not known: %s." % rest if rest else "."), class_="sure")
+    words = ", ".join(sure_words(told.found)) + (". Not known: %s." % rest if rest else ".")
+    link = [" ", tag("a", several(warnings, "warning"), href="#numbers"), "."] if warnings else []
+    return tag("p", words, *link, class_="sure")
 
 
-def first_screen(told):
+def first_screen(told, warnings=0):
     """Numbers are in words of the diagnosis: tables below have those that are worked out again."""
     found = told.found
-    return tag("div", headline(found), *lost_words(told), times(found), part_bar(told), *first_change(told),
-               *then(told), sure(told), class_="diagnosis given")
+    title = tag("h3", "Where the time of the %s went" % several(found.facts.threads, "thread"))
+    return tag("div", headline(found), *lost_words(told), times(found), title, *part_bar(told), *first_change(told),
+               *then(told), sure(told, warnings), class_="diagnosis given")
+
+
+def without_run(view):
+    """Of a text without a recorded run on several threads, of which no cause is known."""
+    answers, show = view.answers, view.figures
+    why = "It was recorded on one thread: record it on more. " if answers.head.threads == 1 else ""
+    return tag("div", tag("h1", view.name), tag(
+        "p", why, "Work ", show.time(answers.work, "span work", PROVED), ", span ",
+        show.time(answers.span, "span span", PROVED), ": on any number of threads at most ",
+        show.times_at_most(answers.work, answers.span, "span work / span span", PROVED), " times as fast ",
+        badge(PROVED), ". What changes bring: ", tag("code", "spanprof-whatif %s --advise" % view.name), "."),
+        class_="diagnosis")
+
+
+def first_part(view):
+    told, head = view.diagnosis, view.answers.head
+    screen = first_screen(told, len(head.remarks) + len(head.locks)) if told else without_run(view)
+    return tag("section", screen, id="summary")

@@ -1,6 +1,6 @@
 """The source with heat: which lines the work and the span are of."""
 from spanprof.report.figures import badges, percent
-from spanprof.report.markup import breakable, details, join, note, section, tag
+from spanprof.report.markup import breakable, join, note, section, tag
 from spanprof.text import CALLED_FROM
 
 MOST_FILES, MOST_LINES, AROUND = 6, 800, 3
@@ -27,20 +27,17 @@ def shown_lines(view, places, lines):
     return sorted(number for number in near if 0 < number <= len(lines))[:MOST_LINES]
 
 
+def shares_of(view, place):
+    """Its parts of the work and of the span, in per cent."""
+    return percent(place.cost, view.answers.work), percent(place.critical_cost, view.answers.span)
+
+
 def heat(view, places, number):
     """The greatest parts of the work and of the span that a place is whose segments run the line; none without any."""
-    here = [place for place in places
+    here = [shares_of(view, place) for place in places
             if view.stretches[place.name].first <= number <= view.stretches[place.name].last]
-    if not here:
-        return None
-    work = max(percent(place.cost, view.answers.work) for place in here)
-    span = max(percent(place.critical_cost, view.answers.span) for place in here)
-    return "--heat:%.1f%%;--span:%.1f%%" % (DARKEST * work, span)
-
-
-def is_told(view, place):
-    """Whether one of its shares is seen in a note."""
-    return max(percent(place.cost, view.answers.work), percent(place.critical_cost, view.answers.span)) >= LEAST
+    work, span = (max(column) for column in zip(*here)) if here else (0, 0)
+    return "--heat:%.1f%%;--span:%.1f%%" % (DARKEST * work, span) if here else None
 
 
 def words_of(view, place):
@@ -54,36 +51,28 @@ def words_of(view, place):
 
 
 def line_row(view, places, lines, number):
-    here = [place for place in places if view.stretches[place.name].first == number and is_told(view, place)]
+    here = [place for place in places
+            if view.stretches[place.name].first == number and max(shares_of(view, place)) >= LEAST]
     cells = [tag("td", number, class_="n given"), tag("td", tag("code", lines[number - 1] or " ")),
              tag("td", *[words_of(view, place) for place in here])]
     return tag("tr", *cells, style=heat(view, places, number))
 
 
-def gap_row():
-    return tag("tr", tag("td", "⋮", colspan=3), class_="gap")
-
-
 def file_table(view, places, lines):
     rows, before = [], 0
     for number in shown_lines(view, places, lines):
-        rows += [gap_row()] if before and number > before + 1 else []
+        rows += [tag("tr", tag("td", "⋮", colspan=3))] if before and number > before + 1 else []
         rows.append(line_row(view, places, lines, number))
         before = number
     return tag("div", tag("table", tag("tbody", *rows), class_="source"), class_="wide")
 
 
-def source_part(view, of=""):
-    """`of` names the program where the page has two. Nothing where no file is found."""
+def source_part(view):
+    """Nothing where no file is found."""
     files = [(name, places, view.sources.lines_of(name)) for name, places in of_files(view)]
     found = [(name, places, lines) for name, places, lines in files if lines][:MOST_FILES]
-    if not found:
-        return ""
-    pieces = [details(tag("span", name, class_="place"), file_table(view, places, lines), is_open=i == 0)
-              for i, (name, places, lines) in enumerate(found)]
-    return section("source", "Source" + of, note(
-        "The darker a line, the more of the work a place is whose segments run it, and the redder the bar at its left, "
-        "the more of the span: from where they begin to the construct that ends them. Where the statement of a "
-        "directive ends, this page reads off the file's braces. Places with next to nothing of both have no words. "
-        "Shares ",
-        badges(view.cost_kind), "."), join(pieces))
+    pieces = [join([tag("h3", name, class_="place"), file_table(view, places, lines)]) for name, places, lines in found]
+    return section("source", "Source", note(
+        "The darker a line, the more of the work its segments are, and the redder the bar at its left, the more of the "
+        "span: from where they begin to the construct that ends them. Shares ", badges(view.cost_kind), "."),
+        *pieces) if found else ""

@@ -4,130 +4,100 @@ from spanprof.report.markup import details, join, note, section, tag
 from spanprof.report.view import COLOURS
 
 KEYS = (("w s", "or + −: zoom"), ("a d", "or ← →: move"), ("0", "show all"),
-        (", .", "the segment before, and the next"), ("↑ ↓", "another thread"),
-        ("n", "the next segment on the critical path"), ("Esc", "let go of what is chosen"),
-        ("Enter", "show a marked stretch alone"))
-HANDS = "Click or tap a segment to choose it: arrows come from those that it waited for (solid) and go to those that " \
-    "waited for it (dashed). A drag moves, and Ctrl with the wheel or two fingers zoom. A drag with Shift marks a " \
-    "stretch, which the line below describes. A search for words dims all places without them, and Enter goes to the " \
-    "next one with them; a number is a segment's."
+        ("n", "the next segment on the critical path"), ("Esc", "let go of what is chosen"))
+HANDS = "Click or tap a segment: arrows come from those that it waited for (solid) and go to those that waited for " \
+    "it (dashed). A drag moves, and Ctrl with the wheel or two fingers zoom."
+IN_BINS = "Each bin of time is as high as the share of it that its thread was in code, and has the colour of the " \
+    "tasks that it was in most."
+THIN = "segments thinner than a pixel: as high as the share of its time that the thread is busy"
+TIMED = "Each bar stands where the recorder's clock saw it. A gap is a thread that waited, slept, or was in the " \
+    "runtime."
+UNTIMED = "There are no recorded times of its segments%s. So there is only the greedy schedule to show."
+NAMES = {"recorded": "The run as it was", "greedy": "The greedy schedule"}
+AS_MANY = "The greedy schedule of the text on as many threads"
+
+
+def on_threads(threads):
+    return tag("span", "%d threads" % threads, class_="given")
 
 
 def title(name, threads, end, busy, kinds):
-    return join([tag("b", name), ", ", tag("span", "%d threads" % threads, class_="given"), ", ", end, ", ", busy,
-                 " busy ", badges(*dict.fromkeys(kinds))])
+    return join([tag("b", NAMES[name]), ", ", on_threads(threads), ", ", end, ", ", busy, " busy ",
+                 badges(*dict.fromkeys(kinds))])
 
 
 def recorded_title(view):
     run, show, kind = view.run, view.figures, view.cost_kind
     busy = sum(end - start for start, end in zip(run.starts, run.ends))
-    return title("The run as it was", run.count, show.time(round(run.end), "run end", kind),
+    return title("recorded", run.count, show.time(round(run.end), "run end", kind),
                  show.share(busy, run.count * run.end, "run busy / run time", kind), [RECORDED, kind])
-
-
-def until_the_end(view):
-    """Why what elapsed is more than the end of the recorded run."""
-    run, elapsed = view.run, view.answers.head.elapsed
-    if not elapsed or elapsed <= round(run.end):
-        return ""
-    show = view.figures
-    return note("From the region's beginning to its end ", show.time(elapsed, "elapsed", MEASURED),
-                " elapsed ", badge(MEASURED), ", ",
-                show.time(elapsed - round(run.end), "elapsed - run end", MEASURED), AFTER_THE_LAST)
 
 
 def greedy_title(view):
     answers, show = view.answers, view.figures
     end = answers.curve[answers.threads]["end"]
-    return title("The greedy schedule", answers.threads,
-                 show.time(end, "curve %d end" % answers.threads, PROVED),
+    return title("greedy", answers.threads, show.time(end, "curve %d end" % answers.threads, PROVED),
                  show.share(answers.work, answers.threads * end, "span work / greedy time", PROVED), [PROVED])
 
 
-def controls(has_search=True):
-    def button(act, words, label):
-        return tag("button", words, type="button", data_act=act, aria_label=label)
-
-    find = tag("input", type="search", class_="search", placeholder="place or segment", aria_label="search")
-    return tag("div", button("in", "+", "zoom in"), button("out", "−", "zoom out"), button("all", "all", "show all"),
-               button("left", "←", "to the left"), button("right", "→", "to the right"),
-               find if has_search else "",
-               tag("output", class_="keys"), class_="controls")
+def controls():
+    buttons = (("in", "+", "zoom in"), ("out", "−", "zoom out"), ("all", "all", "show all"),
+               ("left", "←", "to the left"), ("right", "→", "to the right"))
+    return tag("div", *[tag("button", words, type="button", data_act=act, aria_label=label)
+                        for act, words, label in buttons], class_="controls")
 
 
 def lane(title, program, run, has_segments=True):
     """One timeline; the script fills the drawing, and the line that tells of the stretch that is shown."""
-    more = ", comma and dot go from segment to segment" if has_segments else ""
+    more = ", n goes along the critical path" if has_segments else ""
     drawing = tag("div", class_="lanes", tabindex="0", role="application", data_program=program, data_run=run,
                   aria_label="Timeline; arrow keys move, plus and minus zoom" + more)
-    return tag("figure", tag("figcaption", title), controls(has_segments), drawing,
+    return tag("figure", tag("figcaption", title), controls(), drawing,
                tag("p", class_="note stretch", role="status"), class_="timeline")
 
 
 def colour_legend(view, has_segments=True):
     shown = [place for place in view.task_places if place.cost]
-    items = []
-    for place in shown[:COLOURS - 1]:
-        items.append(tag("span", tag("i", class_="key square c%d" % view.colour_of(place)), place.name))
-    if len(shown) >= COLOURS:
-        items.append(tag("span", tag("i", class_="key square c%d" % (COLOURS - 1)), "all others"))
-    if not has_segments:
-        return tag("p", *items, class_="legend given")
-    items.append(tag("span", tag("i", class_="key strip"), "below a segment: on the critical path"))
-    items.append(tag("span", tag("i", class_="key merged"),
-                     "segments thinner than a pixel: as high as the share of its time that the thread is busy"))
-    return tag("p", *items, class_="legend given")
+    items = [("c%d" % view.colour_of(place), place.name) for place in shown[:COLOURS - 1]]
+    items += [("c%d" % (COLOURS - 1), "all others")] * (len(shown) >= COLOURS)
+    items += [("strip", "below a segment: on the critical path"), ("merged", THIN)] * has_segments
+    return tag("p", *[tag("span", tag("i", class_="key " + class_), words) for class_, words in items],
+               class_="legend given")
 
 
 def lanes_of(view, program):
+    """The recorded run, and the greedy schedule folded; that alone where no times are known."""
     if not view.answers.work:
         return [note(tag("span", view.name, class_="given"), ": no segment takes time.")]
     greedy = lane(greedy_title(view), program, "greedy")
     if not view.run:
         return [greedy, colour_legend(view)]
-    return [lane(recorded_title(view), program, "recorded"), until_the_end(view), colour_legend(view),
-            details("The greedy schedule of the text on as many threads", greedy, class_="greedy")]
+    return [lane(recorded_title(view), program, "recorded"), colour_legend(view),
+            details(AS_MANY, greedy, class_="greedy")]
 
 
-IN_BINS = "Each bin of time is as high as the share of it that its thread was in code, and has the colour of the " \
-    "tasks that it was in most."
-
-
-def long_title(view, run):
-    if run == "recorded":
-        return join([tag("b", "The run as it was"), " ", badge(MEASURED)])
-    threads = tag("span", "%d threads" % view.answers.threads, class_="given")
-    return join([tag("b", "The greedy schedule"), ", ", threads, " ", badge(PROVED)])
-
-
-def long_part(view, program, name, title):
+def lanes_in_bins(view, program):
     """Of a text with too many segments for a bar each; nothing where no run is known."""
-    lanes = [lane(long_title(view, run), program, run, has_segments=False) for run in view.levels]
-    if not lanes:
-        return ""
-    others = [details("The greedy schedule of the text on as many threads", made, class_="greedy")
-              for made in lanes[1:]]
-    return section(name, title, lanes[0], *others, colour_legend(view, has_segments=False), note(IN_BINS),
-                   tag("div", class_="tip", role="status", aria_live="polite"))
-
-
-TIMED = "Each bar stands where the recorder's clock saw it. A gap is a thread that waited, slept, or was in the " \
-    "runtime."
-UNTIMED = "There are no recorded times of its segments%s. So there is only the greedy schedule to show."
-AFTER_THE_LAST = " of it after the last segment, while the threads came to the region's end."
+    kinds = {"recorded": MEASURED, "greedy": PROVED}
+    lanes = [lane(join([tag("b", NAMES[run]), " ", badge(kinds[run])]), program, run, has_segments=False)
+             for run in view.levels]
+    others = [details(AS_MANY, made, class_="greedy") for made in lanes[1:]]
+    return [*lanes[:1], *others, colour_legend(view, has_segments=False), note(IN_BINS)] if lanes else []
 
 
 def how_to_read(view):
     why = ": " + view.without_account if view.without_account else ""
     words = TIMED if view.run else tag("span", UNTIMED % why, class_="given")
-    keys = join([join([tag("kbd", key), " ", what]) for key, what in KEYS], ", ")
+    keys = join([join([tag("kbd", name), " ", what]) for name, what in KEYS], ", ")
     return details("How to read it", note(words), note(HANDS), note("Keys, once a timeline has the focus: ", keys, "."))
 
 
-def timeline_part(view, program, name, title):
-    """`program` is the number of the program on the page."""
+def timeline_part(view, number, views):
+    """`number` is that of the program on the page."""
+    name = "timeline-other" if number else "timeline"
+    words = "Timeline of " + view.name if len(views) > 1 else "Timeline of the run"
     if view.is_long:
-        return long_part(view, program, name, title)
-    pieces = [*lanes_of(view, program), tag("div", class_="tip", role="status", aria_live="polite"),
-              how_to_read(view), tag("noscript", note("The timelines are drawn by the page's script."))]
-    return section(name, title, *pieces)
+        made = lanes_in_bins(view, number)
+        return section(name, words, *made) if made else ""
+    return section(name, words, *lanes_of(view, number), how_to_read(view),
+                   tag("noscript", note("The timelines are drawn by the page's script.")))

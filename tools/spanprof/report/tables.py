@@ -1,5 +1,5 @@
 """Tables of the page. A column of numbers can be sorted by its head."""
-from spanprof.report.markup import Markup, breakable, markup, tag
+from spanprof.report.markup import breakable, markup, tag
 
 
 def cell(name, piece, is_number, **attributes):
@@ -18,14 +18,13 @@ def table(heads, rows, numeric=(), is_sortable=False, class_=None):
     return tag("div", tag("table", top, tag("tbody", *lines), class_=words), class_="wide")
 
 
-def place_cell(name, lines=(), colour=None):
-    """A place with the lines of its source, or other words on it, and the colour that stands for it in timelines."""
-    key = tag("i", class_="key square c%d" % colour) if colour is not None else Markup("")
-    place = tag("span", breakable(name), class_="place")
-    return tag("span", key, place, *[line if isinstance(line, Markup) else tag("code", line) for line in lines],
+def place_cell(name, line="", colour=None):
+    """A place with its line of the source, and the colour that stands for it in timelines."""
+    key = tag("i", class_="key c%d" % colour) if colour is not None else ""
+    return tag("span", key, tag("span", breakable(name), class_="place"), tag("code", line) if line else "",
                class_="where")
 
 
-def bar(percent, class_=""):
-    """A thin bar beside a share."""
-    return tag("span", tag("i", style="width:%.1f%%" % min(percent, 100)), class_=("bar " + class_).strip())
+def bar(percent):
+    """A thin bar below a share."""
+    return tag("span", tag("i", style="width:%.1f%%" % min(percent, 100)), class_="bar")

@@ -28,9 +28,9 @@ def run_data(starts, threads, count):
 
 def recorded_data(run):
     """In nanoseconds: `per` of them are one unit of the costs."""
-    data = run_data(map(run.nanoseconds, run.starts), run.workers, run.count)
-    lengths = [run.nanoseconds(end) - run.nanoseconds(start) for start, end in zip(run.starts, run.ends)]
-    return dict(data, lengths=packed(lengths), per=run.unit)
+    starts, ends = ([round(time * run.unit) for time in times] for times in (run.starts, run.ends))
+    lengths = [end - start for start, end in zip(starts, ends)]
+    return dict(run_data(starts, run.workers, run.count), lengths=packed(lengths), per=run.unit)
 
 
 def runs_data(view):

@@ -1,10 +1,9 @@
-"""The runs in Chrome's trace format, for ui.perfetto.dev: threads, flows for what waits, a counter of ready tasks.
+"""The runs in Chrome's trace format, for ui.perfetto.dev: threads, flows for what waits.
 
 Times of a trace are microseconds. Where the text names a unit they are true; else a cost of 1 shows as 1 microsecond.
 """
 import json
-from dataclasses import dataclass
-from typing import Sequence
+from typing import NamedTuple, Sequence
 
 from spanprof.report.graph import kind_of
 from spanprof.report.timeline_data import or_none
@@ -12,8 +11,7 @@ from spanprof.report.timeline_data import or_none
 FLOWS_OF_A_RUN = 10 ** 7    # numbers of flows are of one run each
 
 
-@dataclass
-class Run:
+class Run(NamedTuple):
     """One run as a process of the trace."""
     process: int
     title: str
@@ -27,12 +25,9 @@ class Run:
 
 
 def runs_of(view):
-    answers, run, out = view.answers, view.run, []
-    if run:
-        out.append(Run(1, "the run as it was", run.starts, run.ends, run.workers, run.count))
-    made = answers.greedy
-    out.append(Run(2, "the greedy schedule", made.starts, made.ends, or_none(made.threads), answers.threads))
-    return out
+    made, run = view.answers.greedy, view.run
+    own = [Run(1, "the run as it was", run.starts, run.ends, run.workers, run.count)] if run else []
+    return own + [Run(2, "the greedy schedule", made.starts, made.ends, or_none(made.threads), view.answers.threads)]
 
 
 def names(run):
@@ -72,31 +67,11 @@ def flows(view, run, scale):
                 yield from flow(view, run, scale, p, s, number)
 
 
-def ready_counts(view, run):
-    """Moments and how many segments are ready then and have not begun."""
-    changes = {}
-    for s, before in enumerate(view.answers.predecessors):
-        if run.shows(s):
-            ready = min(run.starts[s], max((run.ends[p] for p in before), default=0))
-            changes[ready] = changes.get(ready, 0) + 1
-            changes[run.starts[s]] = changes.get(run.starts[s], 0) - 1
-    count = 0
-    for moment in sorted(changes):
-        if changes[moment]:
-            count += changes[moment]
-            yield moment, count
-
-
-def counters(view, run, scale):
-    for moment, count in [(0, 0), *ready_counts(view, run)]:
-        yield {"name": "ready", "ph": "C", "ts": moment * scale, "pid": run.process, "args": {"segments": count}}
-
-
 def trace_text(view):
     head, events = view.answers.head, []
     scale = (head.nanoseconds or 1000) / 1000
     for run in runs_of(view):
-        for part in (names(run), bars(view, run, scale), flows(view, run, scale), counters(view, run, scale)):
+        for part in (names(run), bars(view, run, scale), flows(view, run, scale)):
             events += part
     return json.dumps({"traceEvents": events, "displayTimeUnit": "ns",
                        "metadata": {"program": view.name, "costs": head.unit_of_costs, "remarks": head.remarks}}) + "\n"

@@ -1,20 +1,17 @@
-"""The true speedup of the program: its unrecorded runs on several numbers of threads, beside the text's curve."""
+"""The true speedup of the program: its unrecorded runs on several numbers of threads, next to the text's curve."""
 import json
 import os
-from dataclasses import dataclass
-from typing import List
+from typing import List, NamedTuple
 
 from spanprof.predict.scaled import SCALE
 from spanprof.recording import folder_of
 from spanprof.report.markup import join, tag
 
 SAID = "true speedup against one thread: median of measured, unrecorded runs of the whole program, least and greatest"
-SOURCES = ("threads", "speedup", "speedup-from", "speedup-to")
 NAMES = ("threads", "speedup", "speedup from", "speedup to")
 
 
-@dataclass
-class Point:
+class Point(NamedTuple):
     """A median, and where the runs on so many threads lie."""
     threads: int
     speed_up: float
@@ -22,28 +19,15 @@ class Point:
     greatest: float
 
 
-def scale_beside(answers):
-    """What `spanprof-record --scale` wrote in the recording; None where the file is not of it."""
+def true_times_beside(answers) -> List[Point]:
+    """What `spanprof-record --scale` wrote in the recording; nothing where the file is not of it."""
     folder = folder_of(answers.path)
     try:
-        with open(os.path.join(folder, SCALE), encoding="utf-8") as file:
-            told = json.load(file) if folder else None
-    except (OSError, ValueError):
-        return None
-    return told if isinstance(told, dict) and told.get("date") == answers.head.date else None
-
-
-def number(value):
-    if isinstance(value, bool) or not isinstance(value, (int, float)) or not 0 < value < 1e9:
-        raise TypeError("no number")
-    return value
-
-
-def points_in(told) -> List[Point]:
-    """None where it has another form."""
-    try:
-        return [Point(*(number(row[name]) for name in NAMES)) for row in told["threads"]] if told else []
-    except (KeyError, TypeError):
+        with open(os.path.join(folder or "", SCALE), encoding="utf-8") as file:
+            told = json.load(file)
+        is_of_it = folder and told["date"] == answers.head.date
+        return [Point(*(row[name] + 0 for name in NAMES)) for row in told["threads"]] if is_of_it else []
+    except (OSError, ValueError, KeyError, TypeError):
         return []
 
 
@@ -56,8 +40,8 @@ def mark(axes, view, point, colour):
     """A square at the median, on a line from the slowest to the fastest run."""
     x, y = axes.x(point.threads), axes.y(point.speed_up)
     low, high = axes.y(point.least), axes.y(point.greatest)
-    words = "%d threads: %.2f (%.2f to %.2f), %s" % (point.threads, point.speed_up, point.least, point.greatest, SAID)
-    sources = ["scale %d %s" % (point.threads, name) for name in SOURCES]
+    words = "%d threads: %.2f (%.2f to %.2f), %s" % (*point, SAID)
+    sources = ["scale %d %s" % (point.threads, name.replace(" ", "-")) for name in NAMES]
     return tag("g", view.figures.told("title", words, sources),
                tag("path", d="M%g %gV%gM%g %gh8M%g %gh8" % (x, low, high, x - 4, low, x - 4, high)),
                tag("rect", x=x - 4, y=y - 4, width=8, height=8), class_="true " + colour)

@@ -65,6 +65,3 @@ class Units:
                 break
         digits = 0 if scale == 1 else digits_of(value / scale, way)
         return Shown("%s %s" % (grouped(rounded(value / scale, digits, way), digits), name), scale)
-
-    def words(self, value):
-        return self.shown(value).words

@@ -2,34 +2,35 @@
 import os
 from array import array
 from functools import cached_property
-from typing import NamedTuple
+from typing import List, NamedTuple
 
 from spanprof.account import account_beside, times_name
 from spanprof.answers import Answers
 from spanprof.diagnosis.tell import diagnosis_of
 from spanprof.recording import folder_of, open_recording
-from spanprof.regions import place_name, program_of
 from spanprof.report.colours import BARS
 from spanprof.report.figures import DECLARED, MEASURED, RECORDED, Figures
-from spanprof.report.level_runs import levels_in, levels_of_greedy
-from spanprof.report.markup import tag
+from spanprof.report.levels import levels_in, levels_of_greedy
 from spanprof.report.places import places, task_places
-from spanprof.report.predicted import of_changes, predicted
-from spanprof.report.recorded_run import run_of_rows
-from spanprof.report.tried import tried
-from spanprof.report.true_times import points_in, scale_beside
+from spanprof.report.true_times import true_times_beside
 from spanprof.report.units import Units
 from spanprof.source import Sources
-from spanprof.source_lines import stretches
-from spanprof.text import BEGINNING
+from spanprof.source_lines import OF_A_STATEMENT, line_of, stretches
 
 COLOURS = len(BARS)
 
 
-class Reached(NamedTuple):
-    """How fast the recorded run was, by the clock."""
-    threads: int
-    speed_up: float
+class RecordedRun(NamedTuple):
+    """The run as it was. Times are in the unit of the text, which is so many nanoseconds."""
+    starts: List[float]
+    ends: List[float]
+    workers: List[int]
+    unit: int = 1
+    count: int = 1      # of workers; some of them may have run nothing
+
+    @property
+    def end(self):
+        return max(self.ends, default=0)
 
 
 class View:
@@ -46,7 +47,9 @@ class View:
         self.task_places = task_places(self.answers)
         self.run = None
         if not self.is_long and self.account and self.account.rows:
-            self.run = run_of_rows(self.account, self.answers.head.nanoseconds)
+            rows, unit = self.account.rows, self.answers.head.nanoseconds
+            self.run = RecordedRun([row.begin / unit for row in rows], [row.end / unit for row in rows],
+                                   [row.thread for row in rows], unit, self.account.threads)
 
     @property
     def is_long(self):
@@ -74,25 +77,14 @@ class View:
         """The number of a colour: one for each of the first places of tasks, and one for all others."""
         return min(task_place.number, COLOURS - 1)
 
-    @cached_property
-    def program(self):
-        """The whole program of which the text is a part; None without a table of its regions."""
-        return program_of(self.answers.path)
-
-    @cached_property
-    def scale(self):
-        """What was measured on several numbers of threads with this recording; else None."""
-        return scale_beside(self.answers)
+    def colour_at(self, place):
+        """That of the tasks of which the segments at a place are."""
+        return min(self.task_place_of[self.answers.code.task[place.segments[0]]], COLOURS - 1)
 
     @cached_property
     def true_times(self):
-        """The points of the true speedup."""
-        return points_in(self.scale)
-
-    @cached_property
-    def reached(self):
-        work, head = self.answers.work, self.answers.head
-        return Reached(head.threads, work / head.elapsed) if head.elapsed and head.threads else None
+        """The points of the true speedup, where it was measured with this recording."""
+        return true_times_beside(self.answers)
 
     @cached_property
     def levels(self):
@@ -109,27 +101,9 @@ class View:
         return levels_in(times, self)
 
     @cached_property
-    def tried(self):
-        """Single changes of the text; None where it is not of a kind that is tried."""
-        self.answers.tell("single changes of %s" % self.name)
-        return tried(self.answers)
-
-    @cached_property
-    def predicted(self):
-        found = predicted(self.answers)
-        if found.found:
-            threads = ",".join(str(one.threads) for one, _ in found.found)
-            self.answers.noted("spanprof-predict %s --threads %s" % (self.name, threads))
-        return found
-
-    @cached_property
-    def predicted_changes(self):
-        """By their requests; nothing where no time of the text itself is predicted."""
-        return of_changes(self.answers, self.tried) if self.predicted.found and self.tried else {}
-
-    @cached_property
     def diagnosis(self):
         """Of a recorded run on several threads; None where there is none, as of a text without times."""
+        self.answers.tell("changes of %s" % self.name)
         return diagnosis_of(self.answers, self.sources.folders)
 
     @cached_property
@@ -147,22 +121,12 @@ class View:
         """Of each place, by its name, the lines that its segments run, where its name tells one."""
         return stretches(self.answers, self.places, self.sources)
 
-    def snippet(self, place):
-        """Lines of the source: of a task its directive and statement, else where the code begins."""
-        if place == BEGINNING and self.answers.head.whole:
-            return [self.before_regions]
-        stretch = self.stretches.get(place)
-        if not stretch or not place.startswith("after ") or place.endswith(":%d" % stretch.first):
-            return self.sources.snippet(place)
-        lines = self.sources.lines_of(stretch.file)
-        return [lines[stretch.first - 1].strip()] if 0 < stretch.first <= len(lines) else []
-
-    @cached_property
-    def before_regions(self):
-        """What the beginning of a whole program is, in words."""
-        regions = self.program.regions if self.program else ()
-        until = "the " + place_name(regions[0].place) if regions else "the first region"
-        return tag("span", "serial code, up to " + until, class_="given below")
+    def line_at(self, place):
+        """The line of the source at which a place's segments begin, of a task its directive; empty without a file."""
+        stretch, named = self.stretches.get(place), line_of(place)
+        number = named.number if named and place.startswith(OF_A_STATEMENT) else stretch.first if stretch else 0
+        lines = self.sources.lines_of(stretch.file) if stretch else []
+        return lines[number - 1].strip() if 0 < number <= len(lines) else ""
 
     @cached_property
     def place_of(self):

@@ -84,11 +84,6 @@ def seconds_for(head):
     return max(LEAST_SECONDS, (head.elapsed or 0) * (head.nanoseconds or 0) / 1e9)
 
 
-def has_time_for(answers):
-    """Whether a text that took so long to read can be surveyed, and one change of it be tried, in the time there is."""
-    return not answers.is_long or 3 * answers.seconds_to_read < seconds_for(answers.head)
-
-
 def best_first(requests, kind_of=attrgetter("option")):
     """Of each kind the first, which is the one with the most cost, then of each the second, and so on."""
     seen = Counter()

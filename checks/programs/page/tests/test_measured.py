@@ -8,7 +8,7 @@ from measured import what_was_measured_is_told
 
 class Pages(unittest.TestCase):
     def faults(self, told, *answers):
-        with tempfile.TemporaryDirectory() as folder, mock.patch.dict(os.environ, SPANPROF_MACHINE=folder):
+        with tempfile.TemporaryDirectory() as folder:
             if told:
                 with open(os.path.join(folder, "scale.json"), "w", encoding="utf-8") as file:
                     file.write(told)
@@ -16,9 +16,8 @@ class Pages(unittest.TestCase):
 
     def test_what_has_to_be_there(self):
         self.assertEqual(self.faults(""), [])
-        self.assertEqual(self.faults('{"threads": [{}, {}]}', 2, 6), [])
-        self.assertEqual(self.faults('{"threads": [{}, {}]}', 1, 0), ["1 true times are drawn, and not 2",
-                                                                      "no time is predicted"])
+        self.assertEqual(self.faults('{"threads": [{}, {}]}', 2), [])
+        self.assertEqual(self.faults('{"threads": [{}, {}]}', 1), ["1 true times are drawn, and not 2"])
 
 
 if __name__ == "__main__":

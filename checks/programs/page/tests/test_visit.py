@@ -37,8 +37,8 @@ class Trials(unittest.TestCase):
         self.assertEqual(list(keys_zoom_and_move(page)), [])
 
     def test_a_control_that_tab_does_not_reach(self):
-        page = FakePage(None, 2, "skip", "A", "lanes")
-        self.assertEqual(list(focus_goes_through(page)), ["Tab comes to ['A', 'lanes', 'skip'] alone"])
+        page = FakePage(None, 2, "BUTTON", "A", "lanes")
+        self.assertEqual(list(focus_goes_through(page)), ["Tab comes to ['A', 'BUTTON', 'lanes'] alone"])
 
 
 class Faults(unittest.TestCase):

@@ -14,7 +14,7 @@ class Words(unittest.TestCase):
     def test_what_is_missing_and_what_is_wrong(self):
         faults = list(faults_of("callers", "<p>It ends the region's own code.</p>"))
         self.assertIn("has: It ends the region's own code.", faults)
-        self.assertTrue(any(fault.startswith("lacks: ") and "as one text" in fault for fault in faults))
+        self.assertTrue(any(fault.startswith("lacks: ") and "the whole program" in fault for fault in faults))
 
     def test_lines_of_boxes(self):
         found = [fault for fault in faults_of("callers", BOX % "main" + BOX % ("f" * LONGEST)) if "too long" in fault]

@@ -141,7 +141,7 @@ class Starting(unittest.TestCase):
     def test_a_region_of_one_thread_is_alone_without_those_inside_it(self):
         outer, inner, alone = (Region(i, 0, *times, 0, 0, 0, i > 1, "a.c:%d" % i) for i, times in
                                ((1, (0, 100, 1)), (2, (20, 70, 4)), (3, (80, 90, 1))))
-        run = Program(100, 0, [outer, inner, alone])
+        run = Program(100, [outer, inner, alone])
         self.assertEqual(elapsed_in(run.places[0], run), 50)
 
 

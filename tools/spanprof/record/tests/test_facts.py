@@ -10,9 +10,9 @@ from spanprof.regions import Program, Region
 
 USED = resource.struct_rusage((1.5, 0.25, 0, 0, 0, 0, 410, 3, 0, 0, 0, 0, 0, 0, 12, 7))
 ENDED = Ended(0, 5000, USED)
-PROGRAM = Program(5000, 100, [Region(1, 1, 0, 100, 4, 8, 0, 90, 0, "a.c:3"), Region(2, 0, 200, 900, 2, 0, 1, 90, 0,
-                                                                                    "a.c:9"),
-                              Region(3, 2, 1000, 1300, 4, 8, 0, 90, 0, "a.c:3")])
+PROGRAM = Program(5000, [Region(1, 1, 0, 100, 4, 8, 0, 90, 0, "a.c:3"),
+                         Region(2, 0, 200, 900, 2, 0, 1, 90, 0, "a.c:9"),
+                         Region(3, 2, 1000, 1300, 4, 8, 0, 90, 0, "a.c:3")])
 
 
 class Usage(unittest.TestCase):

@@ -1,4 +1,4 @@
-// A chosen segment: arrows of what it waited for and of what waited for it; keys and search go from one to another.
+// A chosen segment: arrows of what it waited for and of what waited for it; a key goes along the critical path.
 
 const MOST_ARROWS = 40;     // in each direction
 
@@ -21,63 +21,28 @@ function arrowsOf(lanes) {
     ...after.slice(0, MOST_ARROWS).map((s) => arrow(lanes, "waits", chosen, s))].join("");
 }
 
-function choose(lanes, segment, isTold = true) {
+function choose(lanes, segment) {
   const bar = lanes.barOf(segment);
   if (!bar) return;
   lanes.chosen = segment;
   lanes.stretch.reveal(bar.start, bar.end);
   lanes.draw();
-  if (!isTold) return;
   const box = lanes.element.getBoundingClientRect(), { row } = lanes.run.where.get(segment);
-  lanes.tell(lanes.words([bar]), box.left + Math.max(lanes.x(bar.start), LEFT), box.top + lanes.top(row + 1));
+  showTip(lanes.words([bar]), box.left + Math.max(lanes.x(bar.start), LEFT), box.top + lanes.top(row + 1));
 }
 
 function leave(lanes) {
-  Object.assign(lanes, { chosen: null, mark: null });
-  lanes.hush();
+  lanes.chosen = null;
+  showTip("");
   lanes.draw();
 }
 
-// The first row with bars from one on, upwards or downwards; itself where there is none.
-function firstRow(lanes, from, by) {
-  let row = from;
-  while (row >= 0 && row < lanes.rows.length && !lanes.rows[row].length) row += by;
-  return row >= 0 && row < lanes.rows.length ? row : from;
-}
-
-function step(lanes, by) {
-  const { row, index } = lanes.run.where.get(lanes.chosen) || { row: firstRow(lanes, 0, 1), index: -1 };
-  const bar = lanes.rows[row][Math.max(0, Math.min(index + by, lanes.rows[row].length - 1))];
-  if (bar) choose(lanes, bar.segment);
-}
-
-function changeRow(lanes, by) {
-  const place = lanes.run.where.get(lanes.chosen);
-  if (!place) return step(lanes, 1);
-  const bars = lanes.rows[firstRow(lanes, place.row + by, by)];
-  if (!bars || !bars.length) return;
-  const index = firstToEndAfter(bars, lanes.barOf(lanes.chosen).start);
-  choose(lanes, bars[Math.min(index, bars.length - 1)].segment);
-}
-
-// The next in time after the chosen one of those for which it holds; after the last of all the first.
-function nextWhere(lanes, holds) {
+// The next in time after the chosen one on the critical path; after the last of all the first.
+function nextCritical(lanes) {
   const now = lanes.barOf(lanes.chosen), after = now ? [now.start, lanes.chosen] : [-1, -1];
   const isAfter = (bar) => bar.start > after[0] || bar.start === after[0] && bar.segment > after[1];
-  const order = (a, b) => a.start - b.start || a.segment - b.segment;
-  const found = lanes.rows.flatMap((row) => row.filter((bar) => holds(bar.segment))).sort(order);
+  const found = lanes.rows.flatMap((row) => row.filter((bar) => lanes.program.critical.has(bar.segment)))
+    .sort((a, b) => a.start - b.start || a.segment - b.segment);
   const next = found.find(isAfter) || found[0];
   if (next) choose(lanes, next.segment);
-}
-
-const nextCritical = (lanes) => nextWhere(lanes, (segment) => lanes.program.critical.has(segment));
-
-// A number is a segment's; other words are a part of a place's name.
-function search(lanes, words) {
-  const { places, place } = lanes.program, part = words.trim().toLowerCase();
-  const isNumber = /^\d+$/.test(part), fits = places.map((name) => name.toLowerCase().includes(part));
-  lanes.finds = !part ? null : isNumber ? (segment) => segment === Number(part) : (segment) => fits[place[segment]];
-  lanes.draw();
-  const count = lanes.finds ? [...lanes.run.where.keys()].filter(lanes.finds).length : 0;
-  lanes.figure.querySelector("output").textContent = lanes.finds ? `${grouped(count)} found` : "";
 }

@@ -20,12 +20,7 @@ const ACTS = {
 };
 const KEYS = { "+": "in", "=": "in", w: "in", "-": "out", s: "out", "0": "all", a: "left", ArrowLeft: "left",
   d: "right", ArrowRight: "right" };
-const STEPS_OF_KEYS = {
-  ".": (lanes) => step(lanes, 1), ",": (lanes) => step(lanes, -1), n: nextCritical,
-  ArrowUp: (lanes) => changeRow(lanes, -1), ArrowDown: (lanes) => changeRow(lanes, 1), Escape: leave,
-  Enter: (lanes) => { if (lanes.mark) lanes.stretch.show(lanes.mark.from, lanes.mark.to - lanes.mark.from);
-    lanes.mark = null; drawSoon(lanes); },
-};
+const STEPS_OF_KEYS = { n: nextCritical, Escape: leave };
 
 const at = (lanes, event) => {
   const box = lanes.element.getBoundingClientRect();
@@ -43,7 +38,7 @@ function listenToKeys(lanes) {
     act(lanes.stretch);
     drawSoon(lanes);
   });
-  lanes.element.addEventListener("blur", () => lanes.hush());
+  lanes.element.addEventListener("blur", (event) => { if (event.relatedTarget) showTip(""); });
 }
 
 function listenToZoom(lanes) {
@@ -56,22 +51,16 @@ function listenToZoom(lanes) {
     event.preventDefault();
     zoom(event.deltaY > 0 ? 1.25 : 0.8, event);
   }, { passive: false });
-  element.addEventListener("dblclick", (event) => zoom(0.4, event));
 }
 
-// What fingers or the mouse do with a timeline: a drag moves it or marks a stretch, two fingers zoom, a tap chooses.
+// What fingers or the mouse do with a timeline: a drag moves it, two fingers zoom, a tap chooses.
 class Hold {
-  constructor(lanes) { Object.assign(this, { lanes, pointers: new Map(), from: 0, moved: false, marks: false }); }
+  constructor(lanes) { Object.assign(this, { lanes, pointers: new Map(), from: 0, moved: false }); }
   down(event) {
     this.pointers.set(event.pointerId, event.clientX);
     this.moved = this.pointers.size > 1;
-    this.marks = event.shiftKey;
-    this.begin(event);
-  }
-  begin(event) {
     this.x = event.clientX;
     this.from = this.lanes.stretch.from;
-    this.time = this.lanes.time(at(this.lanes, event)[0]);
   }
   move(event) {
     const before = [...this.pointers.values()];
@@ -79,20 +68,14 @@ class Hold {
     this.moved = this.moved || Math.abs(event.clientX - this.x) > 4;
     if (!this.moved) return;
     if (this.pointers.size > 1) this.pinch(before, [...this.pointers.values()]);
-    else if (this.marks) this.markTo(event);
     else this.lanes.stretch.show(this.from - (event.clientX - this.x) / this.lanes.scale, this.lanes.stretch.length);
-    this.lanes.hush();
+    showTip("");
     drawSoon(this.lanes);
   }
   pinch(before, now) {
     const apart = ([a, b]) => Math.max(Math.abs(a - b), 10), middle = (now[0] + now[1]) / 2;
     const box = this.lanes.element.getBoundingClientRect();
     this.lanes.stretch.zoom(apart(before) / apart(now), this.lanes.time(middle - box.left));
-  }
-  markTo(event) {
-    const { stretch } = this.lanes, here = this.lanes.time(at(this.lanes, event)[0]);
-    const [from, to] = [this.time, here].map((time) => Math.max(stretch.from, Math.min(time, stretch.to)));
-    this.lanes.mark = from === to ? null : { from: Math.min(from, to), to: Math.max(from, to) };
   }
   up(event) {
     if (!this.pointers.delete(event.pointerId)) return;
@@ -119,7 +102,7 @@ function listenToPointer(lanes) {
     if (hold.pointers.size) hold.move(event);
     else lanes.tellAt(...at(lanes, event), event);
   });
-  element.addEventListener("pointerleave", (event) => { if (event.pointerType === "mouse") lanes.hush(); });
+  element.addEventListener("pointerleave", (event) => { if (event.pointerType === "mouse") showTip(""); });
 }
 
 function listenToControls(lanes) {
@@ -127,12 +110,6 @@ function listenToControls(lanes) {
     ACTS[button.dataset.act](lanes.stretch);
     drawSoon(lanes);
   }));
-  const box = lanes.figure.querySelector("input.search");
-  if (!box) return;
-  box.addEventListener("input", () => search(lanes, box.value));
-  box.addEventListener("keydown", (event) => {
-    if (event.key === "Enter" && lanes.finds) nextWhere(lanes, lanes.finds);
-  });
 }
 
 for (const listen of [listenToKeys, listenToZoom, listenToPointer, listenToControls]) allLanes.forEach(listen);

@@ -57,14 +57,13 @@ class Bars {
 
 const escaped = (words) => words.replace(/[&<>"]/g, (sign) => `&#${sign.charCodeAt(0)};`);
 
-// As much of a place's name as there is room for: `task at sort.c:33`, `sort.c:33`, `:33`. Of a task to which several
-// calls led the function of the nearest one counts for more than the file: `:33 from solve`.
+// As much of a place's name as there is room for: `task at sort.c:33`, `sort.c:33`, `:33`; of a task to which several
+// calls led also the function that called it.
 function nameFor(name, width) {
-  const at = name.indexOf(" at "), where = at < 0 ? name : name.slice(at + 4);
+  const where = name.slice(name.indexOf(" at ") < 0 ? 0 : name.indexOf(" at ") + 4);
   const [creation, caller] = where.split(" called from "), line = (/:\d+$/.exec(creation) || [""])[0];
-  const from = caller ? ` from ${caller.split(" at ")[0]}` : "", room = Math.floor((width - 6) / LETTER);
-  const called = caller && line ? [creation + from, line + from, line + from.replace(/\(.*/, "")] : [];
-  return [name, where, ...called, creation, line].find((words) => words && words.length <= room) || "";
+  const called = caller ? `${line} from ${caller.split(" at ")[0]}` : "", room = Math.floor((width - 6) / LETTER);
+  return [name, where, called, creation, line].find((words) => words && words.length <= room) || "";
 }
 
 function nameIn(bar, words, colour) {

@@ -1,4 +1,4 @@
-// What a timeline tells of segments, of a moment, and of a stretch of time.
+// What a timeline tells of segments and of a stretch of time.
 
 const MOST_TOLD = 3;    // places of a stretch
 
@@ -24,11 +24,10 @@ function between(program, start, end) {
 }
 
 function wordsOfWaits(lanes, { segment, start }) {
-  const { waits } = lanes.program;
-  if (!waits) return "";
-  const before = neighbours(lanes, waits.before, segment), after = neighbours(lanes, waits.after, segment);
-  const ready = lanes.ready.moment(lanes.program, lanes.run, segment), late = start - ready;
-  return `\nwaited for ${before.length}, and ${after.length} for it` +
+  const { before, after } = lanes.program.waits, { ends } = lanes.run;
+  const late = start - before[segment].reduce((latest, p) => Math.max(latest, ends[p]), 0);
+  return `\nwaited for ${neighbours(lanes, before, segment).length}, and ` +
+    `${neighbours(lanes, after, segment).length} for it` +
     (late > 0 ? `; ready ${human(lanes.program, late)} before it began` : "");
 }
 
@@ -57,18 +56,6 @@ function wordsOfMany(lanes, bars) {
     `\nmost of it: ${places[most]}` + (path ? `\n${path} on the critical path` : "");
 }
 
-function runningAt(lanes, time) {
-  return lanes.rows.filter((row) => {
-    const bar = row[firstToEndAfter(row, time)];
-    return bar && bar.start <= time;
-  }).length;
-}
-
-function wordsOfReady(lanes, time) {
-  return `${human(lanes.program, time)}: ${lanes.ready.at(time)} segments are ready and wait, ` +
-    `${runningAt(lanes, time)} run`;
-}
-
 // The bars of a stretch, each with how much of it lies there.
 function inside(lanes, from, to) {
   return lanes.rows.flatMap((row) => {
@@ -87,11 +74,5 @@ function wordsOfStretch(lanes, from, to) {
   const places = most.map(([place, sum]) => `${program.places[place]} ${percent(sum, busy)}`);
   return `${between(program, from, to)} (${human(program, to - from)}): threads busy ` +
     `${percent(busy, (to - from) * lanes.rows.length)}, ${grouped(bars.length)} segments` +
-    (lanes.ready ? `, ${grouped(lanes.ready.mean(from, to), 1)} ready on average` : "") +
     (places.length ? `; most of the time: ${places.join(", ")}` : "");
-}
-
-function tellStretch(lanes) {
-  const line = lanes.figure.querySelector(".stretch"), stretch = lanes.mark || lanes.stretch;
-  line.textContent = `${lanes.mark ? "Chosen stretch" : "Shown"}: ${lanes.tellStretch(stretch)}.`;
 }

@@ -6,12 +6,9 @@ Without texts they are those of the page's own names, beside it.
 import json
 import math
 import os
-import re
 import sys
-from itertools import zip_longest
 
-from spanprof.recording import REGIONS
-from spanprof.report.tests.expected import Program, WholeProgram, table, unpacked
+from spanprof.report.tests.expected import Program, table, unpacked
 from spanprof.report.tests.page_reader import read_page
 
 
@@ -19,12 +16,9 @@ def expected_value(programs, source):
     if source.startswith("change "):
         before, after = (program.value(source.removeprefix("change ")) for program in programs)
         return 100 * (after - before) / before
-    named = re.match(r"(other|program) (.*)", source)
-    if not named:
-        return programs[0].value(source)
-    if named[1] == "program":
-        return WholeProgram(os.path.join(os.path.dirname(programs[0].file), REGIONS)).value(named[2])
-    return programs[1].value(named[2])
+    if source.startswith("other "):
+        return programs[1].value(source.removeprefix("other "))
+    return programs[0].value(source)
 
 
 def is_same(shown, expected):
@@ -90,9 +84,7 @@ def drawn_differences(program, data):
 
 def programs_of(reader, paths, ask):
     """The programs of a page, with what its script knows of them."""
-    found = json.loads(reader.data)
-    data = [dict(own, tried=tried) for own, tried in zip_longest(found["programs"], found["tried"])]
-    return [Program(path, own, ask) for path, own in zip(paths, data)]
+    return [Program(path, own, ask) for path, own in zip(paths, json.loads(reader.data)["programs"])]
 
 
 def differences(page, paths, ask):

@@ -4,22 +4,12 @@ import re
 from functools import cached_property
 
 from spanprof.account import account_of
-from spanprof.changed_text import with_costs, without_costs
 from spanprof.head import read_head
-from spanprof.predict.machine import machine_file, read_machine
-from spanprof.predict.predictions import by_the_model, of_changed
-from spanprof.predict.recorded import recorded
-from spanprof.predict.scaled import texts, together
 from spanprof.recording import document, open_recording
 from spanprof.segment_table import read_code
-from spanprof.report.predicted import change_of
-from spanprof.text import has_loops, statements, text_lines
-from spanprof.whatif.creating import costs_for
-from spanprof.whatif.requests import Request, applied, changes
-from spanprof.whatif.survey import survey
+from spanprof.text import has_loops
 
 ROWS_OF_A_CURVE = 64
-LEVELS = 12
 
 
 def unpacked(words):
@@ -120,64 +110,21 @@ class Program(Sums):
         needed = 1 + max((int(worker) for _, _, worker in self.bars), default=0)
         return max(self.recorded().get("threads", 1), needed)
 
-    def of_places(self, numbers, what):
-        own, path = self.segments(numbers), self.segments(numbers, True)
-        return {"cost": self.total(own), "segments": len(own), "path": self.total(path), "path-segments": len(path),
-                "count": len(numbers)}[what]
-
     def place(self, number, what):
-        return self.of_places({int(number)}, what)
-
-    def places_from(self, number, what):
-        return self.of_places({n for n in self.place_of if n >= int(number)}, what)
+        own, path = self.segments({int(number)}), self.segments({int(number)}, True)
+        return {"cost": self.total(own), "path": self.total(path),
+                "slack": min(int(self.slack[s]["slack"]) for s in own)}[what]
 
     def task_place(self, number, what):
         members = {task for task, place in enumerate(self.task_place_of) if place == int(number)}
         own = [s for s, task in enumerate(self.task_of) if task in members]
         costs = sorted(self.total(s for s in own if self.task_of[s] == task) for task in members)
         path = [s for s in own if self.slack[s]["chain"] == "1"]
-        firsts = {self.task_of[s]: s for s in reversed(own)}
-        return {"count": len(costs), "least": costs[0], "greatest": costs[-1], "cost": sum(costs),
-                "median": costs[(len(costs) - 1) // 2], "path": self.total(path),
-                "slack": min(int(self.slack[s]["slack"]) for s in own),
-                "critical": len({self.task_of[s] for s in path if self.cost[s]}),
-                "creating": sum(self.cost[s - 1] for s in firsts.values() if s)}[what]
+        return {"count": len(costs), "cost": sum(costs), "median": costs[(len(costs) - 1) // 2],
+                "path": self.total(path)}[what]
 
-    @cached_property
-    def nested_sums(self):
-        """Of each chain of places the costs of its tasks and of all below them, and what of these is on the path."""
-        firsts, paths, out = {}, {}, {}
-        for s, task in enumerate(self.task_of):
-            firsts.setdefault(task, s)
-        for task in sorted(firsts):
-            above = paths[self.task_of[firsts[task] - 1]] if task else ()
-            paths[task] = above + (self.task_place_of[task],) if len(above) < LEVELS else above
-        for s, task in enumerate(self.task_of):
-            for i in range(len(paths[task])):
-                sums = out.setdefault("-".join(map(str, paths[task][:i + 1])), [0, 0])
-                sums[0] += self.cost[s]
-                sums[1] += self.cost[s] * (self.slack[s]["chain"] == "1")
-        return out
-
-    def nested(self, path, what):
-        return self.nested_sums[path][what == "path"]
-
-    def task(self, number, what):
-        own = [s for s, task in enumerate(self.task_of) if task == int(number)]
-        return {"number": int(number), "cost": self.total(own),
-                "slack": min(int(self.slack[s]["slack"]) for s in own)}[what]
-
-    def segment(self, number, _):
-        return int(self.slack[int(number)]["start"])
-
-    def path(self, what, *ends):
-        path = self.segments(on_path=True)
-        if not ends:
-            return {"segments": len(path), "costly": sum(self.cost[s] > 0 for s in path)}[what]
-        first, last = int(ends[0]), int(ends[-1])
-        if what == "end":
-            return int(self.slack[last]["start"]) + self.cost[last]
-        return self.total(s for s in path if first <= s <= last)
+    def path(self, _):
+        return len(self.segments(on_path=True))
 
     @cached_property
     def found(self):
@@ -193,54 +140,6 @@ class Program(Sums):
         name = self.found.places[self.segments({int(number)})[0]]
         return {"delayed-at": self.found.delayed_by, "starved-at": self.found.starved_by}[what][name]
 
-    def changed(self, factors):
-        costs = {s: round(self.cost[s] * factor) for place, factor in factors for s in self.segments({place})
-                 if self.cost[s]}
-        return ["whatif"] + ["%d=%d" % pair for pair in sorted(costs.items())]
-
-    def whatif(self, place, factor, name, threads=None):
-        changes = self.changed([(int(place), float(factor))])
-        return self.line(name, *changes) if threads is None else self.end_with(changes[1:], threads)
-
-    def end_with(self, changes, threads):
-        """The end of the greedy schedule of a text that costs what the changes say, and is else this one."""
-        costs = list(self.cost)
-        for change in changes:
-            s, cost = map(int, change.split("="))
-            costs[s] = cost
-        text = with_costs(self.without_costs, costs)
-        rows = table(self.ask(["slack"], text))
-        assert [(int(row["cost"]), int(row["task"])) for row in rows] == list(zip(costs, self.task_of))
-        assert self.waits() == self.waits_of(text), "what waits for what has changed"
-        return max(int(row["end"]) for row in table(self.ask(["greedy", "--threads", threads], text)))
-
-    @cached_property
-    def without_costs(self):
-        return without_costs(self.answer("show"))
-
-    def trial(self, number, what, threads=None):
-        """Of the text with one change, which is made here again."""
-        if ("trial", number) not in self.kept:
-            self.kept["trial", number] = self.tried(Request(*self.data["tried"]["requests"][int(number)]))
-        span, curve = self.kept["trial", number]
-        return int(re.search(r"(?m)^%s (\d+)$" % what, span)[1]) if threads is None else \
-            int(curve[int(threads) - 1][what])
-
-    def tried(self, request):
-        made = changes([request], *self.surveyed)
-        text, upto = "".join(text_lines(applied(self.statements, made), 1)), max(self.data["tried"]["threads"])
-        return self.ask(["span"], text), table(self.ask(["curve", "--upto", str(upto)], text))
-
-    @cached_property
-    def statements(self):
-        text = self.answer("show") if has_loops(self.text) else self.text
-        return list(statements(line + "\n" for line in text.split("\n")))
-
-    @cached_property
-    def surveyed(self):
-        seen = survey(self.statements)
-        return seen, costs_for(read_head(self.text), seen)
-
     @cached_property
     def measured(self):
         """What `spanprof-record --scale` wrote beside the text."""
@@ -251,30 +150,6 @@ class Program(Sums):
     def scale(self, threads, name):
         rows = {row["threads"]: row for row in self.measured["threads"]}
         return rows[int(threads)][name.replace("speedup-", "speedup ")]
-
-    def predicted(self, threads, what):
-        """By the model of the machine."""
-        if ("predicted", threads) not in self.kept:
-            found = by_the_model(texts(self.file).paths, [int(threads)])[2]
-            self.kept["predicted", threads] = self.as_told(*found[0])
-        return self.kept["predicted", threads][what]
-
-    def trial_predicted(self, number, what):
-        if ("trial-predicted", number) not in self.kept:
-            tried = self.data["tried"]
-            bases = [recorded(path) for path in together(self.file)]
-            change = change_of(Request(*tried["requests"][int(number)]), self.surveyed)
-            told = bases, change, read_machine(machine_file()), tried["threads"][0]
-            self.kept["trial-predicted", number] = self.as_told(*of_changed(*told))
-        return self.kept["trial-predicted", number][what]
-
-    @staticmethod
-    def as_told(one, least):
-        return {"time": one.time, "low": one.low, "high": one.high, "least": least}
-
-    def count(self, number):
-        """Of threads, as the page names them."""
-        return int(number)
 
     def greedy(self, _):
         threads = self.data["runs"]["greedy"]["count"]
@@ -290,9 +165,9 @@ class Program(Sums):
         events = "".join("start 0 %d finish 0 %d\n" % (s, s) for s in range(len(self.cost)))
         return recorded_waits(self.ask(["replay"], text + "\n---\n" + events))
 
-    def edges_of_tasks(self, kind, a, b, of=None):
-        """Between two tasks, or between the tasks of two places: a task's first segment waits for its creation."""
-        of, count, seen = of or list(range(max(self.task_of) + 1)), 0, set()
+    def edges(self, kind, a, b):
+        """Between the tasks of two places: a task's first segment waits for its creation."""
+        of, count, seen = self.task_place_of, 0, set()
         for s, before in sorted(self.waits().items()):
             is_first = self.task_of[s] not in seen
             seen.add(self.task_of[s])
@@ -301,9 +176,6 @@ class Program(Sums):
                 own = "waits" if not is_first else "creates" if p == s - 1 else "depends"
                 count += self.task_of[p] != self.task_of[s] and (own, *pair) == (kind, a, b)
         return count
-
-    def edges(self, kind, a, b):
-        return self.edges_of_tasks(kind, a, b, self.task_place_of)
 
     @cached_property
     def bars(self):
@@ -320,47 +192,3 @@ class Program(Sums):
         end = max(end for _, end, _ in self.bars)
         return {"end": round(end), "busy": sum(end - start for start, end, _ in self.bars),
                 "time": end * self.threads()}[what]
-
-
-class WholeProgram(Sums):
-    """By the table of a program's regions."""
-
-    def __init__(self, path):
-        with open(path, encoding="utf-8") as file:
-            self.rows = [line.split(",", 9) for line in file.read().splitlines()[1:]]
-
-    def regions(self, number=None):
-        """Those of a place, or all: begin, end, threads, tasks, loops, code, whether inside another one."""
-        names = list(dict.fromkeys(row[9] for row in self.rows[1:]))
-        return [tuple(map(int, row[2:9])) for row in self.rows[1:] if number is None or row[9] == names[int(number)]]
-
-    def recorded(self):
-        found = re.search("(?m)^# recorded: (.*)", self.text)
-        return json.loads(found[1]) if found else {}
-
-    def elapsed(self):
-        return int(self.rows[0][3])
-
-    def outside_code(self):
-        return int(self.rows[0][7])
-
-    @staticmethod
-    def together(regions):
-        """How long at least one of them ran that is inside no other."""
-        inside, end = 0, 0
-        for begin, over, *_, is_inside in sorted(regions):
-            inside += 0 if is_inside else max(0, over - max(begin, end))
-            end = end if is_inside else max(end, over)
-        return inside
-
-    def outside(self):
-        return self.elapsed() - self.together(self.regions())
-
-    def place(self, number, what):
-        own = self.regions(number)
-        lengths = sorted(over - begin for begin, over, *_ in own)
-        return {"count": len(own), "median": lengths[(len(own) - 1) // 2],
-                "elapsed": self.together(own),
-                "tasks": sum(row[3] for row in own), "loops": sum(row[4] for row in own),
-                "code": sum(row[5] for row in own),
-                "thread-time": sum(row[2] * (row[1] - row[0]) for row in own)}[what]

@@ -46,9 +46,6 @@ class OfTheWorkedProgram(unittest.TestCase):
         self.assertEqual(self.answers.predecessors[2], [0])
         self.assertIn(1, self.answers.predecessors[3])
 
-    def test_nothing_changed_needs_no_command(self):
-        self.assertEqual(self.answers.what_if({}), {"work": 41, "span": 31, "was": 31})
-
     def test_a_text_read_otherwise_is_refused(self):
         other = pieces_of(lambda *_: "segment,task,cost,start,slack,chain\n0,3,1,0,0,1\n")
         with mock.patch("spanprof.client.pieces", other):

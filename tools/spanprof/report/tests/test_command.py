@@ -5,6 +5,7 @@ import os
 import shutil
 import tempfile
 import unittest
+from unittest import mock
 
 from spanprof.report.command import Progress, beside, main
 from spanprof.report.tests import worked
@@ -32,13 +33,12 @@ class Command(unittest.TestCase):
         return told.getvalue()
 
     def test_all_that_can_be_written(self):
-        main([worked.path("mesh.tasks"), "-o", self.out("m.html"), "--trace", self.out("m.json"), "--speedscope",
-              self.out("m.scope"), "--with", worked.path("split.tasks"), "--source", worked.FOLDER])
+        main([worked.path("mesh.tasks"), "-o", self.out("m.html"), "--trace", self.out("m.json"),
+              "--with", worked.path("split.tasks"), "--source", worked.FOLDER])
         with open(self.out("m.html"), encoding="utf-8") as file:
             self.assertTrue(file.read().startswith("<!DOCTYPE html>"))
-        for name in ("m.json", "m.scope"):
-            with open(self.out(name), encoding="utf-8") as file:
-                self.assertTrue(json.load(file))
+        with open(self.out("m.json"), encoding="utf-8") as file:
+            self.assertTrue(json.load(file))
 
     def test_a_name_that_is_no_text(self):
         text = os.path.join(os.fsencode(self.folder.name), b"\xff.tasks")
@@ -59,23 +59,13 @@ class Command(unittest.TestCase):
         self.assertEqual(told.getvalue(), "spanprof-report: written: %s\n" % self.out("mesh.html"))
         self.assertEqual(beside("a/b.html"), "a/b.html.html")
 
-    def test_the_summary_as_json(self):
-        told = io.StringIO()
-        with contextlib.redirect_stdout(told):
+    def test_the_diagnosis_as_json(self):
+        out, told = io.StringIO(), mock.Mock()
+        told.json.return_value = {"schema": 1}
+        with contextlib.redirect_stdout(out), mock.patch("spanprof.report.command.told_of", return_value=told):
             main([self.copied(), "--json"])
-        found = json.loads(told.getvalue())
-        self.assertEqual((found["work"], found["recording"]["elapsed"]["value"]),
-                         ({"value": 41, "kind": "proved of the text"}, 40))
-        self.assertEqual((found["on threads"]["threads"], found["account"]), (2, None))
+        self.assertEqual(json.loads(out.getvalue()), {"schema": 1})
         self.assertFalse(os.path.exists(self.out("mesh.html")))
-
-    def test_what_was_measured_and_predicted_is_in_it(self):
-        told = io.StringIO()
-        with contextlib.redirect_stdout(told):
-            main([worked.path("split.tasks"), "--json"])
-        found = json.loads(told.getvalue())
-        self.assertEqual((found["account"]["threads"], found["scale"]["runs"]), (2, 3))
-        self.assertEqual([one["threads"] for one in found["predicted"]], [2, 4])
 
     def test_refusals(self):
         mesh = worked.path("mesh.tasks")
@@ -89,7 +79,7 @@ class Command(unittest.TestCase):
 
     def test_no_file_is_written_over_the_text(self):
         text = self.copied()
-        for option, what in (("-o", "page"), ("--trace", "trace"), ("--speedscope", "speedscope file")):
+        for option, what in (("-o", "page"), ("--trace", "trace")):
             self.assertEqual(self.refused(text, option, text),
                              "spanprof-report: %s: the %s would be written over the text\n" % (text, what))
 

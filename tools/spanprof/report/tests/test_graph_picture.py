@@ -3,7 +3,8 @@ import unittest
 
 from spanprof.report.figures import Figures
 from spanprof.report.graph import CREATES, WAITS
-from spanprof.report.graph_picture import Box, Joined, Label, apart, picture, plain_length
+from spanprof.report.graph_picture import Box, Joined, Label, apart, line_between, picture, plain_length
+from spanprof.report.layout import lay_out
 from spanprof.report.markup import tag
 
 
@@ -29,9 +30,9 @@ class Edges(unittest.TestCase):
 
 
 class Pictures(unittest.TestCase):
-    def draw(self, edges, labelled=True):
+    def draw(self, edges):
         boxes = {i: Box([["box %d" % i]], 0.5, i == 1, tag("title", "t")) for i in range(3)}
-        return picture(Figures(), boxes, edges, labelled)
+        return picture(Figures(), boxes, edges)
 
     def test_boxes_and_lines(self):
         made = self.draw({(0, 1): joined(is_critical=True), (1, 2): joined()})
@@ -45,8 +46,12 @@ class Pictures(unittest.TestCase):
         (x, wide), = re.findall(r'class="label"><rect x="(\S+)" [^>]* width="(\S+)"', made)
         self.assertTrue(left <= float(x) and float(x) + float(wide) <= left + width)
 
-    def test_labels_can_be_left_out(self):
-        self.assertNotIn('class="label"', self.draw({(0, 1): joined()}, labelled=False))
+    def test_a_line_goes_round_what_stands_between(self):
+        boxes = {i: Box([["box %d" % i]], 0.5, False, tag("title", "t")) for i in range(3)}
+        middles = lay_out([0, 1, 2], [(0, 1), (1, 2), (0, 2)], {i: box.size for i, box in boxes.items()})
+        right = middles[1][0] + boxes[1].size[0] / 2
+        self.assertGreater(line_between(middles, boxes, 0, 2)[1], right)
+        self.assertLess(line_between(middles, boxes, 0, 1)[1], right)
 
     def test_an_edge_backward_goes_round_the_right(self):
         self.assertRegex(self.draw({(2, 0): joined()}), r'd="M[\d.]+ [\d.]+Q')

@@ -2,8 +2,7 @@ import os
 import tempfile
 import unittest
 
-from spanprof.report.level_runs import levels_in, levels_of_greedy
-from spanprof.report.levels import Levels, bins_for
+from spanprof.report.levels import Levels, bins_for, levels_in, levels_of_greedy
 from spanprof.report.tests import worked
 from spanprof.report.timeline_data import DIGITS, levels_data
 

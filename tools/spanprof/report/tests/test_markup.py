@@ -24,8 +24,8 @@ class Elements(unittest.TestCase):
 
     def test_parts(self):
         self.assertEqual(section("path", "Path", note("n")),
-                         '<section id="path" aria-labelledby="path-title"><h2 id="path-title">Path</h2>'
-                         '<p class="note">n</p></section>')
+                         '<section id="path"><details><summary><h2>Path</h2></summary><p class="note">n</p></details>'
+                         '</section>')
         self.assertEqual(details("more", "x"), "<details><summary>more</summary>x</details>")
 
 
@@ -42,9 +42,9 @@ class Tables(unittest.TestCase):
         self.assertIn('<button type="button">place</button>', made)
 
     def test_a_place_with_source_and_colour(self):
-        made = place_cell("task at a.c:3", ["#pragma omp task", "f(<x>)"], 2)
-        self.assertIn('class="key square c2"', made)
-        self.assertIn("<code>#pragma omp task</code><code>f(&lt;x&gt;)</code>", made)
+        made = place_cell("task at a.c:3", "f(<x>)", 2)
+        self.assertIn('class="key c2"', made)
+        self.assertIn("<code>f(&lt;x&gt;)</code>", made)
 
     def test_a_bar_is_at_most_full(self):
         self.assertIn("width:100.0%", bar(120))

@@ -31,18 +31,17 @@ class Pages(unittest.TestCase):
         self.assertNotIn("light-dark(", text)   # which older browsers do not take
         self.assertIsNone(re.search(r'(src|href)="(?!#)|@import|url\((?!#)|https?://', text))
 
-    def test_parts_and_what_leads_to_them(self):
+    def test_parts(self):
         text = worked.page_text(["mesh", "split"])
         names = re.findall(r'<section id="(\S+)"', text)
-        self.assertEqual(names, ["summary", "compared", "speedup", "timeline", "timeline-other", "path", "changes",
-                                 "what-if", "tasks", "nesting", "source", "graph", "sources"])
-        for name in names:
-            self.assertIn('<a href="#%s">' % name, text)
+        self.assertEqual(names, ["summary", "timeline", "timeline-other", "places", "speedup", "compared", "source",
+                                 "graph", "numbers"])
+        self.assertEqual(text.count("<section"), text.count("<section id="))
 
     def test_words_of_a_text_are_words_on_the_page(self):
         text = worked.page_text(["odd"])
         self.assertNotIn("<img", text)
-        self.assertEqual(text.count("</script>"), 3)
+        self.assertEqual(text.count("</script>"), 2)
         self.assertIn("odd &lt;/script&gt; thing: span too low", text)
 
     def test_names_cannot_end_the_data(self):
@@ -66,7 +65,7 @@ class WrongNumbers(unittest.TestCase):
         reader = read_page(self.text)
         programs = programs_of(reader, [worked.path(name + ".tasks") for name in ("mesh", "split")], worked.Kept())
         whole = [figure for figure in reader.figures if figure.exact.isdigit()]
-        self.assertGreater(len(whole), 100)
+        self.assertGreater(len(whole), 50)
         for figure in whole:
             self.assertEqual(faults_of(figure, programs), [])
             self.assertTrue(faults_of(replace(figure, exact=str(int(figure.exact) + 1)), programs))
@@ -85,9 +84,9 @@ class WrongNumbers(unittest.TestCase):
         self.assertEqual(self.faults("<title>mesh", "<title>mesh_14"), [])
 
     def test_a_number_without_a_source(self):
-        self.assertEqual(self.faults("lets the text end sooner.</p>", "lets the text end before 31.</p>"),
-                         ["'. With threads to spare, only a shorter chain lets the text end before 31.': "
-                          "a number without a source"])
+        faults = self.faults("Slack is the delay that a segment bears.", "Slack is 31.")
+        self.assertEqual(len(faults), 1)
+        self.assertIn("Slack is 31.", faults[0])
 
     def test_another_greedy_run(self):
         data = json.loads(read_page(self.text).data)

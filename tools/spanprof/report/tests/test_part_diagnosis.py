@@ -10,7 +10,7 @@ from spanprof.diagnosis.plan import Step
 from spanprof.diagnosis.tell import Told
 from spanprof.diagnosis.tests.test_sentences import SOURCES, TASKS, found
 from spanprof.diagnosis.tests.worked import MS
-from spanprof.report.part_diagnosis import first_screen, parts
+from spanprof.report.part_diagnosis import first_screen, has_room, parts
 
 
 def told():
@@ -30,10 +30,11 @@ class Screens(unittest.TestCase):
     def test_the_sentence_the_times_the_change_and_the_plan(self):
         shown = words_in(first_screen(told()))
         for words in ("image takes 100 ms on 4 threads.", "100 msnow, on 4 threads", "60.0 msafter the first change",
-                      "50.0 msif all threads ran its code all the time", "38 % lost: 8 tasks of image.c:9 (tone)",
-                      "First: depend(in: tab[f(0, 1)]) at image.c:9, if the tasks only read it. 100 ms to 60.0 ms",
+                      "50.0 msat best: all threads in code all the time", "38 % lost: 8 tasks of image.c:9 (tone)",
+                      "Where the time of the 4 threads went",
+                      "Firstdepend(in: tab[f(0, 1)]) at image.c:9, if the tasks only read it 100 ms → 60.0 ms (−40 %)",
                       "- #pragma omp task depend(in: b[0]) depend(inout: tab[f(0, 1)])",
-                      "Then, on top of it:divide main (image.c:4-6) among 4 tasks 60.0 ms to 40.0 ms",
+                      "Then, on top of itdivide main (image.c:4-6) among 4 tasks 60.0 ms → 40.0 ms (−33 %)",
                       "Not known: whether code costs more on 4 threads: --full."):
             self.assertIn(words, shown)
 
@@ -41,6 +42,14 @@ class Screens(unittest.TestCase):
         shares = parts(told())
         self.assertAlmostEqual(sum(share for _, share, _ in shares), 1, delta=0.005)
         self.assertEqual(shares[1][0], "dependences: image.c:9")
+
+    def test_words_without_room_stand_below_the_bar(self):
+        self.assertTrue(has_room("in code 40 %", 0.4))
+        self.assertFalse(has_room("waiting for locks: words.cpp:9 9 %", 0.09))
+        self.assertFalse(has_room("communication", 0.1))
+
+    def test_warnings_are_linked(self):
+        self.assertIn('<a href="#numbers">2 warnings</a>', first_screen(told(), 2))
 
     def test_each_loss_has_words(self):
         for kind in [cause.kind for cause in TABLE if cause.kind != "efficient"] + ["recorder", "startup"]:

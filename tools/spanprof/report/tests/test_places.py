@@ -1,8 +1,9 @@
 import unittest
+from array import array
 from types import SimpleNamespace
 
-from spanprof.report.graph import CREATES, DEPENDS, WAITS, critical_pairs, place_edges, task_edges
-from spanprof.report.places import Tasks, places, task_places
+from spanprof.report.graph import CREATES, DEPENDS, WAITS, critical_pairs, place_edges
+from spanprof.report.places import places, task_places
 from spanprof.report.tests import worked
 
 
@@ -23,22 +24,16 @@ class OfTheWorkedProgram(unittest.TestCase):
         self.assertEqual(shares, sorted(shares, reverse=True))
         self.assertEqual([place.number for place in self.view.places], list(range(len(shares))))
 
-    def test_tasks(self):
-        found = Tasks(self.view.answers)
-        self.assertEqual([task.cost for task in found], [10, 12, 7, 4, 8, 0])
-        self.assertEqual([task.is_critical for task in found], [True, True, True, True, False, False])
-        self.assertEqual(found[4].slack, 3)
-
     def test_tasks_by_the_construct_that_creates_them(self):
         found = {place.name: place for place in task_places(self.view.answers)}
         both = found["mesh.c:10"]
         self.assertEqual((list(both.tasks), list(both.costs), both.cost, both.median), ([2, 4], [7, 8], 15, 7))
-        self.assertEqual((both.critical_tasks, both.slack, both.creating), (1, 0, 2))
+        self.assertEqual(both.critical_cost, 7)
         self.assertEqual(list(found["the root"].tasks), [0])
 
     def test_edges(self):
         answers = self.view.answers
-        edges = task_edges(answers.code, answers.predecessors)
+        edges = place_edges(answers.code, answers.predecessors, range(6))
         self.assertEqual(edges[CREATES, 0, 1], 1)
         self.assertEqual(edges[DEPENDS, 1, 2], 1)
         self.assertEqual(edges[DEPENDS, 1, 4], 1)
@@ -46,17 +41,21 @@ class OfTheWorkedProgram(unittest.TestCase):
         self.assertEqual({kind for kind, _, b in edges if b == 0}, {WAITS})
 
     def test_the_path_between_tasks(self):
-        self.assertEqual(critical_pairs(self.view.answers.code, self.view.answers.path_segments),
+        self.assertEqual(critical_pairs(self.view.answers.code, self.view.answers.path_segments, range(6)),
                          {(0, 1), (1, 2), (2, 3), (3, 2), (2, 0)})
+
+
+class Code(list):
+    @property
+    def task(self):
+        return [one.task for one in self]
 
 
 class Edges(unittest.TestCase):
     def test_a_creation_is_the_segment_before(self):
-        code = [SimpleNamespace(task=0, after=""), SimpleNamespace(task=1, after=""),
-                SimpleNamespace(task=0, after="creating a task"), SimpleNamespace(task=2, after="")]
-        self.assertEqual(task_edges(code, [[], [0], [0], [1, 2]]),
+        code = Code([SimpleNamespace(task=0, after=""), SimpleNamespace(task=1, after=""),
+                     SimpleNamespace(task=0, after="creating a task"), SimpleNamespace(task=2, after="")])
+        before = [[], [0], [0], [1, 2]]
+        self.assertEqual(place_edges(code, before, range(3)),
                          {(CREATES, 0, 1): 1, (DEPENDS, 1, 2): 1, (CREATES, 0, 2): 1})
-
-    def test_sums_by_place(self):
-        self.assertEqual(place_edges({(CREATES, 0, 1): 2, (CREATES, 0, 2): 3}, {0: 5, 1: 6, 2: 6}),
-                         {(CREATES, 5, 6): 5})
+        self.assertEqual(place_edges(code, before, array("I", [5, 6, 6]))[CREATES, 5, 6], 2)

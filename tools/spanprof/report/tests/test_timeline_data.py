@@ -1,9 +1,9 @@
 import unittest
 
-from spanprof.report.recorded_run import RecordedRun
 from spanprof.report.tests import worked
 from spanprof.report.tests.expected import unpacked
 from spanprof.report.timeline_data import base36, packed, recorded_data, timeline_data
+from spanprof.report.view import RecordedRun
 
 
 class Packing(unittest.TestCase):

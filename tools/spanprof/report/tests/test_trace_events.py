@@ -1,17 +1,13 @@
 """Against what the JSON form of trace events requires, which ui.perfetto.dev and chrome://tracing read."""
 import json
 import unittest
-from types import SimpleNamespace
 
-from spanprof.account import Row
-from spanprof.report.recorded_run import run_of_rows
 from spanprof.report.tests import worked
-from spanprof.report.trace_events import Run, ready_counts, trace_text
+from spanprof.report.trace_events import trace_text
 
 REQUIRED = {"M": {"name", "ph", "pid", "args"}, "X": {"name", "cat", "ph", "ts", "dur", "pid", "tid"},
             "s": {"name", "cat", "ph", "ts", "pid", "tid", "id"},
-            "f": {"name", "cat", "ph", "ts", "pid", "tid", "id", "bp"},
-            "C": {"name", "ph", "ts", "pid", "args"}}
+            "f": {"name", "cat", "ph", "ts", "pid", "tid", "id", "bp"}}
 
 
 def events_of(name):
@@ -63,12 +59,6 @@ class Form(unittest.TestCase):
         numbers = [flow["id"] for flow in self.events if flow["ph"] == "s"]
         self.assertEqual(len(numbers), len(set(numbers)))
 
-    def test_the_counter_ends_with_none_ready(self):
-        for process in (1, 2):
-            counts = [event["args"]["segments"] for event in of_kind(self.events, "C", process)]
-            self.assertGreaterEqual(min(counts), 0)
-            self.assertEqual(counts[-1], 0)
-
 
 class Times(unittest.TestCase):
     def test_a_timed_run_is_in_true_microseconds(self):
@@ -88,14 +78,3 @@ class Times(unittest.TestCase):
             view.answers.head.unit = unit
             bars = of_kind(json.loads(trace_text(view))["traceEvents"], "X", 2)
             self.assertEqual((bars[0]["ts"], bars[0]["dur"]), (0, length))
-
-    def test_times_are_nanoseconds_whatever_the_unit_of_costs(self):
-        for unit, cost in (("ns", 1), ("us", 1000), ("250 ns", 250)):
-            run = run_of_rows(SimpleNamespace(rows=[Row(0, 0, 25600, 28000)], threads=2), cost)
-            self.assertEqual((run.nanoseconds(run.starts[0]), run.count), (25600, 2))
-            self.assertAlmostEqual(run.starts[0] * cost, 25600)
-
-    def test_ready_segments(self):
-        view = worked.view("plain")
-        run = Run(1, "one thread", [0, 7, 5, 10], [5, 10, 7, 11], [0, 0, 0, 0], 1)
-        self.assertEqual(list(ready_counts(view, run)), [(5, 1), (7, 0)])

@@ -7,7 +7,7 @@ from spanprof.report.part_curve import curve_part
 from spanprof.report.tests import worked
 from spanprof.report.tests.expected import Program
 from spanprof.report.tests.page_reader import read_page
-from spanprof.report.true_times import Point, points_in, scale_beside
+from spanprof.report.true_times import Point, true_times_beside
 from spanprof.tests.in_folder import InFolder
 
 DATE = "2026-11-27T11:02:55Z"
@@ -24,13 +24,13 @@ class Files(InFolder):
 
     def points(self, told):
         self.write("scale.json", told if isinstance(told, str) else json.dumps(told))
-        return points_in(scale_beside(self.answers))
+        return true_times_beside(self.answers)
 
     def test_those_of_this_recording(self):
-        self.assertEqual(points_in(scale_beside(self.answers)), [])
+        self.assertEqual(true_times_beside(self.answers), [])
         self.assertEqual(self.points(TOLD), [Point(4, 2.5, 2.0, 3.0)])
         self.answers.path = self.write("plain.tasks")
-        self.assertIsNone(scale_beside(self.answers))
+        self.assertEqual(true_times_beside(self.answers), [])
 
     def test_others(self):
         for name, value in (("date", ""), ("threads", [{}]), ("threads", 3)):

@@ -6,7 +6,7 @@ from spanprof.report.units import Units, grouped, unit_name
 
 def words(unit, *values):
     units = Units(Head(unit=unit))
-    return [units.words(value) for value in values]
+    return [units.shown(value).words for value in values]
 
 
 class Times(unittest.TestCase):

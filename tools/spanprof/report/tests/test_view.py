@@ -1,24 +1,25 @@
 import unittest
 
 from spanprof.report.figures import DECLARED, MEASURED, RECORDED
+from spanprof.report.part_curve import reached
 from spanprof.report.tests import worked
 from spanprof.report.view import COLOURS
 
 
-class Reached(unittest.TestCase):
+class Runs(unittest.TestCase):
     def test_by_the_clock(self):
-        reached = worked.view("split").reached
-        self.assertEqual(reached.threads, 2)
-        self.assertAlmostEqual(reached.speed_up, 37 / 30)
+        view = worked.view("split")
+        self.assertAlmostEqual(reached(view), 37 / 30)
+        self.assertEqual((view.run.count, view.run.unit), (2, 1000))
 
     def test_by_the_head_alone(self):
         view = worked.view("odd")
-        self.assertEqual((view.run, view.reached.threads), (None, 2))
-        self.assertEqual(view.unit, "× 250 ns")
+        self.assertEqual((view.run, view.answers.head.threads, view.unit), (None, 2, "× 250 ns"))
+        self.assertGreater(reached(view), 0)
 
     def test_nothing_recorded(self):
         view = worked.view("plain")
-        self.assertEqual((view.reached, view.run), (None, None))
+        self.assertEqual((reached(view), view.run), (None, None))
 
 
 class Kinds(unittest.TestCase):

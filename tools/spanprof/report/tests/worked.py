@@ -11,6 +11,7 @@ from unittest import mock
 
 from spanprof.errors import Fault
 from spanprof.report.tests.worked_files import FOLDER, path
+from spanprof.report.true_times import NAMES, Point
 
 KEPT = path("answers.json")
 
@@ -56,15 +57,11 @@ class Kept:
         return self(["account", *words], document(file))
 
 
-def with_a_machine():
-    """Times are predicted by the model of a machine that is kept here, and not of this one."""
-    return mock.patch.dict(os.environ, SPANPROF_MACHINE=path("machine.json"))
-
-
-def scale_beside(answers):
+def true_times_beside(answers):
     """A worked text is no recording: its scale stands beside it."""
     file = answers.path.replace(".tasks", ".scale.json")
-    return json.loads(document(file)) if os.path.exists(file) else None
+    rows = json.loads(document(file))["threads"] if os.path.exists(file) else []
+    return [Point(*(row[name] for name in NAMES)) for row in rows]
 
 
 class Patched:
@@ -73,8 +70,8 @@ class Patched:
     def __init__(self):
         kept = Kept()
         self.patches = [mock.patch("spanprof.client.ask", kept), mock.patch("spanprof.client.pieces", pieces_of(kept)),
-                        mock.patch("spanprof.account.ask", kept.of_times), with_a_machine(),
-                        mock.patch("spanprof.report.view.scale_beside", scale_beside),
+                        mock.patch("spanprof.account.ask", kept.of_times),
+                        mock.patch("spanprof.report.view.true_times_beside", true_times_beside),
                         mock.patch("spanprof.report.view.diagnosis_of", return_value=None)]
 
     def start(self):
@@ -143,7 +140,9 @@ def asked_now():
     of_times = account.ask if client.takes_any_size() else Kept().of_times     # that program need not be there
     times = noting(out, of_times, lambda words, file: key(["account", *words], document(file)))
     with mock.patch("spanprof.client.ask", asked), mock.patch("spanprof.client.pieces", pieces_of(asked)), \
-            mock.patch("spanprof.account.ask", times), with_a_machine():
+            mock.patch("spanprof.account.ask", times), \
+            mock.patch("spanprof.report.view.true_times_beside", true_times_beside), \
+            mock.patch("spanprof.report.view.diagnosis_of", return_value=None):
         for names in pages():
             wrong, _ = differences(page_text(names), [path(name + ".tasks") for name in names], asked)
             if wrong:
