@@ -1,20 +1,20 @@
 """A program's text with other costs of its segments."""
 from itertools import islice
 
-from spanprof.segment_table import Cutter
-from spanprof.text import line, statements, words_of
+from spanprof.marks import statements
+from spanprof.text import line, words_of
 
 
 def without_costs(text):
     """The pieces of a text that has no loops, and in place of costs the number of each segment where it ends."""
-    cutter, out = Cutter(), [" ".join(word for word, _ in islice(words_of(text), 2))]
+    segment, out = 0, [" ".join(word for word, _ in islice(words_of(text), 2))]
     for one in statements(text.split("\n")):
         if one.kind not in ("work", "taskgroup"):
-            out.append(cutter.current)
+            out.append(segment)
+            segment += 1
         if one.kind != "work":
             out.append(line(one._replace(comment="")).strip())
-        cutter.take(one)
-    return out + [cutter.current]
+    return out + [segment]
 
 
 def with_costs(pieces, costs):

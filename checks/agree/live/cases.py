@@ -19,7 +19,8 @@ import texts  # noqa: E402
 from answers import of_program  # noqa: E402
 from spanprof.c_calls import KINDS  # noqa: E402
 from spanprof.report.live_waits import shape  # noqa: E402
-from spanprof.text import has_loops, statements, text_lines  # noqa: E402
+from spanprof.marks import statements
+from spanprof.text import has_loops, text_lines  # noqa: E402
 from spanprof.whatif.changes import DropWait, Factor  # noqa: E402
 from spanprof.whatif.requests import applied  # noqa: E402
 from spanprof.whatif.survey import survey  # noqa: E402

@@ -7,7 +7,8 @@ from spanprof.predict.machine import machine_file, read_machine
 from spanprof.predict.predictions import by_the_model, of_changed
 from spanprof.predict.recorded import recorded
 from spanprof.predict.scaled import texts, together
-from spanprof.text import statements, text_lines
+from spanprof.marks import statements
+from spanprof.text import text_lines
 from spanprof.whatif.requests import applied, changes
 from spanprof.whatif.survey import survey
 

@@ -13,7 +13,8 @@ from spanprof.predict.scaled import texts, together
 from spanprof.recording import document, open_recording
 from spanprof.segment_table import read_code
 from spanprof.report.predicted import change_of
-from spanprof.text import has_loops, statements, text_lines
+from spanprof.marks import statements
+from spanprof.text import has_loops, text_lines
 from spanprof.whatif.creating import costs_for
 from spanprof.whatif.requests import Request, applied, changes
 from spanprof.whatif.survey import survey

@@ -3,7 +3,7 @@ import unittest
 
 from spanprof.report.live_waits import Waits, shape
 from spanprof.report.tests import worked
-from spanprof.text import statements
+from spanprof.marks import statements
 
 TEXT = """\
 omptasks 1
