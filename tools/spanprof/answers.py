@@ -140,7 +140,7 @@ class Answers:
     @cached_property
     def rows(self):
         code, found = self.code, self.columns(["slack"], SLACK)
-        assert (len(found[0]), self.work) == (len(code), sum(code.cost)), "the text was read otherwise"
+        assert (len(found[0]), self.numbers["work"]) == (len(code), sum(code.cost)), "the text was read otherwise"
         return Rows(code.cost, code.task, *found)
 
     @cached_property
