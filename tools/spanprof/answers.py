@@ -3,6 +3,7 @@ first needed; what it tells of each segment is read as it comes, and kept in col
 from array import array
 from dataclasses import dataclass
 from functools import cached_property
+from itertools import compress
 
 from spanprof import client
 from spanprof.c_calls import MOST_THREADS
@@ -14,7 +15,7 @@ from spanprof.text_file import TextFile
 
 THREADS_WITHOUT_RECORDING = 4
 LONGEST_CURVE = 64
-SLACK = ("cost", "task", "start", "slack", "chain")
+SLACK = ("start", "slack", "chain")
 
 
 @dataclass
@@ -132,13 +133,17 @@ class Answers:
 
     @cached_property
     def rows(self):
-        found = Rows(*self.columns(["slack"], SLACK))
-        assert found.task.tolist() == self.code.task.tolist(), "the text was read otherwise"
-        return found
+        code, found = self.code, self.columns(["slack"], SLACK)
+        assert (len(found[0]), self.numbers["work"]) == (len(code), sum(code.cost)), "the text was read otherwise"
+        return Rows(code.cost, code.task, *found)
 
     @cached_property
     def path_segments(self):
-        return array("I", (s for s, is_on_it in enumerate(self.rows.critical) if is_on_it))
+        """Those on the path that `slack` shows."""
+        if "rows" in vars(self):
+            return array("I", compress(range(len(self.rows)), self.rows.critical))
+        self.note("slack")
+        return client.path(self.file)
 
     @cached_property
     def tasks(self):

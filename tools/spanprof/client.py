@@ -129,6 +129,17 @@ def columns(words, text, wanted):
     return out
 
 
+def path(text):
+    """The segments on the path that `slack` shows."""
+    out, told = array("I"), pieces(["slack"], text)
+    is_table = next(told)[0].endswith(b",chain\n")
+    for lines in told:
+        if not is_table:
+            raise Fault("spanprof slack: rows of another form")
+        out.extend(int(line.partition(b",")[0]) for line in lines if line.endswith(b",1\n"))
+    return out
+
+
 def named_numbers(lines):
     """`work 11` and the like."""
     pairs = (line.split() for line in lines.split("\n") if line)

@@ -3,24 +3,26 @@ where none was, to the places of those that ran then, for which the others waite
 
 At each moment the idle threads are shared evenly among these segments. The parts add up to the sums of the account.
 """
+from bisect import bisect_right
 from collections import Counter
 from fractions import Fraction
 
+READY, BEGIN, END = range(3)
 
-def changes(rows, places):
-    """Moments in their order, each with a place and by how many its ready and its running segments grow."""
-    found = []
-    for row, place in zip(rows, places):
-        found += [(row.ready, place, 1, 0), (row.begin, place, -1, 1), (row.end, place, 0, -1)]
-    return sorted(found, key=lambda change: change[0])
+
+def changes(rows, kinds, count):
+    """Moments in their order, each with what changes then of which kind of so many, as one number."""
+    return sorted([3 * (row.ready * count + kind) + READY for row, kind in zip(rows, kinds)] +
+                  [3 * (row.begin * count + kind) + BEGIN for row, kind in zip(rows, kinds)] +
+                  [3 * (row.end * count + kind) + END for row, kind in zip(rows, kinds)])
 
 
 def add(counts, place, more):
-    now = counts[place] + more
+    now = counts.get(place, 0) + more
     if now:
         counts[place] = now
     else:
-        counts.pop(place, None)
+        del counts[place]
 
 
 class Shared:
@@ -34,10 +36,10 @@ class Shared:
         for place, count in counts.items():
             self.parts[place, among] += idle * count
 
-    def exact(self):
+    def exact(self, names):
         out = {}
-        for (place, among), idle in self.parts.items():
-            out[place] = out.get(place, 0) + Fraction(idle, among)
+        for (kind, among), idle in self.parts.items():
+            out[names[kind]] = out.get(names[kind], 0) + Fraction(idle, among)
         return out
 
 
@@ -52,26 +54,26 @@ def rounded(parts):
 
 def most_at_once(rows):
     """How many segments ran at once."""
-    most = now = 0
-    for _, more in sorted([(row.end, -1) for row in rows] + [(row.begin, 1) for row in rows]):
-        now += more
-        most = max(most, now)
-    return most
+    begins, ends = sorted(row.begin for row in rows), sorted(row.end for row in rows)
+    return max((begun - bisect_right(ends, moment) for begun, moment in enumerate(begins, 1)), default=0)
 
 
 def idle_by_place(rows, places, threads):
     """Delayed and starved time by place, of rows with `ready`, `begin` and `end`."""
-    delayed, starved = Shared(), Shared()
-    ready, running, busy = Counter(), Counter(), 0
+    delayed, starved, numbers = Shared(), Shared(), {}
+    kinds = [numbers.setdefault(place, len(numbers)) for place in places]
+    ready, running, busy = {}, {}, 0
     begun = moment = min(row.begin for row in rows)
-    for then, place, more_ready, more_running in changes(rows, places):
+    for change in changes(rows, kinds, len(numbers)):
+        change, what = divmod(change, 3)
+        then, kind = divmod(change, len(numbers))
         idle = (threads - busy) * (then - moment) if then > begun else 0
         if idle:
             (delayed if ready else starved).share(idle, ready or running)
         moment = max(then, begun)
-        busy += more_running
-        if more_ready:
-            add(ready, place, more_ready)
-        if more_running:
-            add(running, place, more_running)
-    return rounded(delayed.exact()), rounded(starved.exact())
+        if what != END:
+            add(ready, kind, 1 if what == READY else -1)
+        if what != READY:
+            add(running, kind, 1 if what == BEGIN else -1)
+            busy += 1 if what == BEGIN else -1
+    return tuple(rounded(shared.exact(list(numbers))) for shared in (delayed, starved))

@@ -1,8 +1,42 @@
 """The segments of a text of any size in columns: what stands of each in the source, and its task."""
 from array import array
+from collections import Counter
+from typing import NamedTuple
 
 from spanprof.errors import Fault
-from spanprof.text import BLOCKS, OF_A_THREAD, Segment, marks
+from spanprof.marks import CREATING, Marks, after_words
+from spanprof.text import BARRIER, BLOCKS, OF_A_THREAD, Segment, named, where
+
+OF_REGIONS = (OF_A_THREAD, BARRIER)
+
+
+class Kind(NamedTuple):
+    """Segments that stand at one place: words as a Segment's. Of code that begins or follows a region's threads'
+    `region` is the place of that."""
+    is_root: bool
+    task_place: str
+    after: str = ""
+    after_place: str = ""
+    region: str = ""
+
+    @property
+    def at(self):
+        """The construct that begins it."""
+        return self.after_place if self.after else self.task_place
+
+    @property
+    def is_of_region(self):
+        return self.at.startswith(OF_REGIONS)
+
+    @property
+    def begin(self):
+        """Where that stands."""
+        return self.region if self.is_of_region else self.at
+
+    @property
+    def end(self):
+        """What ends the segment before it; nothing where that is the last of a task."""
+        return "" if self.after == CREATING else self.begin
 
 
 class Code:
@@ -10,24 +44,22 @@ class Code:
 
     def __init__(self):
         self.of, self.task, self.cost = array("I"), array("I"), array("Q")
-        self.kinds, self.names, self.numbers = [], [], {}   # a kind is whether it is the root's, and words as a Segment
+        self.kinds, self.names, self.numbers = [], [], {}
+        self.own, self.groups = array("I"), array("I")  # segments that begin a thread's own code, and the group of each
+        self.clauses = []           # of tasks: the kind of the first segment, what is written, how often
 
-    def add(self, task, task_place, after, after_place):
-        kind = (task == 0, task_place, after, after_place)
-        number = self.numbers.get(kind)
-        if number is None:
-            number = self.numbers[kind] = len(self.kinds)
+    def number(self, kind):
+        if kind not in self.numbers:
+            self.numbers[kind] = len(self.kinds)
             self.kinds.append(kind)
-            self.names.append(Segment(task, *kind[1:]).place())
-        self.of.append(number)
-        self.task.append(task)
-        self.cost.append(0)
+            self.names.append(Segment(not kind.is_root, kind.task_place, kind.after, kind.after_place).place())
+        return self.numbers[kind]
 
     def __len__(self):
         return len(self.of)
 
     def __getitem__(self, s):
-        return Segment(self.task[s], *self.kinds[self.of[s]][1:], self.cost[s])
+        return Segment(self.task[s], *self.kinds[self.of[s]][1:4], self.cost[s])
 
     def __iter__(self):
         return (self[s] for s in range(len(self)))
@@ -40,80 +72,108 @@ class Code:
         """Of each segment, in their order."""
         return (self.names[number] for number in self.of)
 
+    @property
+    def ends(self):
+        """Of each segment where the construct stands that ends it; nothing for the last of a task."""
+        return [self.kinds[number].end for number in self.of[1:]] + [""]
+
     def firsts(self):
         """The first segment of each task, by their numbers."""
-        is_first = [not after for _, _, after, _ in self.kinds]
+        is_first = [not kind.after for kind in self.kinds]
         return array("I", (s for s, number in enumerate(self.of) if is_first[number]))
 
     def parts(self):
         """How many of the tasks stand for a thread's own code between two barriers."""
-        of_threads = {number for number, kind in enumerate(self.kinds) if kind[1] == OF_A_THREAD and not kind[2]}
-        return sum(number in of_threads for number in self.of) if of_threads else 0
+        return sum(self.kinds[self.of[s]].task_place == OF_A_THREAD for s in self.own)
 
 
-class Cutter:
-    """Cuts a program into segments. The one that runs is always the one that began last."""
+class Groups:
+    """Those that are open: of each its number, and the place of the innermost one around its code that has one."""
 
-    def __init__(self):
-        self.code, self.tasks = Code(), 0
-        self.running = [(0, "")]    # of each open task: its number and place
-        self.blocks = []            # of each open block: what it is, and its comment
-        self.code.add(0, "", "", "")
+    def __init__(self, places):
+        self.places, self.open, self.begun, self.closed = places, [(0, "")], 0, ""
 
     @property
-    def current(self):
-        """The number of the segment that runs."""
-        return len(self.code) - 1
+    def region(self):
+        """Where the innermost region is that has begun."""
+        return self.open[-1][1] or self.closed
 
-    def go_on(self, after, comment):
-        self.code.add(*self.running[-1], after, comment)
-
-    def begin(self, kind, comment):
-        self.blocks.append((kind, comment))
-        if kind == "task":
-            self.tasks += 1
-            self.running.append((self.tasks, comment))
-            self.go_on("", "")
+    def begin(self, number):
+        self.begun += 1
+        self.open.append((self.begun, self.places[-number] or self.open[-1][1]))
 
     def end(self):
-        kind, comment = self.blocks.pop()
-        if kind == "task":
-            self.running.pop()
-        self.go_on("creating a task" if kind == "task" else kind, comment)
+        self.closed = self.open.pop()[1]
 
-    def construct(self, word, comment):
-        if word == "taskwait":
-            self.go_on(word, comment)
-        elif word in BLOCKS:
-            self.begin(word, comment)
-        else:
+
+class Task(dict):
+    """The numbers of the kinds of segments in tasks of one place, by the mark that begins each, 0 where the task does.
+    Those of code around a region are not kept, since they have its place too."""
+
+    def __init__(self, code, groups, is_root, place, marks):
+        super().__init__()
+        self.code, self.groups, self.known = code, groups, marks.known
+        self.begins = is_root, place
+
+    def __missing__(self, number):
+        mark = self.known[-number]
+        kind = Kind(*self.begins, *(after_words(mark), mark.comment) * bool(number))
+        if not kind.is_of_region:
+            self[number] = self.code.number(kind)
+            return self[number]
+        if not number:
+            self.code.own.append(len(self.code))
+            self.code.groups.append(self.groups.open[-1][0])
+        return self.code.number(kind._replace(region=self.groups.region))
+
+
+def code_of(marks):
+    """The segments of a text. The one that runs is always the one that began last."""
+    code, words = Code(), [mark.word for mark in marks.known]
+    groups = Groups([where(named("taskgroup", mark.comment)) for mark in marks.known])
+    inside = [Task(code, groups, False, mark.comment, marks) for mark in marks.known]
+    here, running, tasks, blocks, cost = Task(code, groups, True, "", marks), 0, 0, [], 0
+    code.of.append(here[0])
+    code.task.append(0)
+    for number in marks.numbers:
+        if number > 0:
+            cost += number
+            continue
+        word = words[-number]
+        if word in BLOCKS:
+            blocks.append((number, here, running))
+        if word == "taskgroup":
+            groups.begin(number)
+            continue
+        code.cost.append(cost)
+        cost = 0
+        if word == "}":
+            number, here, running = blocks.pop()
+            if words[-number] == "taskgroup":
+                groups.end()
+        elif word == "task":
+            tasks += 1
+            here, running = inside[-number], tasks
+            number = 0
+        elif word != "taskwait":
             raise ValueError(word)
+        code.of.append(here[number])
+        code.task.append(running)
+    code.cost.append(cost)
+    code.clauses = clauses_of(marks, inside)
+    return code
 
-    def take(self, one):
-        """A statement."""
-        if one.kind == "work":
-            self.code.cost[-1] += one.cost
-        elif one.kind == "end":
-            self.end()
-        else:
-            self.construct(one.kind, one.comment)
 
-    def read(self, found):
-        """Of marks."""
-        costs = self.code.cost
-        for word, code, comment in found:
-            if word == "work":
-                costs[-1] += int(code)
-            elif word == "}":
-                self.end()
-            else:
-                self.construct(word, comment)
-        return self.code
+def clauses_of(marks, inside):
+    """Of the tasks that have some; `inside` has the kinds of their segments."""
+    written = marks.numbers_of(lambda mark: mark.word == "task" and mark.code)
+    counts = Counter(filter(written.__contains__, marks.numbers if written else ()))
+    return [(inside[-number].get(0), marks.known[-number].code, count) for number, count in counts.items()]
 
 
 def read_code(lines, name):
     """Of the lines of a text of version 1 that the program has taken."""
     try:
-        return Cutter().read(marks(lines))
+        return code_of(Marks(lines))
     except (IndexError, ValueError) as wrong:
         raise Fault("%s is no text of version 1" % name) from wrong

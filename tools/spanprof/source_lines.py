@@ -37,18 +37,6 @@ def line_of(words) -> Optional[Line]:
     return Line(found[1], int(found[2])) if found else None
 
 
-def ends_by_segment(code, at=None):
-    """Of each segment where the construct stands that ends it; nothing for the last of a task. `at` may say otherwise
-    of each segment where the construct stands that it follows."""
-    out, running = [""] * len(code), {}
-    for s, (number, task) in enumerate(zip(code.of, code.task)):
-        _, _, after, after_place = code.kinds[number]
-        if after:
-            out[running[task]] = at[s] if at else after_place
-        running[task] = s
-    return out
-
-
 def first_code(lines, number, otherwise):
     """The first line of code from one on, counted from 1; `otherwise` where the block ends before, as in a loop."""
     for here in range(number, min(len(lines), number + LONGEST) + 1):
@@ -111,7 +99,7 @@ def stretch_of(place, segments, ends, lines=()):
 
 def stretches(answers, places, sources):
     """By the names of the places."""
-    ends, out = ends_by_segment(answers.code), {}
+    ends, out = answers.code.ends, {}
     for place in places:
         begin = line_of(place.name)
         if begin:

@@ -6,13 +6,11 @@ import re
 from dataclasses import dataclass
 from functools import lru_cache
 from itertools import islice
-from typing import Iterable, Iterator, NamedTuple, Tuple
+from typing import NamedTuple, Tuple
 
 DIVIDER = "---"
 HEADER = "omptasks"
 BLOCKS = ("task", "taskgroup")
-MOST_KNOWN = 100000     # lines whose marks are kept
-LONGEST_KNOWN = 1000    # bytes of such a line
 OF_A_THREAD = "one of the region's threads"     # as the recorder names a task that stands for a thread's own code
 BARRIER = "barrier of the region"   # a group of such tasks, in whose end their threads meet; in the program it is none
 BEGINNING = "the beginning"     # the code before all constructs
@@ -22,7 +20,6 @@ CALLED_FROM = " called from "   # behind a task's place, where several paths of 
 TOKEN = re.compile(r"[A-Za-z0-9_]+|[^\sA-Za-z0-9_]")
 DEPEND = re.compile(r"depend\((\w+):([^)]*)\)")
 UNDEFERRED = re.compile(r"if\(0+\)")
-WHOLE = re.compile(r"[ \t]*(?:(work) (\d+)|(taskwait|\})|(taskgroup|task)( [\w(): ,]*)?\{)[ \t]*(?:#(.*))?\s*")
 
 
 @dataclass
@@ -120,43 +117,6 @@ def named(kind, comment):
     return "%s at %s" % (kind, comment) if comment else "a " + kind
 
 
-@lru_cache(maxsize=None)
-def place_name(is_root, task_place, after="", after_place=""):
-    """As reports name it."""
-    return Segment(0 if is_root else 1, task_place, after, after_place).place()
-
-
-class Naming:
-    """The name of the running segment, which is always the one that began last, and what the open blocks are."""
-
-    def __init__(self):
-        self.place = place_name(True, "")
-        self.blocks = []
-
-    def go_on(self, after, comment):
-        self.place = place_name(False, "", after, comment)
-
-    def begin(self, kind, comment):
-        self.blocks.append((kind, comment))
-        if kind == "task":
-            self.place = place_name(False, comment)
-
-    def pass_construct(self, kind, comment):
-        if kind == "taskwait":
-            self.go_on(kind, comment)
-        else:
-            self.begin(kind, comment)
-
-    def end(self):
-        kind, comment = self.blocks.pop()
-        self.go_on("creating a task" if kind == "task" else kind, comment)
-        return kind
-
-
-ENDS = {kind: Statement("end", of=kind) for kind in BLOCKS}
-
-
-@lru_cache(maxsize=1 << 16)
 def construct(kind, code, comment):
     """Of a word, and what stands with it: the clauses up to the body."""
     if kind == "task" and code:
@@ -164,84 +124,6 @@ def construct(kind, code, comment):
         return Statement(kind, named(kind, comment), is_undeferred=bool(UNDEFERRED.search(code)), items=items,
                          comment=comment)
     return Statement(kind, named(kind, comment), comment=comment)
-
-
-def is_whole(words):
-    """Whether these are all words of a statement, or of the header."""
-    if words[0] in BLOCKS:
-        return words[-1] == "{"
-    return len(words) == (2 if words[0] in ("work", HEADER) else 1)
-
-
-def marks_in(line, words):
-    """The marks that end in a line; `words` has those of a statement that begins before it, or goes on behind it."""
-    for word, comment in words_of(line):
-        words.append(word)
-        if is_whole(words):
-            if words[0] != HEADER:
-                yield words[0], "".join(words[1:]).rstrip("{"), comment
-            words.clear()
-
-
-def whole_marks(line):
-    """The marks of a line, where statements begin and end with it; else nothing."""
-    whole = WHOLE.fullmatch(line)
-    if whole:
-        work, cost, single, block, code, comment = whole.groups("")
-        return ((work or single or block, cost or code.replace(" ", ""), comment.strip()),)
-    words = []
-    found = tuple(marks_in(line, words))
-    return None if words else found
-
-
-def of_barriers(found):
-    """The marks, where a group of the code of a region's threads has a comment that says so."""
-    group = None
-    for one in found:
-        if group:
-            is_barrier = one[0] == "task" and one[2].startswith(OF_A_THREAD) and not group[2].startswith(BARRIER)
-            yield (*group[:2], BARRIER + (" at " + group[2]) * bool(group[2])) if is_barrier else group
-        group = one if one[0] == "taskgroup" else None
-        if not group:
-            yield one
-    if group:
-        yield group
-
-
-def marks(lines: Iterable[str]) -> Iterator[Tuple[str, str, str]]:
-    """Of each statement of a text that spanprof has taken its word, what stands between that and its body, and the
-    comment of its line."""
-    return of_barriers(marks_as_written(lines))
-
-
-def marks_as_written(lines):
-    """Most lines of a recording stand there many times, and are read once."""
-    known, words = {}, []
-    for line in lines:
-        code = line.strip()
-        found = None if words else known.get(code)
-        if found is None:
-            if code == DIVIDER:
-                return
-            found = None if words or len(code) > LONGEST_KNOWN else whole_marks(code)
-            if found is None:
-                found = marks_in(code, words)
-            elif len(known) < MOST_KNOWN:
-                known[code] = found
-        yield from found
-
-
-def statements(lines: Iterable[str]) -> Iterator[Statement]:
-    """Of the lines of a text that spanprof has taken."""
-    naming = Naming()
-    for word, code, comment in marks(lines):
-        if word == "work":
-            yield Statement(word, naming.place, int(code))
-        elif word == "}":
-            yield ENDS[naming.end()]
-        else:
-            naming.pass_construct(word, comment)
-            yield construct(word, code, comment)
 
 
 def clauses(task):

@@ -34,15 +34,16 @@ class TextFile:
 
     def lines(self):
         """Of the text with its ends of lines."""
-        with open(self.path, encoding="utf-8", errors="replace", newline="\n") as file:
-            for line in file:
-                if line.startswith(DIVIDER) and line.rstrip() == DIVIDER:
-                    return
-                yield line
+        if self.is_cut():
+            yield from str(self).splitlines(True)
+        else:
+            with open(self.path, encoding="utf-8", errors="replace", newline="\n") as file:
+                yield from file
 
     def has_loops(self):
         """By the header, which is looked for among the first lines."""
-        return has_loops("".join(islice(self.lines(), LINES_OF_A_HEAD)))
+        with open(self.path, encoding="utf-8", errors="replace", newline="\n") as file:
+            return has_loops("".join(islice(file, LINES_OF_A_HEAD)))
 
     @contextmanager
     def opened(self):

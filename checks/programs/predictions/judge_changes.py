@@ -22,7 +22,8 @@ from spanprof.predict.estimate import GNU, LLVM, estimate
 from spanprof.predict.interval import CHANGED, WIDTHS
 from spanprof.predict.machine import read_machine
 from spanprof.predict.recorded import recorded_as
-from spanprof.text import statements, text_lines
+from spanprof.marks import statements
+from spanprof.text import text_lines
 from spanprof.whatif.creating import costs_for
 from spanprof.whatif.requests import Request, applied, changes
 from spanprof.whatif.survey import survey

@@ -1,6 +1,7 @@
 """What is known of one recorded run, as plain data: everything else of a diagnosis is made of it."""
 import re
 import statistics
+from array import array
 from collections import Counter
 from dataclasses import dataclass, field, replace
 from typing import Dict, List, Optional
@@ -9,11 +10,12 @@ from spanprof.account import account_of
 from spanprof.account_program import NoAccount
 from spanprof.diagnosis.calls import Sampled, calls_of, plain
 from spanprof.diagnosis.lock_times import locks_of
-from spanprof.diagnosis.places import A_START, AROUND_REGIONS, in_text, read_program
+from spanprof.diagnosis.places import A_START, AROUND_REGIONS, in_text, read_places
 from spanprof.head import head_of
 from spanprof.idle import idle_by_place, most_at_once
 from spanprof.recording import document
 from spanprof.regions import program_of, union
+from spanprof.segment_table import read_code
 from spanprof.text_file import TextFile
 from spanprof.whatif.numbers import numbers_of
 
@@ -157,26 +159,24 @@ def off_by_segment(path, head):
         return {segment: (slept, preempted) for segment, slept, preempted in (map(int, line.split()) for line in file)}
 
 
-def set_off(facts, off, program, head):
-    """By place. Costs by the wall clock have the time in which a thread was preempted, and lose it here."""
-    lost = {}
+def set_off(facts, off, program):
+    """By place."""
     for segment, (slept, preempted) in off.items():
-        if segment < len(program.names):
-            name = program.names[segment]
-            facts.asleep_by[name] = facts.asleep_by.get(name, 0) + slept
-            facts.preempted_by[name] = facts.preempted_by.get(name, 0) + preempted
-            lost[segment] = preempted
-    if head.clock != "cpu" and any(lost.values()):
-        set_costs(facts.places, program, head.nanoseconds or 1, lost)
+        name = program.kinds[program.code.of[segment]]
+        facts.asleep_by[name] = facts.asleep_by.get(name, 0) + slept
+        facts.preempted_by[name] = facts.preempted_by.get(name, 0) + preempted
 
 
-def set_costs(places, program, unit, lost):
-    """In nanoseconds, without what segments lost."""
-    for place in places.values():
-        place.cost = place.largest = place.longest = 0
-        place.phase = (0, 0)
-    for segment, (name, cost, phase) in enumerate(zip(program.names, program.costs, program.phases)):
-        places[name].add(max(0, cost * unit - lost.get(segment, 0)), phase)
+def costs_of(code, off, head):
+    """In nanoseconds. Those by the wall clock have the time in which a thread was preempted, and lose it here."""
+    unit = head.nanoseconds or 1
+    costs = code.cost if unit == 1 else array("Q", (cost * unit for cost in code.cost))
+    if head.clock == "cpu" or not any(preempted for _, preempted in off.values()):
+        return costs
+    costs = costs[:]
+    for segment, (_, preempted) in off.items():
+        costs[segment] = max(0, costs[segment] - preempted)
+    return costs
 
 
 def runtime_name(runtime):
@@ -219,31 +219,27 @@ def of_text(head, program, numbers):
     facts = Facts(program=head.program, whole=bool(head.whole), threads=threads, elapsed=(head.elapsed or 0) * unit,
                   work=numbers.work * unit, span=numbers.span * unit,
                   greedy=(numbers.on[threads].bound if end is None else end) * unit,
-                  tasks=program.tasks - head.pieces - head.parts, places=program.places,
+                  tasks=max(program.code.task) - head.pieces - head.parts, places=program.places,
                   functions={at: function_in(words) for at, words in head.functions.items()})
     facts.coverage = head.covered / head.thread_time if head.covered and head.thread_time else None
     facts.is_of_gcc = any(remark.name == OF_GCC for remark in head.remarks)
-    mark_places(facts, head, unit)
+    if any(remark.name == EXCLUDING for remark in head.remarks):
+        for place in facts.places.values():
+            place.exclusive = place.inoutset
     return facts
-
-
-def mark_places(facts, head, unit):
-    """Costs in nanoseconds, and which tasks exclude each other: the text has inoutset for these."""
-    is_excluding = any(remark.name == EXCLUDING for remark in head.remarks)
-    for place in facts.places.values():
-        place.cost, place.largest, place.longest = place.cost * unit, place.largest * unit, place.longest * unit
-        place.exclusive = place.inoutset if is_excluding else 0
 
 
 def facts_of(recording):
     """Of a recording's folder, or of a plain text with what lies beside it."""
     path, meta = recording.text, recording.meta
-    program, head = read_program(TextFile(path).lines()), head_of(path)
-    numbers = numbers_of(TextFile(path), [head.threads or 1])
+    code, head = read_code(TextFile(path).lines(), path), head_of(path)
+    off = {segment: times for segment, times in off_by_segment(recording.file("off"), head).items()
+           if segment < len(code)}
+    program, numbers = read_places(code, costs_of(code, off, head)), numbers_of(TextFile(path), [head.threads or 1])
     facts = of_text(head, program, numbers)
     set_meta(facts, meta)
     facts.locks, facts.regions = locks_of(recording.file("locks"), head), regions_of(path)
-    set_off(facts, off_by_segment(recording.file("off"), head), program, head)
+    set_off(facts, off, program)
     facts.calls = calls_of(recording.file("calls"), program.names)
     try:
         set_breakdown(facts, account_of(head, numbers.work, document(recording), program.names))

@@ -1,11 +1,13 @@
 """The places of a program's code: of each what it cost, what kind of code it is, and which lines it has."""
-from collections import Counter
+from array import array
+from collections import Counter, defaultdict
 from dataclasses import dataclass, field
+from functools import cached_property
 from typing import List, Tuple
 
-from spanprof.segment_table import Cutter
-from spanprof.source_lines import ends_by_segment, line_of
-from spanprof.text import BARRIER, OF_A_THREAD, is_share, named, statements, where
+from spanprof.segment_table import Code
+from spanprof.source_lines import line_of
+from spanprof.text import BARRIER, OF_A_THREAD, construct, is_share, named
 
 SERIAL, OF_THREADS, TASK, SHARE = "serial", "of threads", "task", "share"
 AFTER_REGION = "after the " + BARRIER
@@ -16,7 +18,7 @@ AROUND_REGIONS = (OWN, AFTER_REGION)
 
 @dataclass
 class Place:
-    """`name` is that of reports and of changes. Costs are in the text's unit."""
+    """`name` is that of reports and of changes."""
     name: str
     kind: str = TASK
     at: str = ""            # the construct that it follows, such as `sort.c:9`
@@ -24,8 +26,7 @@ class Place:
     cost: int = 0
     pieces: int = 0
     largest: int = 0        # the cost of one piece
-    longest: int = 0        # the cost of the largest pieces, one of each phase of a region
-    phase: Tuple[int, int] = (0, 0)     # the last one, and its largest piece
+    longest: int = 0        # of a thread's own code: the cost of the largest pieces, one of each phase of the region
     tasks: int = 0          # that begin with it
     undeferred: int = 0     # of these
     inoutset: int = 0       # of these, with such an item
@@ -33,11 +34,24 @@ class Place:
     items: Counter = field(default_factory=Counter)     # depend items of these tasks, by type and name
     positions: dict = field(default_factory=dict)       # of an item: its place among those of its type in a task
 
-    def add(self, cost, phase):
-        """One more piece: those of one phase of a region run at once."""
-        before = self.phase[1] if self.phase[0] == phase else 0
-        self.cost, self.largest = self.cost + cost, max(self.largest, cost)
-        self.longest, self.phase = self.longest + max(0, cost - before), (phase, max(before, cost))
+    def add(self, costs, at, end):
+        """More pieces, which begin and end at these constructs."""
+        most = max(costs)
+        if most >= self.largest:
+            self.at, self.largest = at, most
+        self.pieces, self.cost = self.pieces + len(costs), self.cost + sum(costs)
+        self.ends[end] += sum(costs)
+
+    def add_tasks(self, number, clauses):
+        """As many tasks that have these clauses."""
+        task = construct("task", clauses, "")
+        self.undeferred += number * task.is_undeferred
+        self.inoutset += number * any(kind == "inoutset" for kind, _ in task.items)
+        met = Counter()
+        for item in task.items:
+            self.items[item] += number
+            self.positions.setdefault(item, met[item[0]])
+            met[item[0]] += 1
 
     @property
     def last_end(self):
@@ -54,89 +68,13 @@ class Place:
         return self.name.startswith(("after creating", "starting"))
 
 
-class Walker(Cutter):
-    """Cuts a text into segments, and tells of each task its depend items, and of each segment the kind of its code."""
-
-    def __init__(self):
-        super().__init__()
-        self.groups = []            # the places of the open groups
-        self.closed = ""           # that of the last group that was closed
-        self.kinds, self.at, self.phases = [SERIAL], [""], [0]
-        self.open, self.begun = [0], 0      # the numbers of the open groups, and of the last that began
-        self.of_task = {}           # the statement of each task
-        self.last = None
-
-    def kind(self):
-        task_place = self.running[-1][1]
-        if is_share(task_place):
-            return SHARE
-        if task_place.startswith(OF_A_THREAD):
-            return OF_THREADS
-        return TASK if self.running[-1][0] else SERIAL
-
-    def region(self):
-        """Where the innermost region is that has begun."""
-        return next(filter(None, reversed(self.groups)), self.closed)
-
-    def take(self, one):
-        self.last = one
-        if one.kind == "taskgroup":
-            self.groups.append(where(one.name))
-            self.begun += 1
-            self.open.append(self.begun)
-        super().take(one)
-
-    def begin(self, kind, comment):
-        super().begin(kind, comment)
-        if kind == "task":
-            self.of_task[self.tasks] = self.last
-
-    def end(self):
-        if self.blocks[-1][0] == "taskgroup":
-            self.closed = self.groups.pop()
-            self.open.pop()
-        super().end()
-
-    def go_on(self, after, comment):
-        super().go_on(after, comment)
-        at = comment if after else self.running[-1][1]
-        self.kinds.append(self.kind())
-        self.at.append(self.region() if at.startswith((OF_A_THREAD, BARRIER)) else at)
-        self.phases.append(self.open[-1])
-
-
-@dataclass
-class Program:
-    """The segments of a text, and its places by their names."""
-    names: List[str]                # of each segment's place
-    costs: List[int]
-    phases: List[int]
-    tasks: int
-    places: dict
-
-
-def add_task(place, task):
-    place.tasks += 1
-    place.undeferred += task.is_undeferred
-    if not task.items:
-        return
-    place.inoutset += any(kind == "inoutset" for kind, _ in task.items)
-    place.items.update(task.items)
-    met = Counter()
-    for item in task.items:
-        place.positions.setdefault(item, met[item[0]])
-        met[item[0]] += 1
-
-
-def add_segment(place, walker, number, end):
-    segment = walker.code[number]
-    place.pieces += 1
-    if segment.cost >= place.largest:
-        place.at = walker.at[number]
-    place.add(segment.cost, walker.phases[number])
-    place.ends[end] += segment.cost
-    if not segment.after and segment.task:
-        add_task(place, walker.of_task[segment.task])
+def kind_of(kind):
+    """Of the code of segments of a kind."""
+    if is_share(kind.task_place):
+        return SHARE
+    if kind.task_place.startswith(OF_A_THREAD):
+        return OF_THREADS
+    return SERIAL if kind.is_root else TASK
 
 
 def in_text(name):
@@ -144,21 +82,57 @@ def in_text(name):
     return OWN if name.startswith(OWN) else name
 
 
-def names_of(code, at):
-    """Of the segments' places; those of threads' own code have their regions too."""
-    return ["%s at %s" % (OWN, region) if name == OWN and region else name for name, region in zip(code.places, at)]
+@dataclass
+class Program:
+    """The segments of a text, their costs in nanoseconds, and its places by their names."""
+    code: Code
+    costs: array
+    kinds: List[str]                # the names of the places of the segments' kinds
+    places: dict
+
+    @cached_property
+    def names(self):
+        """Of each segment's place."""
+        return [self.kinds[number] for number in self.code.of]
 
 
-def read_program(lines):
-    """Of the lines of a text of version 1."""
-    walker = Walker()
-    for one in statements(lines):
-        walker.take(one)
-    names, ends, places = names_of(walker.code, walker.at), ends_by_segment(walker.code, walker.at), {}
-    for number, name in enumerate(names):
-        place = places.setdefault(name, Place(name, walker.kinds[number]))
-        add_segment(place, walker, number, ends[number])
-    return Program(names, list(walker.code.cost), walker.phases, walker.tasks, places)
+def pieces_of(code, costs):
+    """The costs of the segments by the kinds of each and of the next one, which tells what ends it."""
+    found = defaultdict(lambda: array("Q"))
+    following = code.of[1:]
+    following.append(0)
+    for pair, cost in zip(zip(code.of, following), costs):
+        found[pair].append(cost)
+    return found
+
+
+def longest_of(program):
+    """Of a thread's own code, by place, the largest pieces of the phases of a region, which run at once."""
+    largest, out = {}, Counter()
+    for segment, group in zip(program.code.own, program.code.groups):
+        phase = program.kinds[program.code.of[segment]], group
+        largest[phase] = max(largest.get(phase, 0), program.costs[segment])
+    for (name, _), cost in largest.items():
+        out[name] += cost
+    return out
+
+
+def read_places(code, costs):
+    """A program with these costs of its segments. Those of threads' own code have their regions in their names."""
+    names = ["%s at %s" % (OWN, kind.region) if name == OWN and kind.region else name
+             for name, kind in zip(code.names, code.kinds)]
+    program = Program(code, costs, names, {})
+    for (number, following), pieces in pieces_of(code, costs).items():
+        kind = code.kinds[number]
+        place = program.places.setdefault(names[number], Place(names[number], kind_of(kind)))
+        place.add(pieces, kind.begin, code.kinds[following].end)
+        place.tasks += len(pieces) * (not kind.is_root and not kind.after)
+    for number, clauses, count in code.clauses:
+        if number is not None:      # a thread's own code has none
+            program.places[names[number]].add_tasks(count, clauses)
+    for name, cost in longest_of(program).items():
+        program.places[name].longest = cost
+    return program
 
 
 def lines_between(place) -> Tuple[str, int, int]:

@@ -6,8 +6,8 @@ recorded. A steal hangs on the schedule and stands in no text.
 import json
 
 from spanprof.head import comments
-from spanprof.segment_table import Cutter
-from spanprof.text import Statement, statements, text_lines
+from spanprof.marks import statements
+from spanprof.text import Statement, text_lines
 
 KEPT = ("recorded: {", "region: ", "place: ")  # lines of the head
 
@@ -23,15 +23,13 @@ def burdened(program, costs, dispatch):
 
 def with_costs(stream, costs):
     """The statements of a text, where segment s costs `costs[s]`."""
-    cutter = Cutter()
-    yield Statement("work", cost=costs[0])
+    left = iter(costs)
+    yield Statement("work", cost=next(left))
     for one in stream:
-        if one.kind == "work":
-            continue
-        yield one
-        cutter.take(one)
-        if one.kind != "taskgroup":
-            yield Statement("work", cost=costs[cutter.current])
+        if one.kind != "work":
+            yield one
+        if one.kind not in ("work", "taskgroup"):
+            yield Statement("work", cost=next(left))
 
 
 def in_nanoseconds(line):

@@ -2,8 +2,8 @@
 from dataclasses import dataclass, field
 from typing import List, Tuple
 
-from spanprof.segment_table import Cutter
-from spanprof.text import statements
+from spanprof.segment_table import code_of
+from spanprof.marks import Marks, statements_of
 
 WORK, CREATE, WAIT, BEGIN, END = range(5)
 
@@ -67,7 +67,7 @@ class Builder:
     """Builds a program statement by statement."""
 
     def __init__(self):
-        self.cutter, self.depends = Cutter(), Depends()
+        self.segment, self.depends = 0, Depends()
         self.tasks = [Task(-1, 0, "", steps=[(WORK, 0)])]
         self.open_tasks, self.open_groups, self.blocks, self.groups = [0], [], [], 0
 
@@ -86,9 +86,9 @@ class Builder:
             self.step(WAIT)
         elif one.kind == "end":
             self.end()
-        self.cutter.take(one)
         if one.kind not in ("work", "taskgroup"):
-            self.step(WORK, self.cutter.current)
+            self.segment += 1
+            self.step(WORK, self.segment)
 
     def begin_task(self, one):
         parent, number = self.open_tasks[-1], len(self.tasks)
@@ -109,14 +109,11 @@ class Builder:
         else:
             self.step(END, self.open_groups.pop())
 
-    def built(self):
-        code = self.cutter.code
-        return Program(self.tasks, list(code.cost), list(code.places), list(code.task), self.groups)
-
 
 def read_program(text):
     """Of a text of version 1 that spanprof has taken."""
-    builder = Builder()
-    for one in statements(text.split("\n")):
+    marks, builder = Marks(text.split("\n")), Builder()
+    for one in statements_of(marks):
         builder.take(one)
-    return builder.built()
+    code = code_of(marks)
+    return Program(builder.tasks, list(code.cost), list(code.places), list(code.task), builder.groups)

@@ -12,7 +12,8 @@ from spanprof.predict.program import Program, read_program
 from spanprof.recording import beside
 from spanprof.predict.times import rows_of, times_of
 from spanprof.segment_table import read_code
-from spanprof.text import DIVIDER, has_loops, statements, text_lines
+from spanprof.marks import statements
+from spanprof.text import DIVIDER, has_loops, text_lines
 
 
 @dataclass

@@ -33,15 +33,15 @@ def numbered(places, order):
 
 def places(answers):
     """By their part of the span, then of the work."""
-    code, rows, found = answers.code, answers.rows, {}
+    code, found = answers.code, {}
     of_kind = [found.setdefault(name, Place(name)) for name in code.names]
-    for s, (kind, cost) in enumerate(zip(code.of, rows.cost)):
+    for s, (kind, cost) in enumerate(zip(code.of, code.cost)):
         place = of_kind[kind]
         place.segments.append(s)
         place.cost += cost
     for s in answers.path_segments:
         place = of_kind[code.of[s]]
-        place.critical_cost += rows.cost[s]
+        place.critical_cost += code.cost[s]
         place.critical_segments += 1
     return numbered(found.values(), lambda place: (-place.critical_cost, -place.cost, place.name))
 

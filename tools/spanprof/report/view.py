@@ -43,8 +43,8 @@ class View:
         self.figures = Figures(prefix, self.units)
         here = [os.path.dirname(os.path.abspath(folder_of(path) or path)), os.getcwd()]
         self.sources = Sources(source or here)
+        self.task_places = task_places(self.answers)    # before the places: these take the path of its rows
         self.places = places(self.answers)
-        self.task_places = task_places(self.answers)
         self.run = None
         if not self.is_long and self.account and self.account.rows:
             rows, unit = self.account.rows, self.answers.head.nanoseconds

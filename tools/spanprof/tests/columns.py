@@ -1,6 +1,6 @@
 """Columns as answers have them, of what tests list one by one."""
 from spanprof.answers import Rows
-from spanprof.segment_table import Code, read_code
+from spanprof.segment_table import Code, Kind, read_code
 
 
 def segments_of(text):
@@ -11,8 +11,9 @@ def segments_of(text):
 def code_of(segments):
     out = Code()
     for one in segments:
-        out.add(one.task, one.task_place, one.after, one.after_place)
-        out.cost[-1] = one.cost
+        out.of.append(out.number(Kind(not one.task, one.task_place, one.after, one.after_place)))
+        out.task.append(one.task)
+        out.cost.append(one.cost)
     return out
 
 

@@ -47,7 +47,7 @@ class Asked(unittest.TestCase):
 
     def test_rows_of_another_run(self):
         found = self.account(answers())
-        found.rows[3].begin = 11
+        found.rows[3] = found.rows[3]._replace(begin=11)
         with self.assertRaisesRegex(AssertionError, "the rows have other sums"):
             print(found.delayed_by)
 

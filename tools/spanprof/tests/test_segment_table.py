@@ -1,8 +1,7 @@
 import unittest
 
 from spanprof.errors import Fault
-from spanprof.segment_table import Cutter, read_code
-from spanprof.text import statements
+from spanprof.segment_table import read_code
 
 TEXT = """omptasks 1
 work 7
@@ -30,12 +29,6 @@ class OfAText(unittest.TestCase):
             "code of one of the region's threads", "starting one of the region's threads",
             "after the barrier of the region at a.c:8"])
         self.assertEqual((list(code.firsts()), code.parts()), ([0, 1, 4], 1))
-
-    def test_statement_by_statement(self):
-        cutter, lines = Cutter(), TEXT.splitlines(True)
-        for one in statements(lines):
-            cutter.take(one)
-        self.assertEqual((list(cutter.code), cutter.current), (list(read_code(lines, "a.tasks")), 6))
 
     def test_what_is_no_text(self):
         for text in ("omptasks 1\n}\n", "omptasks 2\nfor i 1 2 { }\n", "omptasks 1\nwork x\n"):

@@ -1,6 +1,6 @@
 import unittest
 
-from spanprof.source_lines import Stretch, after_directive, ends_by_segment, line_of, statement_end, stretch_of
+from spanprof.source_lines import Stretch, after_directive, line_of, statement_end, stretch_of
 from spanprof.tests.columns import code_of
 from spanprof.text import Segment
 
@@ -20,10 +20,10 @@ class Lines(unittest.TestCase):
         self.assertIsNone(line_of(""))
 
     def test_where_segments_end(self):
-        self.assertEqual(ends_by_segment(CODE), ["a.c:5", "", "a.c:9", ""])
+        self.assertEqual(CODE.ends, ["a.c:5", "", "a.c:9", ""])
 
     def test_from_the_place_to_the_end(self):
-        ends = ends_by_segment(CODE)
+        ends = CODE.ends
         self.assertEqual(stretch_of("after creating a task at a.c:5", [2], ends), Stretch("a.c", 5, 9))
         self.assertEqual(stretch_of("task at a.c:5", [1], ends), Stretch("a.c", 5, 5))
         self.assertIsNone(stretch_of("the beginning", [0], ends))
@@ -33,7 +33,7 @@ class Lines(unittest.TestCase):
         self.assertEqual(stretch_of("after x at a.c:9", [0], ["b.c:12"]), Stretch("a.c", 9, 9))
 
     def test_in_the_file(self):
-        ends = ends_by_segment(CODE)
+        ends = CODE.ends
         self.assertEqual(stretch_of("task at a.c:5", [1], ends, FILE), Stretch("a.c", 6, 6))
         self.assertEqual(stretch_of("after creating a task at a.c:5", [2], ends, FILE), Stretch("a.c", 7, 9))
         self.assertEqual(stretch_of("after taskgroup at a.c:2", [0], ["a.c:5"], FILE), Stretch("a.c", 9, 9))

@@ -5,7 +5,8 @@ from collections import Counter
 
 from spanprof import folders
 from spanprof.tests.columns import segments_of
-from spanprof.text import LONGEST_KNOWN, Statement, is_programs, marks, statements, text_lines, where
+from spanprof.marks import LONGEST_KNOWN, Marks, statements
+from spanprof.text import Statement, is_programs, text_lines, where
 from spanprof.whatif.tests.made_up import ROW, SORT, changed, read
 
 LOOP = "taskgroup {  # the loop at a.c:5\n task {  # turns of the loop at a.c:5\n  work 1\n }\n work 2\n}\nwork 3\n"
@@ -89,19 +90,19 @@ class Reading(unittest.TestCase):
         task = ("task", "if(0)depend(in:a,b)", "a.c:3")
         for layout in ("task if(0) depend(in: a, b) { # a.c:3\n} taskwait\n",
                        "task if(0)\n depend(in: a,\nb){#a.c:3\n\t}\n taskwait\n"):
-            found = list(marks(("omptasks 1\n" + 2 * layout).splitlines(True)))
+            found = list(Marks(("omptasks 1\n" + 2 * layout).splitlines(True)))
             self.assertEqual([one for one in found if one[0] != "}"], 2 * [task, ("taskwait", "", "")])
             self.assertEqual(len(found), 6)
-        self.assertEqual(list(marks(["omptasks 1 work 2 taskwait work # 3\n", "4 # 5"])),
-                         [("work", "2", "3"), ("taskwait", "", "3"), ("work", "4", "5")])
+        self.assertEqual(list(Marks(["omptasks 1 work 2 taskwait work # 3\n", "4 # 5"])),
+                         [("work", "2", ""), ("taskwait", "", "3"), ("work", "4", "")])
 
     def test_the_same_line_between_the_words_of_a_statement(self):
         lines = ["omptasks 1\n", "taskwait\n", "task depend(in: \n", "taskwait\n", ") {\n", "}\n", "taskwait\n"]
-        self.assertEqual([word for word, _, _ in marks(lines)], ["taskwait", "task", "}", "taskwait"])
+        self.assertEqual([word for word, _, _ in Marks(lines)], ["taskwait", "task", "}", "taskwait"])
 
     def test_long_lines(self):
         line = "work 1 task { } " * LONGEST_KNOWN
-        self.assertEqual(len(list(marks(["omptasks 1 " + line, line]))), 6 * LONGEST_KNOWN)
+        self.assertEqual(len(list(Marks(["omptasks 1 " + line, line]))), 6 * LONGEST_KNOWN)
 
     def test_costs_by_place_are_those_of_the_reports(self):
         paths = glob.glob(os.path.join(RECORDED, "*.tasks"))

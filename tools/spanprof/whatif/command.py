@@ -8,7 +8,8 @@ from spanprof.command import Console, check_files, count, end_with
 from spanprof.errors import Fault
 from spanprof.predict.predictions import changed_told
 from spanprof.recording import text_of
-from spanprof.text import statements, text_lines
+from spanprof.marks import statements
+from spanprof.text import text_lines
 from spanprof.text_file import TextFile
 from spanprof.version import Version
 from spanprof.whatif import advice

@@ -5,7 +5,8 @@ from spanprof import client
 from spanprof.command import naming
 from spanprof.head import head_text, read_head
 from spanprof.remarks import in_json
-from spanprof.text import statements, text_lines
+from spanprof.marks import statements
+from spanprof.text import text_lines
 from spanprof.text_file import TextFile
 
 ENCODING = {"encoding": "utf-8", "errors": "replace", "newline": "\n"}

@@ -9,7 +9,7 @@ from spanprof.diagnosis.places import SERIAL
 from spanprof.diagnosis.tests.worked import TEXT, facts, place, program
 from spanprof.errors import Fault
 from spanprof.head import read_head
-from spanprof.text import statements
+from spanprof.marks import statements
 from spanprof.whatif.numbers import OnThreads
 from spanprof.whatif.requests import Request
 from spanprof.whatif.survey import survey

@@ -6,8 +6,8 @@ from types import SimpleNamespace
 
 from spanprof.account import Account, Row
 from spanprof.diagnosis import facts as module
-from spanprof.diagnosis.facts import (Facts, elapsed_in, function_in, of_those_at_once, off_by_segment, regions_of,
-                                      runtime_name, set_meta, set_off, starting_shares)
+from spanprof.diagnosis.facts import (Facts, costs_of, elapsed_in, function_in, of_those_at_once, off_by_segment,
+                                      regions_of, runtime_name, set_meta, set_off, starting_shares)
 from spanprof.diagnosis.lock_times import Held, locks_of
 from spanprof.diagnosis.places import AFTER_REGION, OWN
 from spanprof.diagnosis.tests.worked import MS, TEXT, facts, program
@@ -29,7 +29,7 @@ NUMBERS = Numbers("spanprof", 9, 132, 80, {2: OnThreads(80, 100, 90)})
 
 class OfText(unittest.TestCase):
     def setUp(self):
-        self.found = module.of_text(read_head(HEAD), program(), NUMBERS)
+        self.found = module.of_text(read_head(HEAD), program(unit=1000), NUMBERS)
 
     def test_times_are_in_nanoseconds(self):
         found = self.found
@@ -38,31 +38,27 @@ class OfText(unittest.TestCase):
         self.assertEqual((found.program, found.threads, found.coverage), ("image", 2, 0.99))
 
     def test_tasks_exclude_each_other_where_a_remark_says_so(self):
-        one = program()
-        one.places["task at image.c:25"].inoutset = 2
-        self.assertEqual(module.of_text(read_head(HEAD), one, NUMBERS).places["task at image.c:25"].exclusive, 2)
-        other = program()
-        other.places["task at image.c:25"].inoutset = 2
-        head = read_head(HEAD.replace("mutexinoutset", "detach"))
-        self.assertEqual(module.of_text(head, other, NUMBERS).places["task at image.c:25"].exclusive, 0)
+        text = TEXT.replace("inout: a0", "inoutset: a0")
+        for remark, exclusive in (("mutexinoutset", 2), ("detach", 0)):
+            found = module.of_text(read_head(HEAD.replace("mutexinoutset", remark)), program(text), NUMBERS)
+            self.assertEqual(found.places["task at image.c:25"].exclusive, exclusive)
 
     def test_without_the_times_of_the_run_the_greedy_run_divides_them(self):
         module.set_by_greedy(self.found)
         self.assertEqual((self.found.code, self.found.starved, self.found.delayed), (132000, 48000, 60000))
 
     def test_costs_have_no_time_in_which_a_thread_was_preempted(self):
-        one, head = program(), read_head(HEAD)
-        set_off(self.found, {4: (1000, 50000), 2: (0, 5000), 99: (1, 1)}, one, head)
-        place = self.found.places["task at image.c:25"]
-        self.assertEqual((place.cost, place.largest), (45000, 35000))
-        self.assertEqual(self.found.preempted_by, {place.name: 55000})
-        self.assertEqual(self.found.asleep_by, {place.name: 1000})
-        self.assertEqual(self.found.places["the beginning"].cost, 10000)
+        off, code = {4: (1000, 50000), 2: (0, 5000)}, program().code
+        costs = costs_of(code, off, read_head(HEAD))
+        self.assertEqual([costs[s] - 1000 * code.cost[s] for s in (2, 3, 4)], [-5000, 0, -50000])
+        self.assertEqual(costs_of(code, {0: (0, 99 * MS)}, read_head(HEAD))[0], 0)
+        cpu = read_head(HEAD.replace('"wall"', '"cpu"'))
+        self.assertEqual(list(costs_of(code, off, cpu)), [1000 * cost for cost in code.cost])
 
-    def test_costs_by_the_clock_of_the_processor_have_none(self):
-        one = program()
-        set_off(self.found, {4: (0, 50000)}, one, read_head(HEAD.replace('"wall"', '"cpu"')))
-        self.assertEqual(self.found.places["task at image.c:25"].cost, 100000)
+    def test_time_off_the_processor_by_place(self):
+        set_off(self.found, {4: (1000, 50000), 2: (0, 5000)}, program())
+        self.assertEqual(self.found.preempted_by, {"task at image.c:25": 55000})
+        self.assertEqual(self.found.asleep_by, {"task at image.c:25": 1000})
 
     def test_names_of_functions(self):
         self.assertEqual(self.found.functions, {"image.c:25": "main"})

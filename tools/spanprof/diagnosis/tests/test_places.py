@@ -1,7 +1,6 @@
 import unittest
 
-from spanprof.diagnosis.places import (OF_THREADS, OWN, SERIAL, SHARE, TASK, Place, in_text, lines_between,
-                                       read_program)
+from spanprof.diagnosis.places import OF_THREADS, OWN, SERIAL, SHARE, TASK, in_text, lines_between
 from spanprof.diagnosis.tests.worked import TEXT, program
 from spanprof.tests.columns import segments_of
 
@@ -23,19 +22,13 @@ class Places(unittest.TestCase):
         self.assertEqual(place.positions[("in", "a2")], 0)
         self.assertEqual(program().places["task at image.c:33"].undeferred, 1)
 
-    def test_the_largest_pieces_of_the_phases_of_a_region(self):
-        place = Place(OWN)
-        for cost, phase in ((5, 1), (7, 1), (6, 1), (4, 3), (2, 3)):
-            place.add(cost, phase)
-        self.assertEqual((place.cost, place.largest, place.longest), (24, 7, 11))
-
     def test_threads_code_has_its_region(self):
         lines = ["omptasks 1\n"]
         for at in ("a.c:3", "a.c:9", "a.c:3"):
             lines += ["taskgroup {  # %s\n" % at, "task {  # one of the region's threads\n", "work 5\n",
                       "taskgroup {\n", "}\n", "}\n", "task {  # one of the region's threads\n", "work 4\n"]
             lines += ["}\n", "}\n"]
-        own = {name: place for name, place in read_program(lines).places.items() if in_text(name) == OWN}
+        own = {name: place for name, place in program("".join(lines)).places.items() if in_text(name) == OWN}
         self.assertEqual({name: (place.cost, place.longest) for name, place in own.items()},
                          {OWN + " at a.c:3": (18, 10), OWN + " at a.c:9": (9, 5)})
 
@@ -47,8 +40,8 @@ class Places(unittest.TestCase):
         self.assertEqual(lines_between(places["after the barrier of the region at image.c:20"]), ("image.c", 20, 0))
 
     def test_turns_of_a_loop_are_a_share(self):
-        found = read_program(["omptasks 1\n", "taskgroup {  # the loop at a.c:3\n",
-                              "task {  # turns of the loop at a.c:3\n", "work 5\n", "}\n", "}\n"])
+        found = program("omptasks 1\ntaskgroup {  # the loop at a.c:3\ntask {  # turns of the loop at a.c:3\n"
+                        "work 5\n}\n}\n")
         self.assertEqual(found.places["turns of the loop at a.c:3"].kind, SHARE)
 
     def test_each_segment_has_a_name_and_a_cost(self):
@@ -56,7 +49,6 @@ class Places(unittest.TestCase):
         self.assertEqual(sum(found.costs), 132)
         self.assertEqual([in_text(name) for name in found.names], [segment.place() for segment in segments_of(TEXT)])
         self.assertEqual(len(found.names), len(found.costs))
-        self.assertEqual(found.tasks, 4)
 
 
 if __name__ == "__main__":

@@ -1,6 +1,9 @@
 """Facts for tests: a run on four threads of 100 ms, whose parts a test sets."""
+from array import array
+
 from spanprof.diagnosis.facts import Facts
-from spanprof.diagnosis.places import TASK, Place, read_program
+from spanprof.diagnosis.places import TASK, Place, read_places
+from spanprof.segment_table import read_code
 
 MS = 1000000
 TEXT = """omptasks 1
@@ -27,8 +30,9 @@ work 4
 """
 
 
-def program():
-    return read_program(TEXT.splitlines(True))
+def program(text=TEXT, unit=1):
+    code = read_code(text.splitlines(True), "the text")
+    return read_places(code, array("Q", (unit * cost for cost in code.cost)))
 
 
 def place(name, kind=TASK, cost=40 * MS, pieces=8, tasks=8, **more):

@@ -76,6 +76,7 @@ class Answers:
     def __post_init__(self):
         self.path = self.name
         self.span_numbers = {"segments": 3, "work": self.work, "span": self.span}
-        self.code = code_of([Segment(0, "", "", ""), Segment(1, "sort.c:9", "", ""), Segment(0, "", "taskwait", "")])
+        self.code = code_of([Segment(0, "", "", "", 20), Segment(1, "sort.c:9", "", "", 30),
+                             Segment(0, "", "taskwait", "", 50)])
         self.rows, self.path_segments, self.is_long = rows_of((20, 30, 50), (0, 2)), [0, 2], False
         self.curve = {p: {"least": max(70, -(-100 // p)), "bound": (100 + (p - 1) * 70) // p} for p in (2, 4, 8, 16)}

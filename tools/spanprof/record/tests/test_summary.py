@@ -1,4 +1,5 @@
 import unittest
+from array import array
 
 from spanprof.head import Lock
 from spanprof.record.summary import other_region, summary
@@ -72,7 +73,7 @@ class Lines(unittest.TestCase):
 
     def test_a_text_without_costs(self):
         answers = Answers(work=0, span=0)
-        answers.rows.cost = [0, 0, 0]
+        answers.code.cost[:] = array("Q", [0, 0, 0])
         answers.curve = {p: {"least": 0, "bound": 0} for p in (2, 4, 8, 16)}
         self.assertIn("parallelism   1.00", "\n".join(summary(answers)))
 

@@ -1,5 +1,6 @@
 """Small texts that the tests change."""
-from spanprof.text import statements, text_lines
+from spanprof.marks import statements
+from spanprof.text import text_lines
 
 SORT = """\
 # recorded: {"program": "sort", "threads": 2, "clock": "cpu", "unit": "us"}

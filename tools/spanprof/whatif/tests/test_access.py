@@ -1,6 +1,7 @@
 import unittest
 
-from spanprof.text import statements, text_lines
+from spanprof.marks import statements
+from spanprof.text import text_lines
 from spanprof.whatif.creating import Costs
 from spanprof.whatif.requests import Request, applied, changes
 from spanprof.whatif.survey import survey
