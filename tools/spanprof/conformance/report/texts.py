@@ -2,6 +2,7 @@
 import json
 from dataclasses import asdict, dataclass, field
 
+from spanprof.conformance.judge.rules import at_stake
 from spanprof.conformance.report import tables
 
 COVERAGE_WORDS = """Of each rule, by number of threads: how often a segment began after a wait by it / how often nothing
@@ -30,7 +31,7 @@ def reproducer(number, found, name):
     failure = found.failure
     conditions = failure.conditions
     lines = [f"### {number}. {failure.verdict.kind}: {failure.rule} ({failure.case.variant} tasks)", "",
-             f"{failure.words}", "",
+             f"{failure.words} At stake: {at_stake(failure.verdict.kind, failure.rule)}.", "",
              f"Found in `{found.origin}`, made smaller in {found.tried} tries. {found.failed} of {found.runs} runs on "
              f"{conditions.threads} threads failed. {found.remark()}".rstrip(), "",
              f"To see it again: `spanprof-conformance shrink {name} --cc .. --tasks {failure.case.variant} "

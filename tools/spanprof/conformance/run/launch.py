@@ -18,6 +18,8 @@ class Log:
     stacks: list = field(default_factory=list)  # of a run that hung, as a debugger's lines
     moments: list = field(default_factory=list)  # of the events, in nanoseconds, where the run was timed
     discarded: list = field(default_factory=list)  # segments of tasks that were discarded, whose events were added
+    wrong: str = ""       # what the program itself saw to be wrong first
+    value: str = ""       # of the first segment with a wrong value: its number, what it computed, and what is right
     turns: list = field(default_factory=list)  # of taskloops: the first segment of one, and of the first of its task
 
 
@@ -59,6 +61,8 @@ def read_logs(text):
             logs[-1].end, logs[-1].detail = ENDS[word], line if word == RUNAWAY else rest
         elif word == "stack" and logs:
             logs[-1].stacks.append(rest)
+        elif word in ("wrong", "value") and logs:
+            setattr(logs[-1], word, rest)
         elif word == "turn" and logs:
             logs[-1].turns.append([int(number) for number in rest.split()])
         elif word in ("start", "finish", "overflow") and logs:

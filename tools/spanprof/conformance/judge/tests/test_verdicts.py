@@ -69,6 +69,14 @@ class Judging(unittest.TestCase):
 
     def test_values(self):
         self.assertEqual(verdict(WHOLE, detail="1").kind, "values")
+        log = Log(0, "plain", [], "done", "1", value="3 26 31")
+        self.assertEqual(Answers(WHOLE).verdict("", RECORD, log).detail,
+                         "segment 3 computed 26, and from what segments 1, 2 left 31 is right")
+
+    def test_what_the_program_saw_comes_before_all_that_follows_from_it(self):
+        log = Log(0, "plain", ["start 0 0"], "done", wrong="iterations of a taskloop: 12 ran, of 1..11")
+        found = Answers((1, "error: event 1: NotReady 0\n")).verdict("", RECORD, log)
+        self.assertEqual(found, Verdict("values", log.wrong))
 
     def test_hung_and_crashed(self):
         self.assertEqual(verdict(WHOLE, end="hung", detail="").kind, "hung")
@@ -86,7 +94,7 @@ class Judging(unittest.TestCase):
         self.assertTrue(self.unordered(whole).accepted)
         self.assertEqual(self.unordered(whole, "1").kind, "values")
         self.assertEqual(self.unordered(whole[:-1]).detail, "finished 3 of 4 segments")
-        self.assertEqual(self.unordered([*whole, "start 0 2"]).detail, "2 times `start 0 2`")
+        self.assertEqual(self.unordered([*whole, "start 0 2"]).detail, "segment 2 began 2 times")
         self.assertEqual(self.unordered(whole[:3], "asleep", "hung"), Verdict("hung", "asleep"))
         self.assertEqual(self.unordered([*whole, "start 0 2"], "busy", "hung").kind, "refused")
 

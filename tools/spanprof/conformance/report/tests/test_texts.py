@@ -2,6 +2,7 @@
 import json
 import unittest
 
+from spanprof.conformance.judge.other_rules import OTHERS
 from spanprof.conformance.report import tables
 from spanprof.conformance.report.texts import Report, as_json, markdown, reproducer
 from spanprof.conformance.run.reproduce import Found
@@ -34,7 +35,7 @@ class Tables(unittest.TestCase):
         self.assertEqual(lines[0], "| rule | construct | 2 threads | 4 threads |")
         self.assertIn("| taskwait | taskwait | 0 / 0 / 2 | 0 / 0 / 2 |", lines)
         self.assertIn("| dependence | out, then in | 0 / 0 / 0 | 0 / 0 / 0 |", lines)
-        self.assertEqual(len(lines), 2 + 6 + 6)
+        self.assertEqual(len(lines), 2 + 6 + 6 + len(OTHERS))
 
     def test_untried(self):
         held, close = tables.untried(results_of(LARGE), set())
