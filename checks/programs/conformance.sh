@@ -54,9 +54,29 @@ test_bisect() {
     ../spanprof-conformance bisect directed/taskwait_child.tasks --cc gcc --threads 2 --runs 4 > "$folder/bisect.txt"
 }
 
+in_c() { # NAME: prints the C file of a directed program, which needs harness/
+    PYTHONPATH=.. python3 -B - "$1" << 'END'
+import os, sys
+from spanprof.conformance.generate.directed import directed_programs
+from spanprof.conformance.judge.cases import Case, Examined
+from spanprof.conformance.judge.verdicts import Judge
+body = dict(directed_programs())[sys.argv[1]]
+print(Examined(Case("", body, "tied", 0), Judge(os.environ["SPANPROF"])).source())
+END
+}
+
+# The one file of a program says what is wrong with a runtime, and nothing of one that is right.
+test_alone() {
+    ../spanprof-conformance emit directed/taskwait_child.tasks > "$folder/alone.c"
+    cc -O1 -Wall -Wextra -Werror -fopenmp "$folder/alone.c" -o "$folder/alone"
+    "$folder/alone" > /dev/null || return 1
+    MUTANT=taskwait-returns LD_PRELOAD=$folder/mutants.so "$folder/alone" > "$folder/alone.txt" && return 1
+    grep -q '^seen: ' "$folder/alone.txt"
+}
+
 # A program does not hang while nobody reads what it writes.
 test_slow_reader() {
-    ../spanprof-conformance emit directed/pressure_waits_long.tasks > "$folder/slow.c"
+    in_c pressure_waits_long > "$folder/slow.c"
     cc -O1 -fopenmp -Iharness "$folder/slow.c" harness/*.c -o "$folder/slow"
     "$folder/slow" 2 4 0 0 5 | (sleep 12; cat) > "$folder/slow.log"
     [ "$(grep -c '^done' "$folder/slow.log")" = 4 ]
@@ -65,9 +85,8 @@ test_slow_reader() {
 # A run in which all threads sleep takes a third of its time to hang.
 test_asleep() {
     local begun
-    ../spanprof-conformance emit directed/taskwait_at_each_level.tasks > "$folder/asleep.c"
+    in_c taskwait_at_each_level > "$folder/asleep.c"
     cc -O1 -fopenmp -Iharness "$folder/asleep.c" harness/*.c -o "$folder/asleep"
-    cc -O1 -fPIC -shared mutants/gomp.c -o "$folder/mutants.so" -ldl
     begun=$SECONDS
     MUTANT=hang LD_PRELOAD=$folder/mutants.so "$folder/asleep" 2 9 0 0 30 > "$folder/asleep.log" || true
     grep -q '^hung asleep$' "$folder/asleep.log" && ((SECONDS - begun < 25))
@@ -87,6 +106,8 @@ test_futures -DDONE_TOO_EARLY && fail "the broken pool of threads is accepted"
 grep -q '^run 0: refused: ' "$folder/judged.txt" || fail "the broken pool of threads is not refused"
 test_parts || fail "the report of two parts is not that of the whole"
 test_slow_reader || fail "a program hangs while nobody reads"
+cc -O1 -fPIC -shared mutants/gomp.c -o "$folder/mutants.so" -ldl
+test_alone || fail "the one file of a program"
 test_asleep || fail "a run in which all threads sleep does not hang soon"
 test_bisect || fail "a program that is fine fails for git bisect"
 [ -n "$short" ] || ../../checks/programs/conformance_resumed.py || fail "a campaign does not go on"

@@ -11,7 +11,7 @@ from spanprof.conformance.run import gcov, self_checking
 from spanprof.conformance.run.bisect import UNTESTABLE, sample
 from spanprof.conformance.run.built import built_in
 from spanprof.conformance.run.campaign import cases_of, directed_cases, random_cases, run_cases, self_checking_cases
-from spanprof.conformance.judge.cases import Bench, Case
+from spanprof.conformance.emit.alone import Alone
 from spanprof.conformance.generate.directed import directed_programs, first_comment
 from spanprof.conformance.judge.discarding import completed, record_of
 from spanprof.conformance.judge.explain import explain
@@ -38,6 +38,7 @@ from spanprof.conformance.generate.variants import in_variant
 from spanprof.errors import Fault
 
 CONSOLE = Console("spanprof-conformance")
+THREADS_ALONE = 4   # of a program by itself
 
 
 def command_run(options, folder):
@@ -89,8 +90,7 @@ def keep_part(options, what, results):
 
 def shrink_failures(options, bench, results):
     """One small program for each kind of failure, the most frequent kinds first."""
-    failures = [group.smallest for _, group in results.most_frequent()
-                if not self_checking.is_self_checking(group.smallest.case)][:options.shrink]
+    failures = [group.smallest for _, group in results.most_frequent()][:options.shrink]
     limits = Limits(options.shrink_runs, options.shrink_tries, options.shrink_seconds)
     return reproduce_all(bench, failures, limits, options.jobs)
 
@@ -204,13 +204,14 @@ def built_tally(bench, case, conditions):
 
 
 def command_emit(options, _folder):
-    """Prints the C file of a program; of a self-checking one, by its name, one that needs no other file."""
+    """Prints a program as one C file that needs no other, and whose status says whether all was as expected."""
     if options.file in (program.name for program in self_checking.programs()):
         print(self_checking.source(options.file), end="")
         return 0
-    bench = Bench(None, judge_of(options), {})
-    body = in_variant(program_in(options.file, bench.judge), options.tasks)
-    print(bench.examined(Case("", body, options.tasks, 0)).source(), end="")
+    judge = judge_of(options)
+    body = in_variant(program_in(options.file, judge), options.tasks)
+    alone = Alone(body, Table(body), judge.record(text_of(body)).preds)
+    print(alone.text("\n".join([*alone.rules(), "", text_of(body)]), THREADS_ALONE), end="")
     return 0
 
 

@@ -27,9 +27,11 @@ def publish(names, report):
 
 
 def write_reports(paths, report):
-    """Writes the reports, and a text and a C file for each small program beside the last one."""
+    """Writes the reports, and a text and one C file for each failure beside the last one."""
     for path in paths:
         path.write_text(FORMS.get(path.suffix, markdown)(report, path.stem) + "\n")
     for number, one in enumerate(report.found, 1):
-        paths[-1].with_name(f"{paths[-1].stem}-{number}.tasks").write_text(one.text)
-        paths[-1].with_name(f"{paths[-1].stem}-{number}.c").write_text(one.source)
+        if one.text:
+            paths[-1].with_name(f"{paths[-1].stem}-{number}.tasks").write_text(one.text)
+        name = f"{paths[-1].stem}-{number}.c"
+        paths[-1].with_name(name).write_text(one.alone.source.replace(f" {one.failure.case.name}.c && ", f" {name} && "))

@@ -33,17 +33,16 @@ def reproducer(number, found, name):
     lines = [f"### {number}. {failure.verdict.kind}: {failure.rule} ({failure.case.variant} tasks)", "",
              f"{failure.words} At stake: {at_stake(failure.verdict.kind, failure.rule)}.", "",
              f"Found in `{found.origin}`, made smaller in {found.tried} tries. {found.failed} of {found.runs} runs on "
-             f"{conditions.threads} threads failed. {found.remark()}".rstrip(), "",
-             f"To see it again: `spanprof-conformance shrink {name} --cc .. --tasks {failure.case.variant} "
-             f"--threads {conditions.threads} --settings {conditions.setting} --unit {failure.case.unit}`; or by hand, "
-             f"in tools/conformance: `cc -fopenmp -Iharness {name.removesuffix('.tasks')}.c harness/*.c`, then "
-             f"`./a.out {' '.join(conditions.words())}`.", "",
-             "```", found.text.rstrip(), "```", ""]
+             f"{conditions.threads} threads failed in the test; {found.alone.rate}. {found.remark()}".rstrip(), ""]
+    if found.text:
+        lines += [f"To see it again: the file below, or `spanprof-conformance shrink {name} --cc .. "
+                  f"--tasks {failure.case.variant} --threads {conditions.threads} --settings {conditions.setting} "
+                  f"--unit {failure.case.unit}`.", ""]
     if failure.log:
         lines += [f"The log up to there (schedule: {failure.log.schedule}):", "", "```", *found.events(), "```", ""]
     if found.stacks:
         lines += ["The stacks of the threads where it hung:", "", "```", *found.stacks, "```", ""]
-    return lines + ["```c", found.source.rstrip(), "```", ""]
+    return lines + ["```c", found.alone.source.rstrip(), "```", ""]
 
 
 def coverage_lines(report):
@@ -97,5 +96,5 @@ def found_fields(found):
     failure = found.failure
     return {"origin": found.origin, "kind": failure.verdict.kind, "rule": failure.rule, "tasks": failure.case.variant,
             "threads": failure.conditions.threads, "setting": failure.conditions.setting, "words": failure.words,
-            "text": found.text, "c": found.source, "log": found.events(), "failed": found.failed, "runs": found.runs,
+            "text": found.text, "c": found.alone.source, "log": found.events(), "failed": found.failed, "runs": found.runs,
             "ways": found.ways, "stacks": found.stacks}

@@ -5,6 +5,7 @@ import itertools
 import os
 import pathlib
 import shlex
+import shutil
 import subprocess
 
 from spanprof.conformance.data import DATA
@@ -152,6 +153,17 @@ class Toolchain:
     def version(self):
         done = subprocess.run([*self.cc, "--version"], capture_output=True, text=True, check=False)
         return done.stdout.split("\n")[0]
+
+    def runtime_version(self, environment):
+        """The runtime library's file and, where a package has it, that package's name and version."""
+        path = self.runtime(environment)
+        for words in (["dpkg-query", "--search", path], ["rpm", "--query", "--file", path]):
+            if shutil.which(words[0]):
+                package = subprocess.run(words, capture_output=True, text=True, check=False).stdout.partition(": ")[0]
+                show = ["dpkg-query", "--show", package] if words[0] != "rpm" else words
+                told = package and subprocess.run(show, capture_output=True, text=True, check=False).stdout.split()
+                return f"{' '.join(told)} ({path})" if told else path
+        return path
 
     def runtime(self, environment):
         """The file of the runtime library that programs load."""

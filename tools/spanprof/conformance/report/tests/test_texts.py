@@ -5,6 +5,7 @@ import unittest
 from spanprof.conformance.judge.other_rules import OTHERS
 from spanprof.conformance.report import tables
 from spanprof.conformance.report.texts import Report, as_json, markdown, reproducer
+from spanprof.conformance.run.alone import OneFile
 from spanprof.conformance.run.reproduce import Found
 from spanprof.conformance.report.results import Results
 from spanprof.conformance.tests.helpers import case_of, failure_of
@@ -13,7 +14,7 @@ from spanprof.conformance.run.took import Took
 
 
 def found_of(failure, ways=("refused, taskwait",), failed=3):
-    return Found(failure, "mixed-7", "omptasks 1\ntaskwait\n", "int main(void);\n", 12, failed, 20, list(ways))
+    return Found(failure, "mixed-7", "omptasks 1\ntaskwait\n", OneFile("int main(void);\n", 5, 20), 12, failed, 20, list(ways))
 
 
 def report_of(results=None, found=()):
@@ -63,7 +64,7 @@ class Reports(unittest.TestCase):
         for part in ("| compiler | cc |", "## How hard each rule was tried", "Never close:",
                      "| free | plain | 12 | 0 |", "| free | late | 4 | 2 |",
                      "spanprof-conformance shrink report-1.tasks",
-                     "3 of 20 runs on 2 threads failed.", "(schedule: late)",
+                     "3 of 20 runs on 2 threads failed in the test; 5 of 20 runs of the file fail.", "(schedule: late)",
                      "`cc -fopenmp -Iharness report-1.c harness/*.c`, then `./a.out 2 3 1 1000 5`"):
             self.assertIn(part, text)
 
