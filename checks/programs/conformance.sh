@@ -1,7 +1,7 @@
 #!/usr/bin/env bash
 # Runs tools/conformance: its unit tests; on gcc's and LLVM's runtimes the directed part and a few random programs,
 # which have to be accepted and to try every rule, and both in the other settings; all mutants at the entry points,
-# which have to be caught; a campaign that is killed and goes on, and one in two parts; and the example's pool of
+# which have to be caught; a test that is killed and goes on; and the example's pool of
 # threads, of which the broken one has to be refused. checks/programs/mutants.sh has the mutants in the sources. Build spanprof
 # first. It may be named, or told by SPANPROF, or stand on the PATH. LLVM's runtime is that of version 16, on which all
 # mutants were caught, or of another where that is missing; it gets tied tasks alone.
@@ -27,31 +27,18 @@ fail() { echo "  $1"; wrong=$((wrong + 1)); }
 
 test_runtime() { # COMPILER TASKS [FLAGS] of the compiler
     local kept=$folder/kept-${1//\//_}
-    ../spanprof-conformance run --cc "$1" --cflags="${3:-}" --tasks "$2" --threads 2,4 --programs 10 --runs 2 \
+    ../spanprof-conformance run --cc "$1 ${3:-}" --tasks "$2" --threads 2,4 --programs 10 --runs 2 \
         --timeout 60 --keep "$kept" --settings free,pinned,bound,active,passive \
         > "$folder/run.txt" || fail "$1: a run is not accepted"
     cat "$folder/run.txt"
-    ../spanprof-conformance run --cc "$1" --cflags="${3:-}" --tasks "$2" --threads 2,4 --programs 10 --runs 2 \
+    ../spanprof-conformance run --cc "$1 ${3:-}" --tasks "$2" --threads 2,4 --programs 10 --runs 2 \
         --timeout 60 --keep "$kept" --settings priorities,sleepy,perturbed,stacks,unlogged,orphaned,nested \
         > "$folder/settings.txt" ||
         fail "$1: a run in another setting is not accepted"
     head -n 8 "$folder/settings.txt"
     grep -q '^Never held back by this rule alone: none of these\.$' "$folder/run.txt" || fail "$1: a rule is not tried"
-    ../spanprof-conformance mutants --cc "$1" --cflags="${3:-}" --threads 4 --runs 4 --timeout 3 ||
+    ../spanprof-conformance mutants --cc "$1 ${3:-}" --threads 4 --runs 4 --timeout 3 ||
         fail "$1: a mutant is not caught"
-}
-
-test_parts() {
-    for part in 1/2 2/2; do
-        ../spanprof-conformance run --cc gcc --tasks tied --threads 2 --runs 1 --programs 4 --no-directed \
-            --settings free --shard "$part" --state "$folder/part-${part%/2}.jsonl" > "$folder/part.txt" || return 1
-    done
-    ../spanprof-conformance merge "$folder"/part-*.jsonl --report "$folder/parts.xml" > "$folder/parts.txt"
-    grep -q '^| all | 2 | 4 | 4 |' "$folder/parts.txt" && grep -q 'tests="4"' "$folder/parts.xml"
-}
-
-test_bisect() {
-    ../spanprof-conformance bisect directed/taskwait_child.tasks --cc gcc --threads 2 --runs 4 > "$folder/bisect.txt"
 }
 
 in_c() { # NAME: prints the C file of a directed program, which needs harness/
@@ -104,12 +91,10 @@ cd tools/conformance
 test_futures || fail "the pool of threads: a run is not accepted"
 test_futures -DDONE_TOO_EARLY && fail "the broken pool of threads is accepted"
 grep -q '^run 0: refused: ' "$folder/judged.txt" || fail "the broken pool of threads is not refused"
-test_parts || fail "the report of two parts is not that of the whole"
 test_slow_reader || fail "a program hangs while nobody reads"
 cc -O1 -fPIC -shared mutants/gomp.c -o "$folder/mutants.so" -ldl
 test_alone || fail "the one file of a program"
 test_asleep || fail "a run in which all threads sleep does not hang soon"
-test_bisect || fail "a program that is fine fails for git bisect"
 [ -n "$short" ] || ../../checks/programs/conformance_resumed.py || fail "a campaign does not go on"
 if [ -n "$short" ]; then
     ../spanprof-conformance run --cc gcc --tasks tied --threads 2,4 --programs 3 --runs 1 --timeout 60 \

@@ -1,4 +1,4 @@
-"""Writes a program as one C file that needs no other and judges itself: status 0, or 1 and what was expected and seen."""
+"""Writes a program as one C file that judges itself: status 0, or 1 and what was expected and seen."""
 import re
 import textwrap
 

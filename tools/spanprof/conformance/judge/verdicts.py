@@ -45,14 +45,14 @@ class Record:
         return len(self.preds)
 
 
-def find_spanprof(named, environment):
-    """Where the program is: where it is named, else where the environment's SPANPROF says, else where this repository
-    builds it, else on the PATH."""
-    told = named or environment.get("SPANPROF")
+def find_spanprof(environment):
+    """Where the program is: where the environment's SPANPROF says, else where this repository builds it, else on the
+    PATH."""
+    told = environment.get("SPANPROF")
     places = [told] if told else [str(BUILT), "spanprof"]
     found = [at for at in map(shutil.which, places) if at]
     if not found:
-        raise Missing(f"no program {' nor '.join(places)}; --spanprof says where it is")
+        raise Missing(f"no program {' nor '.join(places)}; SPANPROF says where it is")
     return found[0]
 
 

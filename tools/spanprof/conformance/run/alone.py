@@ -11,7 +11,7 @@ from spanprof.conformance.run import self_checking
 from spanprof.conformance.run.settings import SETTINGS, is_of_harness
 from spanprof.conformance.run.toolchain import BuildFailed
 
-RUNS, SECONDS = 20, 30  # of the file by itself, whichever is over first
+RUNS, SECONDS = 20, 15  # of the file by itself, whichever is over first
 WIDTH = 110
 
 

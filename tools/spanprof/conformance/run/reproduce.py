@@ -62,8 +62,10 @@ class Limits:
 
 
 def reproduce_all(bench, failures, limits, jobs):
-    """What is found for each of the failures, of which so many are shrunk side by side."""
+    """What is found for each of the failures, of which so many are shrunk side by side, or for those that are done when
+    somebody stops it."""
     interrupted = threading.Event()
+    done = []
 
     def reproduce(failure):
         over = time.monotonic() + limits.seconds
@@ -75,10 +77,14 @@ def reproduce_all(bench, failures, limits, jobs):
 
     pool = concurrent.futures.ThreadPoolExecutor(jobs)
     try:
-        return list(pool.map(reproduce, failures))
+        for found in pool.map(reproduce, failures):
+            done.append(found)
+    except KeyboardInterrupt:
+        say("stopped: the programs are as small as they were")
     finally:
         interrupted.set()
         pool.shutdown(cancel_futures=True)
+    return done
 
 
 def of_program(bench, failure):

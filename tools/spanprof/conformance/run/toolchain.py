@@ -48,10 +48,11 @@ class Toolchain:
     """`cc` with the flags for OpenMP; objects go to `folder`. Programs go to the folder `kept`, if there is one, for
     other processes to find."""
 
-    def __init__(self, cc, flags, folder, kept=None):
+    def __init__(self, cc, folder, kept=None):
         self.numbers = itertools.count()
-        self.cc, self.folder, self.kept = shlex.split(cc), pathlib.Path(folder), kept and pathlib.Path(kept).resolve()
-        self.shown_flags = ["-O1", "-g", "-fopenmp", *flags]
+        self.folder, self.kept = pathlib.Path(folder), kept and pathlib.Path(kept).resolve()
+        first, *flags = shlex.split(cc)
+        self.cc, self.shown_flags = [first], ["-O1", "-g", "-fopenmp", *flags]
         if "clang" in self.cc[0] and not any("fopenmp-version" in flag for flag in flags):
             self.shown_flags.append("-fopenmp-version=52")
         self.flags = [*self.shown_flags, f"-I{HARNESS}"]

@@ -1,6 +1,4 @@
 """Judging, of answers that are given here in spanprof's place."""
-import pathlib
-import tempfile
 import unittest
 
 from spanprof.conformance.judge.verdicts import Judge, Missing, Record, Refused, Verdict, find_spanprof
@@ -100,20 +98,12 @@ class Judging(unittest.TestCase):
 
 
 class Finding(unittest.TestCase):
-    def test_named_before_told(self):
-        with tempfile.TemporaryDirectory() as folder:
-            paths = []
-            for name in ("one", "two"):
-                paths.append(pathlib.Path(folder) / name)
-                paths[-1].write_text("#!/bin/sh\n")
-                paths[-1].chmod(0o755)
-            one, two = map(str, paths)
-            self.assertEqual(find_spanprof(one, {"SPANPROF": two}), one)
-            self.assertEqual(find_spanprof("", {"SPANPROF": two}), two)
+    def test_where_the_environment_says(self):
+        self.assertEqual(find_spanprof({"SPANPROF": "/bin/sh"}), "/bin/sh")
 
     def test_what_is_named_has_to_be_there(self):
         with self.assertRaisesRegex(Missing, "no program /nowhere/spanprof"):
-            find_spanprof("/nowhere/spanprof", {})
+            find_spanprof({"SPANPROF": "/nowhere/spanprof"})
 
 
 if __name__ == "__main__":

@@ -42,7 +42,8 @@ class Files(unittest.TestCase):
         found = self.written(1)
         self.assertEqual((found.failed, found.runs), (alone.RUNS, alone.RUNS))
         head = found.source.partition("*/")[0]
-        for words in ("At stake: a promise of the standard.", "gcc 12.2, libgomp1 12.2.0: 20 of 20 runs of the file fail.",
+        for words in ("At stake: a promise of the standard.",
+                      "gcc 12.2, libgomp1 12.2.0: 20 of 20 runs of the file fail.",
                       "gcc -O1 -fopenmp -pthread some.c && OMP_WAIT_POLICY=passive ./a.out", "omptasks 1"):
             self.assertIn(words, head)
 
