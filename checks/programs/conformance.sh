@@ -1,7 +1,7 @@
 #!/usr/bin/env bash
 # Runs tools/conformance: its unit tests; on gcc's and LLVM's runtimes the directed part and a few random programs,
 # which have to be accepted and to try every rule, and both in the other settings; all mutants at the entry points,
-# which have to be caught; a campaign that is killed and goes on, and one in two parts; and the example's pool of
+# which have to be caught; a test that is killed and goes on; and the example's pool of
 # threads, of which the broken one has to be refused. checks/programs/mutants.sh has the mutants in the sources. Build spanprof
 # first. It may be named, or told by SPANPROF, or stand on the PATH. LLVM's runtime is that of version 16, on which all
 # mutants were caught, or of another where that is missing; it gets tied tasks alone.
@@ -27,36 +27,43 @@ fail() { echo "  $1"; wrong=$((wrong + 1)); }
 
 test_runtime() { # COMPILER TASKS [FLAGS] of the compiler
     local kept=$folder/kept-${1//\//_}
-    ../spanprof-conformance run --cc "$1" --cflags="${3:-}" --tasks "$2" --threads 2,4 --programs 10 --runs 2 \
+    ../spanprof-conformance run --cc "$1 ${3:-}" --tasks "$2" --threads 2,4 --programs 10 --runs 2 \
         --timeout 60 --keep "$kept" --settings free,pinned,bound,active,passive \
         > "$folder/run.txt" || fail "$1: a run is not accepted"
     cat "$folder/run.txt"
-    ../spanprof-conformance run --cc "$1" --cflags="${3:-}" --tasks "$2" --threads 2,4 --programs 10 --runs 2 \
+    ../spanprof-conformance run --cc "$1 ${3:-}" --tasks "$2" --threads 2,4 --programs 10 --runs 2 \
         --timeout 60 --keep "$kept" --settings priorities,sleepy,perturbed,stacks,unlogged,orphaned,nested \
         > "$folder/settings.txt" ||
         fail "$1: a run in another setting is not accepted"
     head -n 8 "$folder/settings.txt"
     grep -q '^Never held back by this rule alone: none of these\.$' "$folder/run.txt" || fail "$1: a rule is not tried"
-    ../spanprof-conformance mutants --cc "$1" --cflags="${3:-}" --threads 4 --runs 4 --timeout 3 ||
+    ../spanprof-conformance mutants --cc "$1 ${3:-}" --threads 4 --runs 4 --timeout 3 ||
         fail "$1: a mutant is not caught"
 }
 
-test_parts() {
-    for part in 1/2 2/2; do
-        ../spanprof-conformance run --cc gcc --tasks tied --threads 2 --runs 1 --programs 4 --no-directed \
-            --settings free --shard "$part" --state "$folder/part-${part%/2}.jsonl" > "$folder/part.txt" || return 1
-    done
-    ../spanprof-conformance merge "$folder"/part-*.jsonl --report "$folder/parts.xml" > "$folder/parts.txt"
-    grep -q '^| all | 2 | 4 | 4 |' "$folder/parts.txt" && grep -q 'tests="4"' "$folder/parts.xml"
+in_c() { # NAME: prints the C file of a directed program, which needs harness/
+    PYTHONPATH=.. python3 -B - "$1" << 'END'
+import os, sys
+from spanprof.conformance.generate.directed import directed_programs
+from spanprof.conformance.judge.cases import Case, Examined
+from spanprof.conformance.judge.verdicts import Judge
+body = dict(directed_programs())[sys.argv[1]]
+print(Examined(Case("", body, "tied", 0), Judge(os.environ["SPANPROF"])).source())
+END
 }
 
-test_bisect() {
-    ../spanprof-conformance bisect directed/taskwait_child.tasks --cc gcc --threads 2 --runs 4 > "$folder/bisect.txt"
+# The one file of a program says what is wrong with a runtime, and nothing of one that is right.
+test_alone() {
+    ../spanprof-conformance emit directed/taskwait_child.tasks > "$folder/alone.c"
+    cc -O1 -Wall -Wextra -Werror -fopenmp "$folder/alone.c" -o "$folder/alone"
+    "$folder/alone" > /dev/null || return 1
+    MUTANT=taskwait-returns LD_PRELOAD=$folder/mutants.so "$folder/alone" > "$folder/alone.txt" && return 1
+    grep -q '^seen: ' "$folder/alone.txt"
 }
 
 # A program does not hang while nobody reads what it writes.
 test_slow_reader() {
-    ../spanprof-conformance emit directed/pressure_waits_long.tasks > "$folder/slow.c"
+    in_c pressure_waits_long > "$folder/slow.c"
     cc -O1 -fopenmp -Iharness "$folder/slow.c" harness/*.c -o "$folder/slow"
     "$folder/slow" 2 4 0 0 5 | (sleep 12; cat) > "$folder/slow.log"
     [ "$(grep -c '^done' "$folder/slow.log")" = 4 ]
@@ -65,9 +72,8 @@ test_slow_reader() {
 # A run in which all threads sleep takes a third of its time to hang.
 test_asleep() {
     local begun
-    ../spanprof-conformance emit directed/taskwait_at_each_level.tasks > "$folder/asleep.c"
+    in_c taskwait_at_each_level > "$folder/asleep.c"
     cc -O1 -fopenmp -Iharness "$folder/asleep.c" harness/*.c -o "$folder/asleep"
-    cc -O1 -fPIC -shared mutants/gomp.c -o "$folder/mutants.so" -ldl
     begun=$SECONDS
     MUTANT=hang LD_PRELOAD=$folder/mutants.so "$folder/asleep" 2 9 0 0 30 > "$folder/asleep.log" || true
     grep -q '^hung asleep$' "$folder/asleep.log" && ((SECONDS - begun < 25))
@@ -85,10 +91,10 @@ cd tools/conformance
 test_futures || fail "the pool of threads: a run is not accepted"
 test_futures -DDONE_TOO_EARLY && fail "the broken pool of threads is accepted"
 grep -q '^run 0: refused: ' "$folder/judged.txt" || fail "the broken pool of threads is not refused"
-test_parts || fail "the report of two parts is not that of the whole"
 test_slow_reader || fail "a program hangs while nobody reads"
+cc -O1 -fPIC -shared mutants/gomp.c -o "$folder/mutants.so" -ldl
+test_alone || fail "the one file of a program"
 test_asleep || fail "a run in which all threads sleep does not hang soon"
-test_bisect || fail "a program that is fine fails for git bisect"
 [ -n "$short" ] || ../../checks/programs/conformance_resumed.py || fail "a campaign does not go on"
 if [ -n "$short" ]; then
     ../spanprof-conformance run --cc gcc --tasks tied --threads 2,4 --programs 3 --runs 1 --timeout 60 \

@@ -1,9 +1,7 @@
 #!/usr/bin/env python3
-"""Kills a long campaign of tools/conformance, interrupts it, and has it end, as conformance.sh does with SPANPROF set.
-
-Whatever stops it, the campaign has to go on with the seeds after those of its last whole batch. Needs gcc.
+"""Kills a test of tools/conformance, interrupts it, and has it end, as conformance.sh does with SPANPROF set. Whatever
+stops it, what was done stays, and the report at the end is that of the whole. Needs gcc.
 """
-import json
 import os
 import pathlib
 import signal
@@ -13,67 +11,53 @@ import tempfile
 import time
 
 TESTER = pathlib.Path(__file__).resolve().parents[2] / "tools" / "spanprof-conformance"
-WORDS = "run --cc gcc --tasks tied --threads 2 --runs 1 --programs 2 --no-directed".split()
-PATIENCE = 120  # seconds until a batch has to be there
+PROGRAMS = 40
+WORDS = f"run --cc gcc --tasks tied --threads 2 --runs 1 --programs {PROGRAMS} --match taskwait_child".split()
+PATIENCE = 120  # seconds until a program has been tried
 
 
-def batches(state):
-    """The batches that the file has."""
-    text = state.read_text() if state.exists() else ""
-    return [json.loads(line) for line in text.split("\n")[1:-1]]
+def start(folder):
+    return subprocess.Popen([sys.executable, TESTER, *WORDS], stdout=subprocess.PIPE, stderr=subprocess.PIPE, text=True,
+                            cwd=folder, env={**os.environ, "TMPDIR": str(folder)})
 
 
-def start(state, hours):
-    words = [sys.executable, TESTER, *WORDS, "--state", state, "--hours", str(hours)]
-    return subprocess.Popen(words, stdout=subprocess.PIPE, stderr=subprocess.PIPE, text=True,
-                            env={**os.environ, "TMPDIR": str(state.parent)})
+def kept(folder):
+    """How many programs the state has."""
+    return sum(path.read_bytes().count(b"\n") for path in folder.glob("conformance-*.jsonl"))
 
 
-def stop(state, count, how):
-    """Stops a campaign after so many batches; answers its status and what it printed."""
-    with start(state, 1) as process:
+def stop(folder, count, how):
+    """Stops a test after so many programs; answers its status and what it printed."""
+    with start(folder) as process:
         end = time.monotonic() + PATIENCE
-        while len(batches(state)) < count and process.poll() is None and time.monotonic() < end:
-            time.sleep(0.05)
-        ended = process.poll()
+        while kept(folder) < count and process.poll() is None and time.monotonic() < end:
+            time.sleep(0.02)
         process.send_signal(how)
         printed, said = process.communicate()
-    if ended is not None:
-        sys.exit(f"the campaign ended by itself: {said}")
     return process.returncode, printed + said
 
 
-def go_on(state):
-    """Has a campaign run for a second more; answers its status and what it printed."""
-    seconds = sum(batch["results"]["seconds"] for batch in batches(state))
-    with start(state, (seconds + 1) / 3600) as process:
-        printed, _ = process.communicate()
-    return process.returncode, printed
-
-
-def faults(state):
+def faults(folder):
     """What is wrong, as lines."""
-    stop(state, 3, signal.SIGKILL)
-    killed = batches(state)
-    status, printed = stop(state, len(killed) + 2, signal.SIGINT)
-    interrupted = batches(state)
-    if status or "stopped after" not in printed:
-        yield f"an interrupted campaign ends with status {status}: {printed}"
-    status, printed = go_on(state)
-    whole = batches(state)
-    if not 3 <= len(killed) <= len(interrupted) - 2 < len(whole) - 2 or whole[:len(killed)] != killed:
-        yield f"{len(killed)}, {len(interrupted)} and {len(whole)} batches, the first ones of which have to stay"
-    if any(one["seeds"][1] != then["seeds"][0] for one, then in zip(whole, whole[1:])):
-        yield f"the seeds do not follow one another: {[batch['seeds'] for batch in whole]}"
-    programs = whole[-1]["seeds"][1] - whole[0]["seeds"][0]
-    if status or f"| all | 2 | {programs} | {programs} |" not in printed:
-        yield f"{programs} programs are not in the last report: {printed}"
+    stop(folder, 3, signal.SIGKILL)
+    killed = kept(folder)
+    status, printed = stop(folder, killed + 3, signal.SIGINT)
+    if status != 130 or "the same command goes on" not in printed or "| all | 2 |" not in printed:
+        yield f"an interrupted test ends with status {status}: {printed}"
+    if not 3 <= killed < kept(folder) <= PROGRAMS:
+        yield f"{killed} and then {kept(folder)} programs are kept"
+    with start(folder) as process:
+        printed, said = process.communicate()
+    if process.returncode or f"| all | 2 | {PROGRAMS + 1} | {PROGRAMS + 1} |" not in printed:
+        yield f"the last report is not that of {PROGRAMS + 1} programs: {printed}{said}"
+    if kept(folder):
+        yield "the state is there though the test is whole"
 
 
 def main():
     with tempfile.TemporaryDirectory() as folder:
-        wrong = list(faults(pathlib.Path(folder) / "campaign.jsonl"))
-    print("\n".join([*wrong, f"{len(wrong)} wrong in a campaign that was stopped twice"]))
+        wrong = list(faults(pathlib.Path(folder)))
+    print("\n".join([*wrong, f"{len(wrong)} wrong in a test that was stopped twice"]))
     return bool(wrong)
 
 

@@ -40,7 +40,7 @@ grep -q '</html>' record.html || fail "no page of the recording"
 installed spanprof-report mine.spanprof -o mine.html --trace mine.json || fail "spanprof-report fails"
 grep -q '</html>' mine.html || fail "no page"
 installed spanprof-conformance run --cc gcc --tasks tied --threads 2 --runs 1 --settings free --programs 2 \
-    --no-directed > tested || { fail "spanprof-conformance fails"; cat tested; }
+    --match taskwait_child > tested || { fail "spanprof-conformance fails"; cat tested; }
 [ "$(installed spanprof-conformance list | wc -l)" -gt 100 ] || fail "the directed programs"
 env -i PATH=/usr/bin:/bin "$prefix/bin/spanprof-report" mine.spanprof -o far.html || fail "no page without the PATH"
 installed spanprof-path worked.tasks > found 2> told || fail "spanprof-path fails"

@@ -12,7 +12,7 @@ import sys
 
 TOP = os.path.dirname(os.path.dirname(os.path.dirname(os.path.abspath(__file__))))
 TOOLS = os.path.join(TOP, "tools")
-CONFORMANCE = ("run", "mutants", "shrink", "merge", "bisect", "delays", "emit", "judge", "list")
+CONFORMANCE = ("run", "mutants", "shrink", "emit", "judge", "list")
 HELP = {"spanprof-record": [[]], "spanprof-convert": [[]], "spanprof-report": [[]], "spanprof-path": [[]],
         "spanprof-predict": [[]], "spanprof-whatif": [[]],
         "spanprof-conformance": [[]] + [[word] for word in CONFORMANCE]}

@@ -124,7 +124,7 @@ static void one_run(unsigned threads) {
 int main(int count, char **words) {
     static struct output output;
     unsigned threads = count == 3 ? (unsigned)atoi(words[1]) : 0, runs = count == 3 ? (unsigned)atoi(words[2]) : 0;
-    if (!threads || threads > MOST_THREADS || !runs || !open_log(&events, MOST_EVENTS, false)) return 2;
+    if (!threads || threads > MOST_THREADS || !runs || !open_log(&events, MOST_EVENTS)) return 2;
     for (unsigned run = 0; run < runs; run++) {
         one_run(threads);
         say(&output, "run ");

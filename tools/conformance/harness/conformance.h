@@ -50,7 +50,8 @@ void segment_start(unsigned segment); /* first in each segment's code */
 void segment_finish(void);            /* last in each segment's code */
 /* First in each turn of a taskloop: OWN is the number of its task, at first 0. */
 void taskloop_turn(unsigned *own, unsigned segment);
-void expect(int is_right); /* of a value that the runtime made */
+void expect(const char *what, long seen, long right); /* of what the runtime made: the first that is wrong is logged */
+int is_turn(long turn, long first, long last);          /* of a taskloop; one that is not is logged */
 void segment_pass(unsigned segment);  /* a whole segment without code of its own */
 void segment_pass_on_host(unsigned segment); /* the same in a target region, where threads have other numbers */
 void team_begins(void);               /* first in each thread of a region */

@@ -5,6 +5,6 @@
 #include "conformance.h"
 #include <stdint.h>
 
-void compute_value(const struct conformance_program *of, uint64_t *values, unsigned segment);
+uint64_t value_of(const struct conformance_program *of, const uint64_t *values, unsigned segment);
 uint64_t digest_of(const struct conformance_program *of, const uint64_t *values);
 #endif

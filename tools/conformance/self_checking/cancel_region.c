@@ -23,7 +23,7 @@ int main(void) {
       after++;
     }
     expect("threads behind the cancel or the barrier", behind, 0);
-    expect("whether the next region runs", after > 0, 1);
+    expect_so("the next region runs", after > 0);
   }
   return wrong;
 }

@@ -31,7 +31,7 @@ int main(void) {
         int later;
 #pragma omp atomic read
         later = before;
-        expect("whether the task has ended before a later sibling", later, 100);
+        expect_so("the task has ended before a later sibling", later == 100);
       }
     }
   }

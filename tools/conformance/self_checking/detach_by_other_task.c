@@ -21,7 +21,7 @@ int main(void) {
 #pragma omp taskwait
 #pragma omp atomic read
       seen = fulfilled;
-      expect("whether the event was fulfilled before taskwait ended", seen, 1);
+      expect_so("the event was fulfilled before taskwait ended", seen);
     }
   }
   return wrong;

@@ -22,7 +22,7 @@ static void before_it_begins(void) {
     int seen;
 #pragma omp atomic read
     seen = ended;
-    expect("whether the code has ended before the dependent task", seen, 1);
+    expect_so("the code has ended before the dependent task", seen);
   }
 #pragma omp taskwait
 }
@@ -40,7 +40,7 @@ static void in_itself(void) {
   int seen;
 #pragma omp atomic read
   seen = ended;
-  expect("whether the code has ended behind taskwait", seen, 2);
+  expect("codes that have ended behind taskwait", seen, 2);
 }
 
 int main(void) {

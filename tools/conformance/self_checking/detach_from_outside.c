@@ -34,7 +34,7 @@ static void detached_then_dependent(void) {
     int seen;
 #pragma omp atomic read
     seen = fulfilled;
-    expect("whether the event was fulfilled before the dependent task", seen, 1);
+    expect_so("the event was fulfilled before the dependent task", seen);
   }
 }
 
@@ -46,7 +46,7 @@ int main(void) {
 #pragma omp parallel
 #pragma omp single
     detached_then_dependent();
-    expect("whether the event was fulfilled before the region's end", fulfilled, 1);
+    expect_so("the event was fulfilled before the region's end", fulfilled);
     pthread_join(thread, NULL);
   }
   return wrong;

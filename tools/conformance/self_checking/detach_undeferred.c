@@ -31,13 +31,13 @@ static void undeferred_then_dependent(void) {
 #pragma omp atomic write
     created = 1;
   }
-  expect("whether the undeferred task has run", ran, 1);
+  expect_so("the undeferred task has run", ran);
 #pragma omp task depend(in : item)
   {
     int seen;
 #pragma omp atomic read
     seen = fulfilled;
-    expect("whether the event was fulfilled before the dependent task", seen, 1);
+    expect_so("the event was fulfilled before the dependent task", seen);
   }
 }
 
@@ -49,7 +49,7 @@ int main(void) {
 #pragma omp parallel
 #pragma omp single
     undeferred_then_dependent();
-    expect("whether the event was fulfilled before the region's end", fulfilled, 1);
+    expect_so("the event was fulfilled before the region's end", fulfilled);
     pthread_join(thread, NULL);
   }
   return wrong;

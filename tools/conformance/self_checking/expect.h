@@ -14,5 +14,14 @@ static inline void expect(const char *what, long seen, long right) {
   }
 }
 
+static inline void expect_so(const char *what, int is_so) {
+  if (is_so) return;
+#pragma omp critical(expecting)
+  {
+    printf("%s: it was not so\n", what);
+    wrong = 1;
+  }
+}
+
 // So long that other threads get ahead where nothing holds them back.
 static inline void linger(void) { usleep(200); }

@@ -9,7 +9,7 @@ static void child_of(int is_final) {
     expect("omp_in_final in a child", omp_in_final(), is_final);
     ran = 1;
   }
-  if (is_final) expect("whether the child of a final task has run", ran, 1);
+  if (is_final) expect_so("the child of a final task has run", ran);
 #pragma omp taskwait
 }
 

@@ -40,7 +40,7 @@ int main() {
 #pragma omp single
     create_all();
     expect("objects that were not destroyed", alive, 0);
-    expect("whether each task had a copy", copies >= 40 * round, 1);
+    expect_so("each task had a copy", copies >= 40 * round);
   }
   return wrong;
 }

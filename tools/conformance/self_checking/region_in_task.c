@@ -26,7 +26,7 @@ int main(void) {
       }
     }
     expect("the sum of all", sum, 180);
-    expect("whether each thread of each team made a task", tasks >= 4 && tasks <= 8, 1);
+    expect_so("each thread of each team made a task", tasks >= 4 && tasks <= 8);
   }
   return wrong;
 }

@@ -30,8 +30,8 @@ static void by_grain(int turns, int grain) {
   for (int i = 0; i < turns; i++) count(&number);
   for (int i = 0; i < tasks; i++) {
     sum += turns_of[i];
-    expect("a task with fewer turns than the grain", turns_of[i] < grain && turns >= grain, 0);
-    expect("a task with twice the grain or more", turns_of[i] >= 2 * grain, 0);
+    if (turns_of[i] < grain && turns >= grain) expect("turns of a task, at least the grain size", turns_of[i], grain);
+    if (turns_of[i] >= 2 * grain) expect("turns of a task, below twice the grain size", turns_of[i], 2 * grain - 1);
   }
   expect("turns of all tasks", sum, turns);
   forget();

@@ -9,7 +9,7 @@ static int seen[TURNS];
 
 static void once(long turn) {
   if (turn < 0 || turn >= TURNS) {
-    expect("a turn beyond the loop", turn, -1);
+    expect("the number of a turn, of which 0 to 199 are right", turn, turn < 0 ? 0 : TURNS - 1);
     return;
   }
 #pragma omp atomic

@@ -21,7 +21,7 @@ int main(void) {
       int seen;
 #pragma omp atomic read
       seen = a;
-      expect("whether the task has ended behind taskwait", seen, 1);
+      expect_so("the task has ended behind taskwait", seen);
     }
   }
   return wrong;

@@ -21,7 +21,7 @@ int main(void) {
         int seen;
 #pragma omp atomic read
         seen = ended;
-        expect("whether the first task has ended before the last", seen, 1);
+        expect_so("the first task has ended before the last", seen);
       }
     }
   }

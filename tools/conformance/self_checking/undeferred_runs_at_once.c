@@ -20,10 +20,10 @@ int main(void) {
         int seen;
 #pragma omp atomic read
         seen = first;
-        expect("whether the task before has ended", seen, 1);
+        expect_so("the task before has ended", seen);
         second = 1;
       }
-      expect("whether the undeferred task has run", second, 1);
+      expect_so("the undeferred task has run", second);
     }
   }
   return wrong;

@@ -1,17 +1,18 @@
 """The commands of the tester. Each takes the options and a folder for what it builds, and answers an exit status."""
-import argparse
 import contextlib
+import itertools
 import json
+import math
 import pathlib
+import time
 
-from spanprof.command import Console, words_of
-from spanprof.conformance.judge import delays
+from spanprof.command import Console
 from spanprof.conformance.report import store, tables
-from spanprof.conformance.run import gcov, self_checking
-from spanprof.conformance.run.bisect import UNTESTABLE, sample
+from spanprof.conformance.run import self_checking
 from spanprof.conformance.run.built import built_in
-from spanprof.conformance.run.campaign import cases_of, directed_cases, random_cases, run_cases, self_checking_cases
-from spanprof.conformance.judge.cases import Bench, Case
+from spanprof.conformance.run.campaign import (cases_of, directed_cases, random_cases, run_cases, self_checking_cases,
+                                               telling_first, tried)
+from spanprof.conformance.emit.alone import Alone
 from spanprof.conformance.generate.directed import directed_programs, first_comment
 from spanprof.conformance.judge.discarding import completed, record_of
 from spanprof.conformance.judge.explain import explain
@@ -20,79 +21,81 @@ from spanprof.conformance.generate.random_programs import seeds_in_turn
 from spanprof.conformance.run.journal import Journal
 from spanprof.conformance.judge.verdicts import Missing
 from spanprof.conformance.run.launch import read_logs
-from spanprof.conformance.run.long_campaign import run_campaign
 from spanprof.conformance.run.mutant_campaigns import Campaigns
 from spanprof.conformance.run.mutants import build_mutants, mutants_of, mutated
-from spanprof.conformance.opening import entry_points, judge_of, mutate, open_bench, plan_of, program_in
-from spanprof.conformance.generate.program import KINDS
+from spanprof.conformance.opening import entry_points, found_judge, open_bench, plan_of, program_in, unit_in
 from spanprof.conformance.report.publish import publish
+from spanprof.conformance.report.results import Results
 from spanprof.conformance.report.texts import Report
 from spanprof.conformance.run.reproduce import Limits, reproduce_all
 from spanprof.conformance.judge.segments import Table
-from spanprof.conformance.run.shards import merged
 from spanprof.conformance.run.sparing import SparingBench
 from spanprof.conformance.generate.text import text_of
 from spanprof.conformance.run.took import taken
-from spanprof.conformance.run.toolchain import BuildFailed
 from spanprof.conformance.generate.variants import in_variant
-from spanprof.errors import Fault
 
 CONSOLE = Console("spanprof-conformance")
+THREADS_ALONE = 4   # of a program by itself
+STOPPED = 130       # the status where somebody stopped a test
+FIRST_CASES = 300   # of random programs, among which those that tell most come first
+OF_RUNS = 0.8       # of the seconds of a test; the rest is for smaller programs and the report
+MOST_SHRUNK, SHRINK_RUNS, SHRINK_TRIES = 8, 20, 300  # of smaller programs
 
 
 def command_run(options, folder):
     """Runs the directed part and random programs, and shrinks what fails."""
     bench = open_bench(options, folder)
-    if options.mutate:
-        mutate(bench, options.mutate)
     plan = plan_of(options, bench)
     what = tested(options, bench, plan.settings)
-    if options.gcov:
-        gcov.clear(options.gcov)
-    if options.hours:
-        with contextlib.closing(Journal(options.state, what)) as journal:
-            results = run_campaign(options, bench, plan, journal)
-    else:
-        results = run_once(options, bench, plan)
-        if options.shard.of > 1:
-            keep_part(options, what, results)
-    found = shrink_failures(options, bench, results)
-    sources = reached_sources(options) if options.gcov else []
-    waits = list(delays.tables_of(measured_delays(options, bench, []))) if options.delays else []
-    facts = facts_of(what, results)
-    publish(options.report, Report(facts, bench.toolchain.kinds, results, found, sources, waits, taken()))
+    with contextlib.closing(Journal(what, pathlib.Path(options.report.split(",")[-1]).parent)) as journal:
+        results, is_whole = run_all(options, bench, plan, journal)
+        found = shrink_failures(options, bench, results) if is_whole else []
+        publish(options.report, Report(facts_of(what, results), bench.toolchain.kinds, results, found, taken()))
+        journal.close(is_whole)
+    if not is_whole:
+        CONSOLE.say(f"stopped; the same command goes on, by {journal.path}")
+        return STOPPED
     return 1 if results.groups else 0
 
 
-def reached_sources(options):
-    """What was reached of the runtime's sources."""
-    others = gcov.reached(options.gcov_beside) if options.gcov_beside else None
-    return list(gcov.rows(gcov.reached(options.gcov), others))
-
-
-def run_once(options, bench, plan):
-    """The results of the directed part and of so many random programs, or of a part of them."""
-    kinds = bench.toolchain.kinds
-    cases = directed_cases(kinds, options.tasks, options.match)[0] if options.directed else []
-    cases += self_checking_cases(options.match) if options.directed else []
+def cases_of_run(options, kinds):
+    """The directed part and random programs, those that tell most first, how many there are, without a list of all."""
     seeds = seeds_in_turn(options.seed, options.programs)
-    cases += random_cases(seeds, kinds, options.tasks, options.without)
-    return run_cases(bench, options.shard.part(cases), plan, options.jobs, options.seconds)
+    randoms = random_cases(seeds, kinds, options.tasks, options.without)
+    first = [*directed_cases(kinds, options.tasks, options.match)[0], *self_checking_cases(options.match),
+             *itertools.islice(randoms, FIRST_CASES)]
+    more = max(0, options.programs * len(options.tasks) - FIRST_CASES)
+    return itertools.chain(telling_first(first), randoms), len(first) + more
 
 
-def keep_part(options, what, results):
-    """Writes the results of a part to its file, for `merge`; what was there before it goes."""
-    pathlib.Path(options.state).unlink(missing_ok=True)
-    with contextlib.closing(Journal(options.state, what)) as journal:
-        journal.add({"seeds": [options.seed, options.seed + options.programs], "results": store.as_json(results)})
+def run_all(options, bench, plan, journal):
+    """The results of a test, with those that an earlier process has kept, and whether nobody stopped it."""
+    results = Results()
+    for line in journal.lines:
+        results.merge(store.from_json(line))
+    begun, before = time.monotonic(), set(results.outcomes)
+    cases, count = cases_of_run(options, bench.toolchain.kinds)
+    left = (case for case in cases if (case.name, case.variant) not in before)
+    is_whole = True
+    try:
+        seconds = OF_RUNS * options.seconds - taken().wall
+        for case, tallies in tried(bench, left, plan, options.jobs, seconds, count - len(before)):
+            own = Results()
+            own.add(case, tallies)
+            journal.add(store.as_json(own))
+            results.add(case, tallies)
+    except KeyboardInterrupt:
+        is_whole = False
+    results.seconds = time.monotonic() - begun
+    return results, is_whole
 
 
 def shrink_failures(options, bench, results):
-    """One small program for each kind of failure, the most frequent kinds first."""
-    failures = [group.smallest for _, group in results.most_frequent()
-                if not self_checking.is_self_checking(group.smallest.case)][:options.shrink]
-    limits = Limits(options.shrink_runs, options.shrink_tries, options.shrink_seconds)
-    return reproduce_all(bench, failures, limits, options.jobs)
+    """One small program for each kind of failure, the most frequent kinds first, as long as there is time."""
+    failures = [group.smallest for _, group in results.most_frequent()][:MOST_SHRUNK]
+    left = max(0, getattr(options, "seconds", math.inf) - taken().wall) * options.jobs / max(1, len(failures))
+    limits = Limits(SHRINK_RUNS, SHRINK_TRIES, min(options.shrink_seconds, left))
+    return reproduce_all(bench, failures if options.shrink_seconds else [], limits, options.jobs)
 
 
 def command_mutants(options, folder):
@@ -122,11 +125,11 @@ def try_built(options, bench):
     wrong = False
     print("\n".join(tables.table(tables.BUILT_HEADS, [])))
     with contextlib.ExitStack() as stack:
-        journal = options.state and Journal(options.state, of_mutants(options, bench, plan.settings))
-        kept = [(batch["mutant"], batch["campaign"]) for batch in journal.batches] if journal else []
-        keep = stack.enter_context(contextlib.closing(journal)).add if journal else lambda batch: None
-        campaigns = Campaigns(SparingBench(bench), options, plan, kept,
-                              lambda name, fields: keep({"mutant": name, "campaign": fields}))
+        tested_there = of_mutants(options, bench, plan.settings)
+        journal = stack.enter_context(contextlib.closing(Journal(tested_there, options.built)))
+        campaigns = Campaigns(SparingBench(bench), options, plan,
+                              [(line["mutant"], line["campaign"]) for line in journal.lines],
+                              lambda name, fields: journal.add({"mutant": name, "campaign": fields}))
         for mutant, caught in campaigns.run(mutants):
             print(tables.built_line(mutant, caught), flush=True)
             seen[mutant.name] = caught.as_json()
@@ -136,87 +139,32 @@ def try_built(options, bench):
     return 1 if wrong else 0
 
 
-def command_delays(options, folder):
-    """Tells how much of the threads' time runtimes delay, and how long ready segments wait, by construct."""
-    found = {}
-    for cc in options.cc.split(","):
-        own = argparse.Namespace(**{**vars(options), "cc": cc})
-        seeds = range(options.seed, options.seed + options.programs)
-        found.update(measured_delays(own, open_bench(own, folder), seeds))
-    print("\n".join(delays.tables_of(found)))
-    if options.report:
-        is_json = options.report.endswith(".json")
-        pathlib.Path(options.report).write_text(
-            delays.as_json(found) if is_json else "\n".join(delays.tables_of(found)) + "\n")
-    return 0
-
-
-def measured_delays(options, bench, seeds):
-    """Of the bench's runtime, by its name, what timed runs of the directed programs and some random ones tell."""
-    kinds = bench.toolchain.kinds
-    cases = directed_cases(kinds, ["tied"], options.match)[0] + random_cases(seeds, kinds, ["tied"], [])
-    return {f"{options.cc}: {bench.toolchain.runtime(bench.environment)}": delays.measured(bench, cases, options)}
-
-
 def command_shrink(options, folder):
     """Shrinks the failure of one program."""
     bench = open_bench(options, folder)
-    if options.mutate:
-        mutate(bench, options.mutate)
     body = program_in(options.file, bench.judge)
-    cases = cases_of(pathlib.Path(options.file).stem, body, [options.tasks], options.unit)
+    cases = cases_of(pathlib.Path(options.file).stem, body, [options.tasks], unit_in(options.file))
     results = run_cases(bench, cases, plan_of(options, bench), 1)
     found = shrink_failures(options, bench, results)
     publish(options.report, Report([], bench.toolchain.kinds, results, found))
     return 1 if results.groups else 0
 
 
-def command_merge(options, _folder):
-    """Makes one report of the files of several parts."""
-    tested_there, results = merged(options.files)
-    facts = [*tested_there.items(), ("time", f"{results.seconds:.0f} s")]
-    publish(options.report, Report(facts, set(KINDS), results, []))
-    return 1 if results.groups else 0
-
-
-def command_bisect(options, folder):
-    """Whether a program fails often enough: status 1 if it does, 0 if not, 125 where it cannot be tried."""
-    try:
-        bench = open_bench(options, folder)
-        body = program_in(options.file, bench.judge)
-        (case,) = cases_of(pathlib.Path(options.file).stem, body, [options.tasks], options.unit)
-        conditions = plan_of(options, bench).conditions(case)[0]
-        found = sample(lambda at: built_tally(bench, case, at), conditions, options.runs, options.fails)
-    except (Fault, OSError) as reason:  # any other status than 0 and 125 would tell git that the version is bad
-        CONSOLE.say(words_of(reason) if isinstance(reason, OSError) else str(reason))
-        return UNTESTABLE
-    print(found.told(options.fails))
-    return found.status(options.fails)
-
-
-def built_tally(bench, case, conditions):
-    """The tally of a case, which has to be built."""
-    (tally,) = bench.try_case(case, [conditions])
-    for failure in tally.failures:
-        if failure.verdict.kind == "not built":
-            raise BuildFailed(failure.words)
-    return tally
-
-
 def command_emit(options, _folder):
-    """Prints the C file of a program; of a self-checking one, by its name, one that needs no other file."""
+    """Prints a program as one C file that needs no other, and whose status says whether all was as expected."""
     if options.file in (program.name for program in self_checking.programs()):
         print(self_checking.source(options.file), end="")
         return 0
-    bench = Bench(None, judge_of(options), {})
-    body = in_variant(program_in(options.file, bench.judge), options.tasks)
-    print(bench.examined(Case("", body, options.tasks, 0)).source(), end="")
+    judge = found_judge()
+    body = in_variant(program_in(options.file, judge), options.tasks)
+    alone = Alone(body, Table(body), judge.record(text_of(body)).preds)
+    print(alone.text("\n".join([*alone.rules(), "", text_of(body)]), THREADS_ALONE), end="")
     return 0
 
 
 def command_judge(options, _folder):
     """Judges logs that some runtime wrote of a program."""
-    judge = judge_of(options)
+    judge = found_judge()
     body = program_in(options.file, judge)
     text, table = text_of(body), Table(body)
     logs = read_logs(pathlib.Path(options.log).read_text(errors="replace"))
@@ -242,6 +190,5 @@ def command_list(_options, _folder):
     return 0
 
 
-COMMANDS = {"run": command_run, "mutants": command_mutants, "shrink": command_shrink, "merge": command_merge,
-            "bisect": command_bisect, "delays": command_delays, "emit": command_emit,
+COMMANDS = {"run": command_run, "mutants": command_mutants, "shrink": command_shrink, "emit": command_emit,
             "judge": command_judge, "list": command_list}

@@ -1,22 +1,24 @@
 """What the options ask for: the judge, a bench, how to run on it, and the program in a file."""
 import os
 import pathlib
+import re
 
 from spanprof.command import check_files
 from spanprof.conformance.run import self_checking
+from spanprof.conformance.run.campaign import DIRECTED_UNIT
 from spanprof.conformance.judge.cases import Bench, Plan
 from spanprof.conformance.judge.exclusion import found_search
-from spanprof.conformance.judge.expected import USUAL, Expectations, read_expected
+from spanprof.conformance.judge.expected import Expectations, read_expected
 from spanprof.conformance.judge.verdicts import Judge, Missing, Refused, find_spanprof
-from spanprof.conformance.run.mutants import build_mutants, family_of, mutants_of, mutated
+from spanprof.conformance.run.mutants import family_of
 from spanprof.conformance.generate.reader import read_program
 from spanprof.conformance.run.settings import settings_of
 from spanprof.conformance.run.toolchain import Toolchain
 from spanprof.refusal import explained
 
 
-def judge_of(options):
-    return Judge(find_spanprof(options.spanprof, os.environ), found_search())
+def found_judge():
+    return Judge(find_spanprof(os.environ), found_search())
 
 
 def preloaded(libraries):
@@ -28,12 +30,11 @@ def preloaded(libraries):
 
 
 def open_bench(options, folder):
-    toolchain = Toolchain(options.cc, options.cflags.split(), folder, options.keep)
+    toolchain = Toolchain(options.cc, folder, options.keep)
     environment = preloaded(options.preload)
-    files = [USUAL] * options.known_faults + options.expected
     usual = family_of(toolchain.runtime(dict(os.environ)))
-    expectations = Expectations(toolchain.runtime(environment), read_expected(files), usual)
-    bench = Bench(toolchain, judge_of(options), environment, expectations)
+    expectations = Expectations(toolchain.runtime(environment), read_expected(options.expected), usual)
+    bench = Bench(toolchain, found_judge(), environment, expectations)
     bench.others[self_checking.VARIANT] = self_checking.try_case
     return bench
 
@@ -48,13 +49,10 @@ def plan_of(options, bench):
     return Plan(options.threads, options.runs, options.seed, options.timeout, tuple(settings))
 
 
-def mutate(bench, name):
-    """Makes the bench's runtime a mutant."""
-    mutants = mutants_of(entry_points(bench))
-    if name not in mutants:
-        raise Missing(f"no mutant {name} of this runtime; there are {', '.join(mutants)}")
-    library = build_mutants(entry_points(bench), bench.toolchain.folder)
-    bench.environment = mutated(bench.environment, library, name)
+def unit_in(path):
+    """What a cost of 1 lasts in the program of a file, in nanoseconds, as the head of a shrunk one says."""
+    found = re.match(r"# unit (\d+)\n", pathlib.Path(path).read_text(errors="replace"))
+    return int(found[1]) if found else DIRECTED_UNIT
 
 
 def program_in(path, judge):

@@ -83,7 +83,7 @@ class Emitter:
         """A group whose tasks each add one to a sum."""
         name = self.new_sum(indent)
         self.block(node, f"taskgroup task_reduction(+: {name})", indent, name)
-        self.put(indent, f"expect({name} == {addends(node.body)}); }}")
+        self.put(indent, f'expect("the sum of a group", {name}, {addends(node.body)}); }}')
 
     def region(self, node, indent):
         """The tasks of a group as the implicit tasks of a parallel region, whose end waits as a group's does."""
@@ -134,6 +134,7 @@ class Emitter:
         copied, own = self.copy(task, indent), self.own_turn(task, chunks, indent)
         self.pragma(f"taskloop{written_chunks(chunks, node)}{words}{self.clauses(task)}{copied}{own}")
         self.put(indent, head_of_taskloop(node))
+        self.put(indent + 1, f"if (!is_turn((long)v_{node.var}, {node.first}, {node.last})) continue;")
         self.strides.append((node, stride))
         if own:
             self.put(indent + 1, f"{is_known(chunks)}taskloop_turn(&own_turn, {self.segment(self.next)});")
@@ -141,7 +142,7 @@ class Emitter:
         self.strides.pop()
         self.put(indent, "}" + " }" * (bool(copied) + bool(own)))
         if name:
-            self.put(indent, f"expect({name} == {node.turns}); }}")
+            self.put(indent, f'expect("the sum of a taskloop", {name}, {node.turns}); }}')
         self.next = first + stride * node.turns - (1 if nogroup else 0)
 
     def task(self, node, indent):
@@ -235,7 +236,7 @@ class Emitter:
         self.finals += node.final
         self.start(indent)
         if copied:
-            self.put(indent, f"expect(copied[0] == {self.tasks - 1}u);")
+            self.put(indent, f'expect("data of a task", copied[0], {self.tasks - 1});')
         if its_sum:
             self.put(indent, f"{its_sum} += 1;")
         self.body(node.body, indent)

@@ -205,7 +205,7 @@ def seeds_in_turn(first, count):
     pairs = itertools.zip_longest(RECIPES, reversed(SHAPES))
     names = [name for pair in pairs for name in pair if name]
     seeds = {name: seeds_of(name) for name in names}
-    return [next(seeds[name]) for name in itertools.islice(itertools.cycle(names), count)]
+    return (next(seeds[name]) for name in itertools.islice(itertools.cycle(names), count))
 
 
 def random_program(seed, kinds, without=()):

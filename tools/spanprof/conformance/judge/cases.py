@@ -8,6 +8,7 @@ from dataclasses import dataclass, field, replace
 
 from spanprof.conformance.judge.chunks import wrong_chunks
 from spanprof.conformance.judge.coverage import Coverage
+from spanprof.conformance.judge.other_rules import other_rules
 from spanprof.conformance.judge.discarding import completed, may_discard, record_of, without_discarded
 from spanprof.conformance.emit.tasks import c_text
 from spanprof.conformance.judge.expected import Expectations
@@ -147,11 +148,13 @@ class Examined:
         """The verdict on a log, and what it tried. Equal logs get equal answers, so each is looked at once."""
         constrained = conditions.setting != "unconstrained"
         key = (conditions.threads, constrained, log.end, log.detail, log.unlogged, tuple(log.events),
-               tuple(map(tuple, log.turns)))
+               tuple(map(tuple, log.turns)), log.wrong)
         if key not in self.known:
             verdict = self.judged(log, constrained)
             ordered = verdict.accepted and not log.unlogged and not log.discarded
             tried = self.coverage.of_run(log.events, conditions.threads) if ordered else collections.Counter()
+            if verdict.accepted and not log.unlogged and self.coverage.needs:
+                tried += other_rules(self.table, log)
             self.known[key] = verdict, tried
         return self.known[key]
 

@@ -3,23 +3,16 @@ from dataclasses import dataclass
 
 from spanprof.conformance.judge import chunks, exclusion, tied
 from spanprof.conformance.generate.reader import read_program
+from spanprof.conformance.judge.rules import RULES, rule_of
 from spanprof.conformance.judge.segments import Table, conflict
 from spanprof.conformance.judge.standing import Standing, without_places
 
-RULES = {
-    "order": "a task's own code runs in its order",
-    "creation": "a task begins after it was created (task construct)",
-    "undeferred": "a task goes on only when its undeferred child is complete (`if` and `final` clauses)",
-    "dependence": "a task waits for earlier siblings with conflicting items (`depend` clause)",
-    "taskwait": "a taskwait waits for all children created so far (taskwait construct)",
-    "taskgroup": "the end of a group waits for all tasks created inside and for those below them (taskgroup construct)",
-}
 KINDS = {
-    "AlreadyStarted": ("twice", "a segment runs once"),
-    "WorkerBusy": ("two at once", "a thread leaves a task only where its code creates, waits or ends"),
-    "NotRunning": ("not running", "a segment is finished by the thread that started it"),
-    "UnknownSegment": ("unknown", "a program has only its own segments"),
-    "UnknownWorker": ("unknown", "spanprof counts 64 threads"),
+    "AlreadyStarted": ("twice", "which has begun before"),
+    "WorkerBusy": ("two at once", "while it runs another segment"),
+    "NotRunning": ("not running", "which it does not run"),
+    "UnknownSegment": ("unknown", "which the program does not have"),
+    "UnknownWorker": ("unknown", "and spanprof counts 64 threads"),
 }
 MOST_RUNNING, MOST_READY = 3, 5  # segments that are named
 CUT_SHORT = "rest of an untied task next to a cancelled group"
@@ -33,20 +26,27 @@ class Explanation:
 
 
 def explain(text, verdict, log, threads=0):
-    """What a verdict other than accepted means, of a run on so many threads, or on some number that is not known."""
+    """What a verdict other than accepted means, of a run on so many threads, or on some number that is not known: what
+    was seen, and what is expected."""
+    table = Table(read_program(text))
     if verdict.kind == "refused" and verdict.detail.startswith("event "):
-        return refused(Table(read_program(text)), verdict.detail, log)
-    if verdict.kind in ("hung", "incomplete", "crashed"):
-        return stopped(Table(read_program(text)), verdict, log, threads)
-    if verdict.kind == "chunks":
-        return Explanation(chunks.rule_of(verdict.detail), verdict.detail)
-    if verdict.kind == "overlapping":
-        return Explanation(exclusion.rule_of(verdict.detail), verdict.detail)
-    if verdict.kind == "unconstrained":
-        return Explanation(tied.rule_of(Table(read_program(text)), verdict.detail), verdict.detail)
-    if log and log.unlogged and verdict.kind == "refused":
-        return Explanation("twice", verdict.detail)
-    return Explanation(verdict.detail if verdict.kind == "refused" else verdict.kind, verdict.detail)
+        found = refused(table, verdict.detail, log)
+    elif verdict.kind in ("hung", "incomplete", "crashed"):
+        found = stopped(table, verdict, log, threads)
+    else:
+        found = Explanation(short_rule(table, verdict, log), verdict.detail)
+    return Explanation(found.rule, f"{found.words}. Expected: {RULES[rule_of(verdict.kind, found.rule)]}.")
+
+
+def short_rule(table, verdict, log):
+    """What tells failures apart of which the verdict itself says all."""
+    if verdict.kind == "values" and log.wrong:
+        return log.wrong.partition(": ")[0]
+    if verdict.kind == "refused":
+        return "twice" if log.unlogged else verdict.detail
+    own = {"chunks": chunks.rule_of, "overlapping": exclusion.rule_of,
+           "unconstrained": lambda words: tied.rule_of(table, words)}
+    return own[verdict.kind](verdict.detail) if verdict.kind in own else verdict.kind
 
 
 def refused(table, detail, log):
@@ -57,15 +57,15 @@ def refused(table, detail, log):
     begin = f"event {place}, `{event}`: thread {worker} " + ("starts " if what == "start" else "finishes ")
     begin += table.name_of(int(segment)) if int(segment) < len(table.cost) else f"segment {segment}"
     if kind != "NotReady":
-        rule, meaning = KINDS.get(kind, (kind, kind))
+        rule, seen = KINDS.get(kind, (kind, kind))
         rule += OF_EXCLUSIVE * (rule == "twice" and exclusion.is_below_exclusive(table.task_of[int(segment)]))
-        return Explanation(rule, f"{begin}, which is {kind}. The rule: {meaning}.")
+        rule = "iterations" if rule == "twice" and int(segment) in table.turn_of else rule
+        return Explanation(rule, f"{begin}, {seen}")
     need = table.need(int(others[0]), int(segment))
     rule, why = (need.rule, reason_of(table, need, int(segment))) if need else ("order", "by several rules together")
     short = CUT_SHORT if is_cut_short(table, int(others[0]), started_in(log.events)) else rule
     short += of_exclusive(table, need, int(segment), started_in(log.events[:int(place)])) if short == rule else ""
-    return Explanation(short, f"{begin} before {table.name_of(int(others[0]))} has finished: {why}. "
-                              f"The rule: {RULES[rule]}.")
+    return Explanation(short, f"{begin} before {table.name_of(int(others[0]))} has finished: {why}")
 
 
 def of_exclusive(table, need, segment, started):
@@ -118,11 +118,11 @@ def stopped(table, verdict, log, threads):
     standing = Standing(table, log.events, threads, log.unlogged)
     detail = f" ({verdict.detail})" if verdict.detail and verdict.kind != "incomplete" else ""
     words = [f"{verdict.kind.capitalize()}{detail}, with {len(standing.finished)} of {len(table.cost)} segments "
-             "finished."]
-    words += [f"Running: {table.name_of(s)}." for s in standing.running[:MOST_RUNNING]]
-    words += [f"Ready, but not started: {table.name_of(s)}." for s in standing.ready[:MOST_READY]]
+             "finished"]
+    words += [f"running: {table.name_of(s)}" for s in standing.running[:MOST_RUNNING]]
+    words += [f"ready, but not started: {table.name_of(s)}" for s in standing.ready[:MOST_READY]]
     left = set(range(len(table.cost))) - standing.finished
     is_short = all(is_cut_short(table, segment, set(standing.started)) for segment in left)
     rules = {"hung": f"at {standing.places()}", "crashed": without_places(verdict.detail),
              "incomplete": CUT_SHORT if is_short else "incomplete"}
-    return Explanation(rules.get(verdict.kind, verdict.kind), " ".join(words))
+    return Explanation(rules.get(verdict.kind, verdict.kind), "; ".join(words))

@@ -8,7 +8,8 @@ from typing import NamedTuple
 
 from spanprof.conformance.judge.chunks import Taskloop
 from spanprof.conformance.emit.loops import counts_down
-from spanprof.conformance.emit.forms import chunks_of, form_of, is_cancelled, is_detached, is_of_regions, kind_in_c
+from spanprof.conformance.emit.forms import (chunks_of, form_of, has_sum, is_cancelled, is_detached, is_of_regions,
+                                             kind_in_c)
 from spanprof.conformance.generate.program import Group, Loop, Wait, Work
 from spanprof.conformance.generate.text import head_of
 
@@ -59,6 +60,7 @@ class Table:
 
     def __init__(self, body):
         self.task_of, self.cost, self.cut, self.tasks, self.taskloops = [], [], [], [], []
+        self.turn_of, self.sums = {}, []  # of taskloops: by first segment, which turn of which; of sums: form, tasks
         self.regions = is_of_regions(body)
         self.cancellers = []  # of the group that is walked through
         root = self.begin(None, -1, "", (), "the root", False)
@@ -91,6 +93,7 @@ class Table:
                 for child in task.children[before:]:
                     child.implicit = self.regions and task.parent is None
                 inside = [t for child in task.children[before:] for t in child.family()]
+                self.sums += [(form_of(node), inside)] * (has_sum(node) and not task.final_inside)
                 self.open(task, Cut("taskgroup", form_of(node), tuple(inside)))
             elif isinstance(node, Loop):
                 before = len(task.children)
@@ -113,6 +116,9 @@ class Table:
         """The turns of what may be a taskloop. Where one task runs several, it may run what is below one of them while
         it waits in another."""
         clause = chunks_of(node)
+        if form_of(node) == "taskloop" and not parent.final_inside:
+            for number, turn in enumerate(turns, loop.first):
+                self.turn_of[turn.segments[0]] = f"iteration {number} of {loop.first}..{loop.last} of a taskloop"
         if clause not in ("", "any") and not parent.final_inside:
             firsts = [turn.segments[0] for turn in turns]
             self.taskloops.append(Taskloop(clause, tuple(firsts[::-1] if counts_down(loop) else firsts)))
@@ -159,7 +165,8 @@ class Table:
         """A segment in words."""
         task = self.task_of[segment]
         place = task.segments.index(segment) + 1
-        return f"segment {segment} (part {place} of {len(task.segments)} of task {task.number}, `{task.head}`)"
+        turn = ", " + self.turn_of[segment] if segment in self.turn_of else ""
+        return f"segment {segment} (part {place} of {len(task.segments)} of task {task.number}, `{task.head}`{turn})"
 
 
 def dependence_of(kind, then, undeferred):

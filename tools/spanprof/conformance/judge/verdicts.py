@@ -45,14 +45,14 @@ class Record:
         return len(self.preds)
 
 
-def find_spanprof(named, environment):
-    """Where the program is: where it is named, else where the environment's SPANPROF says, else where this repository
-    builds it, else on the PATH."""
-    told = named or environment.get("SPANPROF")
+def find_spanprof(environment):
+    """Where the program is: where the environment's SPANPROF says, else where this repository builds it, else on the
+    PATH."""
+    told = environment.get("SPANPROF")
     places = [told] if told else [str(BUILT), "spanprof"]
     found = [at for at in map(shutil.which, places) if at]
     if not found:
-        raise Missing(f"no program {' nor '.join(places)}; --spanprof says where it is")
+        raise Missing(f"no program {' nor '.join(places)}; SPANPROF says where it is")
     return found[0]
 
 
@@ -78,6 +78,8 @@ class Judge:
 
     def verdict(self, text, record, log):
         """Whether a run's log is that of a legal and finished run with the right record and values."""
+        if log.wrong:  # from a wrong number all else follows
+            return Verdict("values", log.wrong)
         if log.unlogged:
             return unordered_verdict(record, log)
         events = [event for event in log.events if event != "overflow"]
@@ -89,7 +91,7 @@ class Judge:
         if log.end != "done":
             return Verdict(log.end, log.detail)
         if replayed.accepted and log.detail not in ("", record.digest):
-            return Verdict("values", f"digest {log.detail} and not {record.digest}")
+            return wrong_value(record, log)
         return replayed
 
     def replay(self, text, record, events):
@@ -105,17 +107,29 @@ class Judge:
         return Verdict("accepted")
 
 
+def wrong_value(record, log):
+    """The verdict where the digest is wrong: the first segment that computed another value than it should."""
+    if not log.value:
+        return Verdict("values", f"digest {log.detail} was seen, {record.digest} is right")
+    segment, seen, right = log.value.split()
+    before = ", ".join(map(str, record.preds[int(segment)]))
+    return Verdict("values", f"segment {segment} computed {seen}, and from what segments {before} left {right} is "
+                             "right")
+
+
 def unordered_verdict(record, log):
     """The verdict on a run of which only values and counts are known, and no order."""
     counted = collections.Counter(log.events)
     repeated = sorted(event for event, count in counted.items() if count > 1)
     if repeated:
-        return Verdict("refused", f"{counted[repeated[0]]} times `{repeated[0]}`")
+        what, _, segment = repeated[0].split()
+        return Verdict("refused", f"segment {segment} {'began' if what == 'start' else 'ended'} "
+                                  f"{counted[repeated[0]]} times")
     if log.end != "done":
         return Verdict(log.end, log.detail)
     ended = sum(event.startswith("finish ") for event in counted)
     if ended < record.segments:
         return Verdict("incomplete", f"finished {ended} of {record.segments} segments")
     if log.detail != record.digest:
-        return Verdict("values", f"digest {log.detail} and not {record.digest}")
+        return wrong_value(record, log)
     return Verdict("accepted")

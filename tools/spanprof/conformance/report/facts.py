@@ -27,9 +27,8 @@ def tested(options, bench, settings):
              "environment": told_runtimes(bench.environment),
              **{f"setting {name}": SETTINGS[name].told() for name in settings},
              "tasks": ", ".join(options.tasks),
-             "mutant": options.mutate,
-             "part": str(options.shard) if options.shard.of > 1 else "",
              "directed programs": options.match if options.match != "*" else "",
+             "random programs": str(options.programs),
              "left out of random programs": ", ".join(options.without),
              "left out, as the compiler lacks a kind of item": lacking(options, toolchain.kinds)}
     return {name: fact for name, fact in facts.items() if fact}
@@ -42,14 +41,14 @@ def of_mutants(options, bench, settings):
             "settings": ", ".join(settings), "threads": ", ".join(map(str, options.threads)),
             "runs each": str(options.runs), "seed": str(options.seed), "timeout": str(options.timeout),
             "tasks": ", ".join(options.tasks), "random programs": str(options.programs),
-            "directed programs": options.match if options.directed else "none",
+            "directed programs": options.match,
             "texts of directed programs": hashlib.sha256(texts).hexdigest(),
             "left out of random programs": ", ".join(options.without), "seconds": str(options.seconds)}
 
 
 def lacking(options, kinds):
     """The directed programs that need a kind of item that the compiler lacks."""
-    return ", ".join(directed_cases(kinds, options.tasks, options.match)[1]) if options.directed else ""
+    return ", ".join(directed_cases(kinds, options.tasks, options.match)[1])
 
 
 def facts_of(what, results):

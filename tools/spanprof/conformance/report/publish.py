@@ -2,19 +2,18 @@
 import pathlib
 
 from spanprof.conformance.report import tables
-from spanprof.conformance.report.texts import as_json, coverage_lines, markdown, reproducer
-from spanprof.conformance.report.suites import junit, tap
+from spanprof.conformance.report.texts import coverage_lines, markdown, reproducer
+from spanprof.conformance.report.suites import junit
 
 # How a report is written, by the suffix of its file; in any other as Markdown.
-FORMS = {".json": as_json, ".xml": lambda report, _: junit(report.results),
-         ".tap": lambda report, _: tap(report.results)}
+FORMS = {".xml": lambda report, _: junit(report.results)}
 
 
 def publish(names, report):
     """Prints the tables, and the small programs where no report is asked for; writes the reports that are, names with
     commas."""
     results = report.results
-    for lines in (tables.summary(results, ["all"]), coverage_lines(report), report.delays, tables.expected(results),
+    for lines in (tables.summary(results, ["all"]), coverage_lines(report), tables.expected(results),
                   tables.kinds_of_failure(results)):
         print("\n".join([*lines, ""]))
     if not names:
@@ -27,9 +26,12 @@ def publish(names, report):
 
 
 def write_reports(paths, report):
-    """Writes the reports, and a text and a C file for each small program beside the last one."""
+    """Writes the reports, and a text and one C file for each failure beside the last one."""
     for path in paths:
         path.write_text(FORMS.get(path.suffix, markdown)(report, path.stem) + "\n")
     for number, one in enumerate(report.found, 1):
-        paths[-1].with_name(f"{paths[-1].stem}-{number}.tasks").write_text(one.text)
-        paths[-1].with_name(f"{paths[-1].stem}-{number}.c").write_text(one.source)
+        case, name = one.failure.case, f"{paths[-1].stem}-{number}"
+        if one.text:
+            paths[-1].with_name(f"{name}.tasks").write_text(f"# unit {case.unit}\n{one.text}")
+        source = one.alone.source.replace(f" {case.name}.c && ", f" {name}.c && ")
+        paths[-1].with_name(f"{name}.c").write_text(source)

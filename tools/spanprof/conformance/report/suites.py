@@ -1,5 +1,4 @@
-"""Results as other tools read them: a test for each program and the way its tasks are written, in JUnit's XML and in
-the Test Anything Protocol."""
+"""Results as other tools read them: in JUnit's XML, a test for each program and the way its tasks are written."""
 import re
 import xml.etree.ElementTree
 
@@ -23,19 +22,6 @@ def junit(results):
             xml.etree.ElementTree.SubElement(case, "skipped", {"message": f"expected: {', '.join(outcome.known)}"})
     xml.etree.ElementTree.indent(suite)
     return xml.etree.ElementTree.tostring(suite, encoding="unicode", xml_declaration=True)
-
-
-def tap(results):
-    """The same as lines of the Test Anything Protocol; an expected failure is a test that is still to do."""
-    outcomes = sorted(results.outcomes.items())
-    lines = ["TAP version 13", f"1..{len(outcomes)}"]
-    for number, ((name, variant), outcome) in enumerate(outcomes, 1):
-        fails = outcome.failed or is_expected(outcome)
-        todo = f" # TODO {', '.join(outcome.known)}" if is_expected(outcome) else ""
-        lines.append(f"{'not ok' if fails else 'ok'} {number} - {name} ({variant}){todo}")
-        if outcome.failed:
-            lines += [f"# {line}" for line in [told(outcome), *outcome.words.split("\n")]]
-    return "\n".join(lines)
 
 
 def is_expected(outcome):

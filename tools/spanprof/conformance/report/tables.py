@@ -1,6 +1,8 @@
 """Tables in Markdown."""
 from spanprof.conformance.judge.coverage import MEASURES, TRIED_RULES, all_waits, never
+from spanprof.conformance.judge.other_rules import OTHERS
 from spanprof.conformance.report.results import EXPECTED, SEEN_ONCE
+from spanprof.conformance.run.self_checking import VARIANT as SELF_CHECKING
 
 COUNTS = ("programs", "runs", "events", "refused", "incomplete", "values", "moved", "unconstrained",
           "overlapping", "chunks", "wrong", "hung", SEEN_ONCE, "crashed", "not built", EXPECTED)
@@ -41,9 +43,10 @@ def conditions(results):
 def coverage(results, kinds):
     """What was tried of each rule, by construct and number of threads; `kinds` of items are those of the compiler."""
     threads = sorted({key[3] for key in results.coverage})
-    keys = {key[:2] for key in results.coverage} | {*all_waits(kinds)}
+    keys = {key[:2] for key in results.coverage} | {*all_waits(kinds), *OTHERS}
+    order = [*TRIED_RULES, *dict(OTHERS), SELF_CHECKING]
     rows = []
-    for rule, construct in sorted(keys, key=lambda key: (TRIED_RULES.index(key[0]), key[1])):
+    for rule, construct in sorted(keys, key=lambda key: (order.index(key[0]), key[1])):
         cells = [" / ".join(str(results.coverage[rule, construct, measure, number]) for measure in MEASURES)
                  for number in threads]
         rows.append((rule, construct, *cells))

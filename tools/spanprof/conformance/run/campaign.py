@@ -6,7 +6,7 @@ import random
 import time
 
 from spanprof.conformance.run import self_checking
-from spanprof.conformance.judge.cases import Case
+from spanprof.conformance.judge.cases import Case, Tally
 from spanprof.conformance.generate.directed import directed_programs, kinds_of
 from spanprof.conformance.generate.random_programs import random_program
 from spanprof.conformance.run.progress import Progress, say
@@ -15,6 +15,7 @@ from spanprof.conformance.run.second_try import SecondTries, doubtful
 from spanprof.conformance.generate.variants import in_variant
 
 KINDS_IN_ORDER = {self_checking.VARIANT: 0, "tied": 1}
+MOST_BUILT = 400  # programs that are there at once
 DIRECTED_UNIT, RANDOM_UNIT = 100_000, 1_000  # nanoseconds for a cost of 1
 
 
@@ -40,11 +41,9 @@ def self_checking_cases(pattern="*"):
 
 def random_cases(seeds, kinds, variants, without):
     """Cases of random programs. Each is named for its shape and the seed that makes it."""
-    cases = []
     for seed in seeds:
         shape, body = random_program(seed, kinds, without)
-        cases += cases_of(f"{shape}-{seed}", body, variants, RANDOM_UNIT)
-    return cases
+        yield from cases_of(f"{shape}-{seed}", body, variants, RANDOM_UNIT)
 
 
 def spread(cases):
@@ -58,53 +57,62 @@ def telling_first(cases):
     return sorted(spread(cases), key=lambda case: KINDS_IN_ORDER.get(case.variant, len(KINDS_IN_ORDER)))
 
 
-class InTime:
-    """Tries cases on a bench as a plan says, as long as there is time; `seconds` may be infinite."""
+class Running:
+    """Cases that are tried side by side on a bench, in their order, as long as there is time."""
 
-    def __init__(self, bench, plan, seconds):
-        self.bench, self.plan = bench, plan
-        self.over = time.monotonic() + seconds if seconds < math.inf else None
+    def __init__(self, bench, plan, jobs, seconds):
+        self.bench, self.plan, self.jobs, self.over = bench, plan, jobs, time.monotonic() + seconds
+        self.pool, self.running = concurrent.futures.ThreadPoolExecutor(jobs), {}
 
-    def __call__(self, case):
-        """The case's tallies; None where it would begin too late."""
-        if self.over is not None and time.monotonic() > self.over:
-            return None
-        return self.bench.try_case(case, self.plan.conditions(case))
+    def is_over(self):
+        return time.monotonic() > self.over
+
+    def begin(self, cases):
+        """Begins as many as may run; programs that were built are forgotten now and then, when none runs."""
+        if len(self.bench.programs) >= MOST_BUILT and self.running:
+            return
+        if len(self.bench.programs) >= MOST_BUILT:
+            self.bench.forget()
+        while len(self.running) < self.jobs and not self.is_over():
+            case = next(cases, None)
+            if case is None:
+                return
+            self.running[self.pool.submit(self.bench.try_case, case, self.plan.conditions(case))] = case
+
+    def outcomes(self, cases):
+        """Each case with its tallies, as it ends."""
+        try:
+            self.begin(cases)
+            while self.running:
+                done, _ = concurrent.futures.wait(self.running, return_when=concurrent.futures.FIRST_COMPLETED)
+                for future in done:
+                    yield self.running.pop(future), future.result()
+                self.begin(cases)
+        finally:
+            self.pool.shutdown(cancel_futures=True)
 
 
-def tried(bench, cases, plan, jobs, seconds=math.inf):
-    """Each of the cases with its tallies, as it ends; each is run as the plan says. What may only have been slow comes
-    last, after a second try. No case is begun after so many seconds."""
-    progress, pool, slow = Progress(len(cases)), concurrent.futures.ThreadPoolExecutor(jobs), []
-    ordered, try_it = spread(cases) if seconds == math.inf else telling_first(cases), InTime(bench, plan, seconds)
-    try:
-        futures = {pool.submit(try_it, case): case for case in ordered}
-        for future in concurrent.futures.as_completed(futures):
-            if future.result() is None:
-                continue
-            progress.add(future.result())
-            if doubtful(future.result()):
-                slow.append((futures[future], future.result()))
-            else:
-                yield futures[future], future.result()
-        tries = SecondTries(lambda case, conditions: bench.try_case(case, [conditions])[0], bench.sure_hangs)
-        for number, (case, tallies) in enumerate(slow, 1):
-            say(f"a hang that may only have been slow is tried again: {number} of {len(slow)}, {case.name}")
-            yield case, tries.settled(case, tallies)
-    finally:
-        pool.shutdown(cancel_futures=True)
+def tried(bench, cases, plan, jobs, seconds=math.inf, count=0):
+    """Each of the cases, which are so many, with its tallies, as it ends; each is run as the plan says. What may only
+    have been slow comes last, after a second try. No case is begun after so many seconds, and none tried again."""
+    progress, slow, running = Progress(count), [], Running(bench, plan, jobs, seconds)
+    for case, tallies in running.outcomes(iter(cases)):
+        progress.add(tallies)
+        if doubtful(tallies):
+            slow.append((case, tallies))
+        else:
+            yield case, tallies
+    tries = SecondTries(lambda case, conditions: Tally(conditions) if running.is_over()
+                        else bench.try_case(case, [conditions])[0], bench.sure_hangs)
+    for number, (case, tallies) in enumerate(slow, 1):
+        say(f"a hang that may only have been slow is tried again: {number} of {len(slow)}, {case.name}")
+        yield case, tries.settled(case, tallies)
 
 
 def run_cases(bench, cases, plan, jobs, seconds=math.inf):
-    """The results of cases; none is begun after so many seconds."""
-    begun = time.monotonic()
-    return summed(tried(bench, cases, plan, jobs, seconds), begun)
-
-
-def summed(outcomes, begun):
-    """The results of cases with their tallies, which were begun at a time of the monotonic clock."""
-    results = Results()
-    for case, tallies in outcomes:
+    """The results of cases, those that tell most first; none is begun after so many seconds."""
+    begun, results = time.monotonic(), Results()
+    for case, tallies in tried(bench, telling_first(cases), plan, jobs, seconds, len(cases)):
         results.add(case, tallies)
     results.seconds = time.monotonic() - begun
     return results

@@ -1,69 +1,47 @@
-"""The file of a long campaign: a line of JSON that says what is tested, and then a line for each batch of programs.
-
-A batch is kept once it is whole. A last line that was cut short, since the process was ended, is taken away.
+"""The state of a test, from which the same command goes on where it was stopped: a file named for what is tested, with
+a line of JSON for each program that was tried. A last line that was cut short, since the process was ended, is taken
+away. The file goes once the whole report is there.
 """
 import fcntl
+import hashlib
 import json
-import os
 import pathlib
 
 from spanprof.errors import Fault
 
 
 class OtherCampaign(Fault):
-    """The file is of something else, or another process has it."""
+    """Another process has the file."""
 
 
-def whole_lines(path):
-    """What is tested, if the file says it; its batches, without a line that was cut short; how many bytes they take."""
-    text = path.read_bytes()
-    size = text.rfind(b"\n") + 1
-    lines = [json.loads(line) for line in text[:size].splitlines()]
-    if not all(isinstance(line, dict) for line in lines) or lines and not isinstance(lines[0].get("tested"), dict):
-        raise ValueError
-    return lines[0]["tested"] if lines else None, lines[1:], size
+def path_of(tested, folder):
+    """The file for a test of this in a folder."""
+    digest = hashlib.sha256(json.dumps(tested, sort_keys=True).encode()).hexdigest()
+    return pathlib.Path(folder) / f"conformance-{digest[:12]}.jsonl"
 
 
 class Journal:
-    """The journal in a file, which is begun where there is none. `tested` says what the campaign tests: whoever goes
-    on with it has to test the same."""
+    """`lines` has what an earlier process has kept of a test of the same."""
 
-    def __init__(self, path, tested):
-        self.path = pathlib.Path(path)
+    def __init__(self, tested, folder="."):
+        self.path = path_of(tested, folder)
         self.file = open(self.path, "ab")
-        try:
-            self.batches = self.take(tested)
-        except BaseException:
-            self.file.close()
-            raise
-
-    def take(self, tested):
-        """The batches that are in the file, which is ours from now on."""
         try:
             fcntl.flock(self.file, fcntl.LOCK_EX | fcntl.LOCK_NB)
         except BlockingIOError:
-            raise OtherCampaign(f"{self.path}: another campaign writes to it") from None
-        try:
-            before, batches, size = whole_lines(self.path)
-        except ValueError:
-            raise OtherCampaign(f"{self.path} is not the file of a campaign") from None
+            self.file.close()
+            raise OtherCampaign(f"{self.path}: another process makes the same test") from None
+        text = self.path.read_bytes()
+        size = text.rfind(b"\n") + 1
         self.file.truncate(size)
-        if before is None:
-            self.write({"tested": tested})
-        elif before != tested:
-            others = [name for name in sorted({*before, *tested}) if before.get(name) != tested.get(name)]
-            raise OtherCampaign(f"{self.path} is of a campaign with other {', '.join(others)}: name another --state")
-        return batches
+        self.lines = [json.loads(line) for line in text[:size].splitlines()]
 
-    def write(self, value):
-        self.file.write(json.dumps(value).encode() + b"\n")
+    def add(self, line):
+        """Keeps what came of a program."""
+        self.file.write(json.dumps(line).encode() + b"\n")
         self.file.flush()
-        os.fsync(self.file.fileno())
 
-    def add(self, batch):
-        """Keeps a batch."""
-        self.write(batch)
-        self.batches.append(batch)
-
-    def close(self):
+    def close(self, is_whole=False):
+        if is_whole:
+            self.path.unlink()
         self.file.close()

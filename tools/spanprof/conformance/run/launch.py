@@ -16,8 +16,9 @@ class Log:
     detail: str = ""      # the digest, or how it hung or broke down
     unlogged: bool = False  # whether the events are told apart from their order
     stacks: list = field(default_factory=list)  # of a run that hung, as a debugger's lines
-    moments: list = field(default_factory=list)  # of the events, in nanoseconds, where the run was timed
     discarded: list = field(default_factory=list)  # segments of tasks that were discarded, whose events were added
+    wrong: str = ""       # what the program itself saw to be wrong first
+    value: str = ""       # of the first segment with a wrong value: its number, what it computed, and what is right
     turns: list = field(default_factory=list)  # of taskloops: the first segment of one, and of the first of its task
 
 
@@ -41,12 +42,6 @@ ENDS = {"done": "done", "hung": "hung", "signal": "crashed", "runaway:": "crashe
 RUNAWAY = "runaway:"  # and how; else the detail of a crash is a signal's number
 
 
-def cut_moment(line):
-    """The line of an event, and its moment where it has one."""
-    words = line.split() if line.count(" ") > 2 else ()
-    return (" ".join(words[:3]), [int(words[3])]) if len(words) == 4 else (line, [])
-
-
 def read_logs(text):
     """The logs in what a program wrote. One without an end is that of a run in which the program broke down."""
     logs = []
@@ -59,12 +54,12 @@ def read_logs(text):
             logs[-1].end, logs[-1].detail = ENDS[word], line if word == RUNAWAY else rest
         elif word == "stack" and logs:
             logs[-1].stacks.append(rest)
+        elif word in ("wrong", "value") and logs:
+            setattr(logs[-1], word, rest)
         elif word == "turn" and logs:
             logs[-1].turns.append([int(number) for number in rest.split()])
         elif word in ("start", "finish", "overflow") and logs:
-            event, moment = cut_moment(line)
-            logs[-1].events.append(event)
-            logs[-1].moments += moment
+            logs[-1].events.append(line)
     return logs
 
 

@@ -74,10 +74,10 @@ def cases_of_campaign(options, kinds, number):
     """What `run` tries: the self-checking programs, the directed part, and random programs that no other campaign has,
     in a random order; each program first with tasks of the first kind."""
     first = options.seed + number * SEEDS_APART
-    directed = directed_cases(kinds, options.tasks, options.match)[0] if options.directed else []
+    directed = directed_cases(kinds, options.tasks, options.match)[0]
     seeds = seeds_in_turn(first, options.programs)
-    cases = directed + random_cases(seeds, kinds, options.tasks, options.without)
-    alone = self_checking_cases(options.match) if options.directed else []
+    cases = directed + list(random_cases(seeds, kinds, options.tasks, options.without))
+    alone = self_checking_cases(options.match)
     random.Random(first).shuffle(cases)
     random.Random(first).shuffle(alone)
     return alone + sorted(cases, key=lambda case: options.tasks.index(case.variant))

@@ -6,12 +6,15 @@ from dataclasses import dataclass, field, replace
 
 from spanprof.conformance.judge.cases import Failure
 from spanprof.conformance.judge.verdicts import Refused
+from spanprof.conformance.run.alone import file_of_program, one_file
 from spanprof.conformance.run.progress import say
+from spanprof.conformance.run.self_checking import is_self_checking
 from spanprof.conformance.run.shrink import Shrinker, Trial
 
 MOST_EVENTS = 60        # of a log that is shown
 FACTORS = (1, 4, 5)     # by which the runs grow where a failure is not seen again
 LESS = 2                # by how much less often a small program fails where that is told
+OF_PROGRAM = 2          # runs of a self-checking program
 LONGEST_TIMEOUT = 3     # seconds, while a program is made smaller
 
 
@@ -21,7 +24,7 @@ class Found:
     failure: Failure
     origin: str
     text: str
-    source: str
+    alone: object      # its one C file
     tried: int
     failed: int
     runs: int
@@ -59,21 +62,36 @@ class Limits:
 
 
 def reproduce_all(bench, failures, limits, jobs):
-    """What is found for each of the failures, of which so many are shrunk side by side."""
+    """What is found for each of the failures, of which so many are shrunk side by side, or for those that are done when
+    somebody stops it."""
     interrupted = threading.Event()
+    done = []
 
     def reproduce(failure):
         over = time.monotonic() + limits.seconds
+        if is_self_checking(failure.case):
+            return of_program(bench, failure)
         found = Reproducer(bench, failure, limits, lambda: interrupted.is_set() or time.monotonic() > over).reproduce()
         say(f"made smaller: {failure.case.name}, {failure.verdict.kind}, {failure.rule}")
         return found
 
     pool = concurrent.futures.ThreadPoolExecutor(jobs)
     try:
-        return list(pool.map(reproduce, failures))
+        for found in pool.map(reproduce, failures):
+            done.append(found)
+    except KeyboardInterrupt:
+        say("stopped: the programs are as small as they were")
     finally:
         interrupted.set()
         pool.shutdown(cancel_futures=True)
+    return done
+
+
+def of_program(bench, failure):
+    """A self-checking program is as small as it can be; it is run once more."""
+    tally = bench.try_case(failure.case, [replace(failure.conditions, runs=OF_PROGRAM)])[0]
+    file = file_of_program(bench, failure, f"{failure.case.name}.c", len(tally.failures), tally.runs)
+    return Found(failure, failure.case.name, "", file, 0, len(tally.failures), tally.runs, [])
 
 
 class Reproducer:
@@ -96,8 +114,9 @@ class Reproducer:
         stacks = self.bench.stacks_of(small.case, self.conditions) if small.verdict.kind == "hung" else []
         examined = self.bench.examined(small.case)
         ways = sorted({f"{f.verdict.kind}, {f.rule}" for f in tally.failures})
-        return Found(small, self.failure.case.name, examined.text, examined.source(), len(shrinker.seen),
-                     len(tally.failures), tally.runs, ways, (first.failed, first.runs) if first else (), stacks)
+        alone = one_file(self.bench, small, examined, f"{small.case.name}.c")
+        return Found(small, self.failure.case.name, examined.text, alone, len(shrinker.seen), len(tally.failures),
+                     tally.runs, ways, (first.failed, first.runs) if first else (), stacks)
 
     def first_again(self):
         """The failure once more. A rare one takes more runs, which then all later tries get."""

@@ -102,22 +102,25 @@ def tally(bench, case, told, program, conditions):
     for _ in range(min(RUNS, conditions.runs)):
         verdict = run(program, told, conditions, bench.environment)
         out.runs += 1
+        for section in told.sections:
+            out.coverage.update([(VARIANT, section, "waits")] + [(VARIANT, section, "held")] * (conditions.threads > 1))
         if not verdict.accepted:
-            out.failures.append(failure(case, conditions, verdict))
+            out.failures.append(failure(case, told, conditions, verdict))
         if verdict.kind in ("hung", "crashed"):
             break
     return bench.expectations.settled(out)
 
 
-def failure(case, conditions, verdict):
+def failure(case, told, conditions, verdict):
     """A hang of a program is told apart from that of another by its name, all else by what the program says."""
     rule = case.name if verdict.kind == "hung" else rule_of(verdict.detail)
-    return Failure(case, conditions, verdict, rule, f"{case.name}: {verdict.detail}", None)
+    return Failure(case, conditions, verdict, rule, f"{verdict.detail}. Expected: {told.shows} (OpenMP 5.2, "
+                                                    f"{', '.join(told.sections)})", None)
 
 
 def rule_of(detail):
     """What is right, without numbers that differ from run to run."""
-    return without_places(re.sub(r": -?\d+ was seen.*", "", detail.split("\n")[0]))
+    return without_places(re.sub(r": (-?\d+|it) was .*", "", detail.split("\n")[0]))
 
 
 def run(program, told, conditions, environment):

@@ -4,7 +4,6 @@ import copy
 import functools
 
 from spanprof.conformance.judge.cases import Bench, Examined
-from spanprof.conformance.judge.plain import PlainFirst
 from spanprof.conformance.run.second_try import SecondTries
 
 
@@ -26,7 +25,7 @@ class SparingBench(Bench):
     """Made of another bench. `known` has what is known of each case, whatever the runtime."""
 
     def __init__(self, bench):
-        super().__init__(bench.toolchain, PlainFirst(bench.judge.spanprof), bench.environment, bench.expectations)
+        super().__init__(bench.toolchain, bench.judge, bench.environment, bench.expectations)
         self.known, self.others = {}, bench.others
 
     def in_environment(self, environment):

@@ -5,6 +5,7 @@ import itertools
 import os
 import pathlib
 import shlex
+import shutil
 import subprocess
 
 from spanprof.conformance.data import DATA
@@ -47,10 +48,11 @@ class Toolchain:
     """`cc` with the flags for OpenMP; objects go to `folder`. Programs go to the folder `kept`, if there is one, for
     other processes to find."""
 
-    def __init__(self, cc, flags, folder, kept=None):
+    def __init__(self, cc, folder, kept=None):
         self.numbers = itertools.count()
-        self.cc, self.folder, self.kept = shlex.split(cc), pathlib.Path(folder), kept and pathlib.Path(kept).resolve()
-        self.shown_flags = ["-O1", "-g", "-fopenmp", *flags]
+        self.folder, self.kept = pathlib.Path(folder), kept and pathlib.Path(kept).resolve()
+        first, *flags = shlex.split(cc)
+        self.cc, self.shown_flags = [first], ["-O1", "-g", "-fopenmp", *flags]
         if "clang" in self.cc[0] and not any("fopenmp-version" in flag for flag in flags):
             self.shown_flags.append("-fopenmp-version=52")
         self.flags = [*self.shown_flags, f"-I{HARNESS}"]
@@ -152,6 +154,17 @@ class Toolchain:
     def version(self):
         done = subprocess.run([*self.cc, "--version"], capture_output=True, text=True, check=False)
         return done.stdout.split("\n")[0]
+
+    def runtime_version(self, environment):
+        """The runtime library's file and, where a package has it, that package's name and version."""
+        path = self.runtime(environment)
+        for words in (["dpkg-query", "--search", path], ["rpm", "--query", "--file", path]):
+            if shutil.which(words[0]):
+                package = subprocess.run(words, capture_output=True, text=True, check=False).stdout.partition(": ")[0]
+                show = ["dpkg-query", "--show", package] if words[0] != "rpm" else words
+                told = package and subprocess.run(show, capture_output=True, text=True, check=False).stdout.split()
+                return f"{' '.join(told)} ({path})" if told else path
+        return path
 
     def runtime(self, environment):
         """The file of the runtime library that programs load."""

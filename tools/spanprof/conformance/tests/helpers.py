@@ -30,7 +30,7 @@ class StubBench:
     """Every program for which `fails` holds fails in its first run under each of the conditions."""
 
     def __init__(self, fails=lambda body: False):
-        self.fails, self.tried, self.forgotten, self.sure_hangs = fails, [], 0, set()
+        self.fails, self.tried, self.sure_hangs, self.programs = fails, [], set(), {}
         self.toolchain = self
         self.kinds = {"in", "out", "inout", "inoutset"}
 
@@ -42,6 +42,3 @@ class StubBench:
         failures = [failure_of(case, at.threads)] if self.fails(case.body) else []
         return Tally(at, at.runs, 2 * at.runs, failures, collections.Counter(plain=at.runs),
                      collections.Counter({("taskwait", "taskwait", "held"): 1}))
-
-    def forget(self):
-        self.forgotten += 1

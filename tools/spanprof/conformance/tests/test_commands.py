@@ -1,7 +1,7 @@
 """What commands print and write, and their exit statuses."""
 import contextlib
 import io
-import json
+import math
 import pathlib
 import tempfile
 import types
@@ -9,10 +9,11 @@ import unittest
 from unittest import mock
 
 from spanprof.conformance import commands
-from spanprof.conformance.judge.expected import WrongLine
 from spanprof.conformance.judge.verdicts import Judge, Missing, Verdict
+from spanprof.conformance.opening import unit_in
 from spanprof.conformance.report.publish import publish
-from spanprof.conformance.tests.helpers import failure_of
+from spanprof.conformance.run.journal import Journal
+from spanprof.conformance.tests.helpers import PLAN, StubBench, failure_of
 from spanprof.conformance.report.tests.test_texts import found_of, report_of
 
 WORKED = "omptasks 1\nwork 5 task { work 3 } work 2 taskwait work 1\n"
@@ -34,19 +35,18 @@ class Quiet(unittest.TestCase):
 
 class Publishing(Quiet):
     def test_several_forms_of_one_report(self):
-        names = [self.folder / f"all.{suffix}" for suffix in ("xml", "tap", "md")]
+        names = [self.folder / f"all.{suffix}" for suffix in ("xml", "md")]
         self.call(publish, ",".join(map(str, names)), report_of())
-        self.assertEqual([name.read_text()[:5] for name in names], ["<?xml", "TAP v", "# Con"])
+        self.assertEqual([name.read_text()[:5] for name in names], ["<?xml", "# Con"])
 
     def test_report_with_its_programs(self):
-        for suffix in ("md", "json"):
-            name = self.folder / f"report.{suffix}"
-            _, printed = self.call(publish, str(name), report_of(found=[found_of(failure_of())]))
-            self.assertIn("| refused | taskwait | tied |", printed)
-            self.assertEqual((self.folder / "report-1.tasks").read_text(), "omptasks 1\ntaskwait\n")
-            self.assertEqual((self.folder / "report-1.c").read_text(), "int main(void);\n")
-        self.assertTrue((self.folder / "report.md").read_text().startswith("# Conformance"))
-        self.assertIn("facts", json.loads((self.folder / "report.json").read_text()))
+        name = self.folder / "report.md"
+        _, printed = self.call(publish, str(name), report_of(found=[found_of(failure_of())]))
+        self.assertIn("| refused | taskwait | tied |", printed)
+        self.assertEqual((self.folder / "report-1.tasks").read_text(), "# unit 1000\nomptasks 1\ntaskwait\n")
+        self.assertEqual(unit_in(self.folder / "report-1.tasks"), 1000)
+        self.assertEqual((self.folder / "report-1.c").read_text(), "int main(void);\n")
+        self.assertTrue(name.read_text().startswith("# Conformance"))
 
     def test_without_a_report_the_programs_are_printed(self):
         _, printed = self.call(publish, "", report_of(found=[found_of(failure_of())]))
@@ -54,13 +54,37 @@ class Publishing(Quiet):
         self.assertEqual(list(self.folder.iterdir()), [])
 
 
+class Stopping(Quiet):
+    """A test is stopped after two programs, and the same command goes on."""
+
+    def run_all(self, bench):
+        options = types.SimpleNamespace(seed=1, programs=3, tasks=["tied"], without=["loop"], match="in_final", jobs=1,
+                                        seconds=math.inf)
+        with contextlib.closing(Journal({"seed": "1"}, self.folder)) as journal:
+            return commands.run_all(options, bench, PLAN, journal)
+
+    def test_it_goes_on(self):
+        class Stopped(StubBench):
+            def try_case(self, case, all_conditions):
+                if len(self.tried) == 2:
+                    raise KeyboardInterrupt
+                return super().try_case(case, all_conditions)
+
+        results, is_whole = self.run_all(Stopped())
+        self.assertEqual((len(results.outcomes), is_whole), (2, False))
+        bench = StubBench()
+        results, is_whole = self.run_all(bench)
+        self.assertEqual((len(bench.tried), len(results.outcomes), is_whole), (2, 4, True))
+        self.assertEqual(self.run_all(StubBench())[0].runs, results.runs)
+
+
 class Judging(Quiet):
     def judged(self, log, verdict=Verdict("accepted")):
         program, logs = self.folder / "x.tasks", self.folder / "x.log"
         program.write_text(WORKED)
         logs.write_text(log)
-        options = types.SimpleNamespace(file=program, log=logs, spanprof="")
-        with mock.patch.object(commands, "judge_of", lambda options: Judge("none")), \
+        options = types.SimpleNamespace(file=program, log=logs)
+        with mock.patch.object(commands, "found_judge", lambda: Judge("none")), \
                 mock.patch.object(Judge, "record", lambda self, text: None), \
                 mock.patch.object(Judge, "verdict", lambda self, text, record, log: verdict):
             return self.call(commands.command_judge, options, self.folder)
@@ -77,15 +101,6 @@ class Judging(Quiet):
     def test_log_without_runs(self):
         with self.assertRaisesRegex(Missing, "no line `run NUMBER`"):
             self.judged("hello\n")
-
-
-class Bisecting(Quiet):
-    def test_what_cannot_be_tried_is_neither_good_nor_bad(self):
-        for reason in (Missing("no program"), FileNotFoundError("no compiler"), WrongLine("no line")):
-            with mock.patch.object(commands, "open_bench", mock.Mock(side_effect=reason)), \
-                    contextlib.redirect_stderr(io.StringIO()) as complained:
-                self.assertEqual(commands.command_bisect(None, self.folder), 125)
-            self.assertIn(str(reason), complained.getvalue())
 
 
 class Listing(Quiet):

@@ -19,18 +19,19 @@ class Sums(unittest.TestCase):
                          ["in_reduction(+: sum_1)", "if(conformance_no) in_reduction(+: sum_1)"])
         self.assertIn("#pragma omp task", lines)
         self.assertEqual(lines.count("sum_1 += 1;"), 2)
-        self.assertEqual(lines[-3:], ["expect(sum_1 == 4); }", "segment_start(11u);", "segment_finish();"])
+        self.assertEqual(lines[-3:], ['expect("the sum of a group", sum_1, 4); }', "segment_start(11u);",
+                                      "segment_finish();"])
 
     def test_a_taskloop(self):
         lines = lines_of("taskgroup { #: taskloop reduction\n for i 1 3 { task { taskgroup { task { } } } } }")
         self.assertIn("#pragma omp taskloop num_tasks(3) reduction(+: sum_1)", lines)
         self.assertEqual(lines.count("sum_1 += 1;"), 1)
-        self.assertIn("expect(sum_1 == 3); }", lines)
+        self.assertIn('expect("the sum of a taskloop", sum_1, 3); }', lines)
 
     def test_inner_groups_have_their_own(self):
         lines = lines_of("taskgroup { #: reduction\n task { } taskgroup { task { } } }")
         self.assertEqual(lines.count("sum_1 += 1;"), 1)
-        self.assertIn("expect(sum_1 == 1); }", lines)
+        self.assertIn('expect("the sum of a group", sum_1, 1); }', lines)
 
     def test_where_no_task_adds(self):
         for inner in ("taskwait", "task if(0) depend(in: a) { #: taskwait\n}", "taskgroup { task { } }"):

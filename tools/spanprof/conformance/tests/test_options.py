@@ -1,11 +1,12 @@
 """The words of the command line."""
 import contextlib
 import io
+import math
 import unittest
 
 from spanprof.conformance.commands import COMMANDS
 from spanprof.conformance.options import parse
-from spanprof.conformance.run.shards import Shard
+from spanprof.conformance.judge.expected import USUAL
 
 
 def parsed(words):
@@ -24,21 +25,16 @@ class Options(unittest.TestCase):
         self.assertEqual(run.threads, (1, 2, 4, 16))
         self.assertEqual(mutants.threads, (2, 4))
         self.assertEqual((run.settings, mutants.settings), ([], []))  # those for the runtime
-        self.assertEqual((run.known_faults, run.expected), (True, []))
+        self.assertEqual(run.expected, [USUAL])
         self.assertEqual(run.tasks, ["tied", "untied", "mixed"])
-        self.assertEqual((run.hours, run.directed, run.report), (0, True, ""))
+        self.assertEqual((run.programs, mutants.programs, run.seconds, run.report), (100, 20, math.inf, ""))
 
     def test_each_command_is_called(self):
         for name, call in COMMANDS.items():
-            words = {"emit": "x", "judge": "x y", "shrink": "x --cc gcc", "bisect": "x --cc gcc",
-                     "merge": "x.jsonl y.jsonl", "list": ""}.get(name, "--cc gcc")
+            words = {"emit": "x", "judge": "x y", "shrink": "x --cc gcc",
+                     "list": ""}.get(name, "--cc gcc")
             self.assertIs(parsed(f"{name} {words}").call, call)
             self.assertTrue(call.__doc__, name)
-
-    def test_parts(self):
-        self.assertEqual(parsed("run --cc gcc").shard, Shard(1, 1))
-        self.assertEqual(parsed("run --cc gcc --shard 2/8").shard, Shard(2, 8))
-        self.assertIn("invalid", self.refused("run --cc gcc --shard 9/8"))
 
     def test_lists(self):
         options = parsed("run --cc gcc --threads 3,64 --settings pinned,free --tasks mixed --without loop,if(0)")
@@ -51,22 +47,12 @@ class Options(unittest.TestCase):
         options = parsed("run --cc gcc --programs 0 --seed 0 --jobs 1")
         self.assertEqual((options.programs, options.seed, options.jobs), (0, 0, 1))
 
-    def test_what_is_refused_before_hours_of_runs(self):
-        for words, why in (("--hours -1", "-1 is no number of hours"), ("--hours nan", "nan is no number of hours"),
-                           ("--report /none/x.md", "there is no folder /none"),
+    def test_what_is_refused_before_all_runs(self):
+        for words, why in (("--report /none/x.md", "there is no folder /none"),
                            ("--match none", "no directed or self-checking program's name fits none")):
             said = self.refused("run --cc gcc " + words)
             self.assertIn(why, said)
             self.assertEqual(said.splitlines()[0], "usage: spanprof-conformance run [options] --cc CC")
-
-    def test_hours(self):
-        options = parsed("run --cc gcc --hours 0.5 --state night.jsonl")
-        self.assertEqual((options.hours, options.state), (0.5, "night.jsonl"))
-
-    def test_programs_of_a_batch_are_fewer(self):
-        self.assertEqual(parsed("run --cc gcc").programs, 100)
-        self.assertEqual(parsed("run --cc gcc --hours 2").programs, 10)
-        self.assertEqual(parsed("run --cc gcc --hours 2 --programs 50").programs, 50)
 
     def test_what_is_refused(self):
         self.assertIn("1 to 64", self.refused("run --cc gcc --threads 2,65"))

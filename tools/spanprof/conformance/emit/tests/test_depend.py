@@ -68,7 +68,7 @@ class Chunks(unittest.TestCase):
     def test_each_turn_tells_of_which_task_it_is(self):
         lines = lines_of("for i 0 4 { #: taskloop num_tasks(2)\n task { } }")
         begin = lines.index("{ unsigned own_turn = 0;")
-        self.assertEqual(lines[begin + 3:begin + 7],
+        self.assertEqual(lines[begin + 4:begin + 8],
                          ["taskloop_turn(&own_turn, 1u + 2u * (unsigned)(v_i - 0));",
                           "segment_start(1u + 2u * (unsigned)(v_i - 0));", "segment_finish();", "} }"])
         strict = lines_of("for i 0 4 { #: taskloop num_tasks(strict:2)\n task { } }")

@@ -49,6 +49,7 @@ class Emission(unittest.TestCase):
             "segment_start(0u);", "segment_finish();",
             "for (unsigned turn = 1; turn <= 3; turn++) segment_pass(0u + 2u * turn);",
             "#pragma omp taskloop num_tasks(3)", "for (int v_i = 0; v_i <= 2; v_i++) {",
+            "if (!is_turn((long)v_i, 0, 2)) continue;",
             "segment_start(1u + 2u * (unsigned)(v_i - 0));", "segment_finish();", "}", "segment_start(7u);",
             "segment_finish();"])
 
@@ -82,13 +83,13 @@ class Emission(unittest.TestCase):
         lines = lines_of("task { } task { #: copied\n work 1 }")
         self.assertEqual(lines[8:16], [
             "segment_finish();", "{ unsigned copied[COPIED_LENGTH]; copied[0] = 1u;",
-            "#pragma omp task firstprivate(copied)", "{", "segment_start(3u);", "expect(copied[0] == 1u);",
-            "segment_finish();", "} }"])
+            "#pragma omp task firstprivate(copied)", "{", "segment_start(3u);",
+            'expect("data of a task", copied[0], 1);', "segment_finish();", "} }"])
 
     def test_copied_by_a_taskloop(self):
         lines = lines_of("taskgroup { #: taskloop reduction\n for i 1 3 { task { #: copied\n work 1 } } }")
         self.assertIn("#pragma omp taskloop num_tasks(3) reduction(+: sum_1) firstprivate(copied)", lines)
-        self.assertIn("expect(copied[0] == 0u);", lines)
+        self.assertIn('expect("data of a task", copied[0], 0);', lines)
 
     def test_target(self):
         lines = lines_of("task depend(out: a) { #: target\n work 1 } taskwait")

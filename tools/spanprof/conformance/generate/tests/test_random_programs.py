@@ -34,13 +34,13 @@ class Generation(unittest.TestCase):
             self.assertNotIn(left_out, found)
 
     def test_seeds_in_turn(self):
-        seeds = seeds_in_turn(7, 30)
+        seeds = list(seeds_in_turn(7, 30))
         self.assertTrue(all(seed >= 7 for seed in seeds))
         self.assertEqual(len(set(seeds)), 30)
         names = [random_program(seed, C_KINDS)[0] for seed in seeds]
         self.assertEqual(names[:2 * len(RECIPES):2], list(RECIPES))
         self.assertEqual({*names[:len(RECIPES) + len(SHAPES)]}, {*RECIPES, *SHAPES})
-        self.assertEqual(seeds_in_turn(7, 4), seeds[:4])
+        self.assertEqual(list(seeds_in_turn(7, 4)), seeds[:4])
 
     def test_kinds_of_items(self):
         kinds = {item.kind for seed in SEEDS for node in nodes(random_program(seed, {"in", "out"})[1])

@@ -1,7 +1,8 @@
 """What is said of a run that was not accepted."""
 import unittest
 
-from spanprof.conformance.judge.explain import CUT_SHORT, OF_EXCLUSIVE, RULES, explain
+from spanprof.conformance.judge.explain import CUT_SHORT, OF_EXCLUSIVE, explain
+from spanprof.conformance.judge.rules import RULES
 from spanprof.conformance.judge.verdicts import Verdict
 from spanprof.conformance.run.launch import Log
 from spanprof.conformance.generate.reader import read_program
@@ -20,7 +21,7 @@ def told(text, detail, event, kind="refused", place=1):
 class Refusals(unittest.TestCase):
     def rule(self, text, before, event):
         found = told(text, f"event 1: NotReady {before}", event)
-        self.assertIn(RULES[found.rule], found.words)
+        self.assertIn(str(RULES[found.rule]), found.words)
         return found.rule, found.words
 
     def test_each_rule(self):
@@ -54,6 +55,18 @@ class Refusals(unittest.TestCase):
         self.assertEqual(told(WORKED, "event 1: WorkerBusy", "start 0 1").rule, "two at once")
         self.assertEqual(told(WORKED, "event 1: NotRunning", "finish 1 0").rule, "not running")
         self.assertIn("segment 9", told(WORKED, "event 1: UnknownSegment", "start 0 9").words)
+
+    def test_a_turn_that_runs_again(self):
+        text = "omptasks 2 taskgroup { #: taskloop\n for i 3 4 { task { } } }"
+        found = told(text, "event 1: AlreadyStarted", "start 1 3")
+        self.assertEqual(found.rule, "iterations")
+        self.assertIn("iteration 4 of 3..4 of a taskloop), which has begun before. Expected: ", found.words)
+
+    def test_what_the_program_saw_itself(self):
+        log = Log(0, "plain", [], "done", wrong="iterations of a taskloop: 12 ran, of 1..11")
+        found = explain(WORKED, Verdict("values", log.wrong), log)
+        self.assertEqual((found.rule, found.words),
+                         ("iterations of a taskloop", f"{log.wrong}. Expected: {RULES['iterations']}."))
 
     def test_what_is_no_event(self):
         self.assertEqual(told(WORKED, "another record than that of `run`", "start 0 0").rule,
@@ -130,13 +143,14 @@ class Stops(unittest.TestCase):
         log = Log(0, "late", ["start 0 0", "finish 0 0", "start 1 1"], "hung")
         found = explain(WORKED, Verdict("hung"), log)
         self.assertEqual(found.rule, "at after a task")
-        self.assertEqual(found.words, "Hung, with 1 of 4 segments finished. Running: segment 1 (part 1 of 1 of task 1, "
-                                      "`task`). Ready, but not started: segment 2 (part 2 of 3 of task 0, `the root`).")
+        self.assertEqual(found.words, "Hung, with 1 of 4 segments finished; running: segment 1 (part 1 of 1 of task 1, "
+                                      "`task`); ready, but not started: segment 2 (part 2 of 3 of task 0, `the root`)."
+                                      f" Expected: {RULES['end']}.")
 
     def test_crashed(self):
         found = explain(WORKED, Verdict("crashed", "signal 6: oh"), Log(0, "late", [], "crashed", "signal 6: oh"))
         self.assertEqual(found.rule, "signal 6: oh")
-        self.assertTrue(found.words.startswith("Crashed (signal 6: oh), with 0 of 4 segments finished."))
+        self.assertTrue(found.words.startswith("Crashed (signal 6: oh), with 0 of 4 segments finished"))
 
     def test_large_programs_list_nothing_ready(self):
         text = "omptasks 2 for i 1 600 { task { } }"

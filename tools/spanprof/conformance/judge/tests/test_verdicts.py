@@ -1,6 +1,4 @@
 """Judging, of answers that are given here in spanprof's place."""
-import pathlib
-import tempfile
 import unittest
 
 from spanprof.conformance.judge.verdicts import Judge, Missing, Record, Refused, Verdict, find_spanprof
@@ -69,6 +67,14 @@ class Judging(unittest.TestCase):
 
     def test_values(self):
         self.assertEqual(verdict(WHOLE, detail="1").kind, "values")
+        log = Log(0, "plain", [], "done", "1", value="3 26 31")
+        self.assertEqual(Answers(WHOLE).verdict("", RECORD, log).detail,
+                         "segment 3 computed 26, and from what segments 1, 2 left 31 is right")
+
+    def test_what_the_program_saw_comes_before_all_that_follows_from_it(self):
+        log = Log(0, "plain", ["start 0 0"], "done", wrong="iterations of a taskloop: 12 ran, of 1..11")
+        found = Answers((1, "error: event 1: NotReady 0\n")).verdict("", RECORD, log)
+        self.assertEqual(found, Verdict("values", log.wrong))
 
     def test_hung_and_crashed(self):
         self.assertEqual(verdict(WHOLE, end="hung", detail="").kind, "hung")
@@ -86,26 +92,18 @@ class Judging(unittest.TestCase):
         self.assertTrue(self.unordered(whole).accepted)
         self.assertEqual(self.unordered(whole, "1").kind, "values")
         self.assertEqual(self.unordered(whole[:-1]).detail, "finished 3 of 4 segments")
-        self.assertEqual(self.unordered([*whole, "start 0 2"]).detail, "2 times `start 0 2`")
+        self.assertEqual(self.unordered([*whole, "start 0 2"]).detail, "segment 2 began 2 times")
         self.assertEqual(self.unordered(whole[:3], "asleep", "hung"), Verdict("hung", "asleep"))
         self.assertEqual(self.unordered([*whole, "start 0 2"], "busy", "hung").kind, "refused")
 
 
 class Finding(unittest.TestCase):
-    def test_named_before_told(self):
-        with tempfile.TemporaryDirectory() as folder:
-            paths = []
-            for name in ("one", "two"):
-                paths.append(pathlib.Path(folder) / name)
-                paths[-1].write_text("#!/bin/sh\n")
-                paths[-1].chmod(0o755)
-            one, two = map(str, paths)
-            self.assertEqual(find_spanprof(one, {"SPANPROF": two}), one)
-            self.assertEqual(find_spanprof("", {"SPANPROF": two}), two)
+    def test_where_the_environment_says(self):
+        self.assertEqual(find_spanprof({"SPANPROF": "/bin/sh"}), "/bin/sh")
 
     def test_what_is_named_has_to_be_there(self):
         with self.assertRaisesRegex(Missing, "no program /nowhere/spanprof"):
-            find_spanprof("/nowhere/spanprof", {})
+            find_spanprof({"SPANPROF": "/nowhere/spanprof"})
 
 
 if __name__ == "__main__":

@@ -5,7 +5,6 @@ import unittest
 from spanprof.conformance.judge.cases import Tally
 from spanprof.conformance.report.facts import facts_of, of_mutants, tested, told_runtimes
 from spanprof.conformance.report.results import Results
-from spanprof.conformance.run.shards import Shard
 from spanprof.conformance.tests.helpers import case_of, conditions
 
 
@@ -20,9 +19,8 @@ class StubToolchain:
         return environment["RUNTIME"]
 
 
-def facts(settings=("free", "pinned"), directed=True, **others):
-    options = types.SimpleNamespace(threads=(2, 4), runs=3, seed=7, tasks=["tied"], mutate="", without=[],
-                                    directed=directed, shard=Shard(), match="*")
+def facts(settings=("free", "pinned"), **others):
+    options = types.SimpleNamespace(threads=(2, 4), runs=3, seed=7, tasks=["tied"], without=[], programs=9, match="*")
     options.__dict__.update(others)
     bench = types.SimpleNamespace(toolchain=StubToolchain(), environment={"RUNTIME": "/lib/libgomp.so"})
     return tested(options, bench, settings)
@@ -30,15 +28,16 @@ def facts(settings=("free", "pinned"), directed=True, **others):
 
 class Facts(unittest.TestCase):
     def test_what_is_tested(self):
-        found = facts(settings=("free", "priorities"), directed=False)
+        found = facts(settings=("free", "priorities"), match="tree_*")
         self.assertEqual(found, {
             "compiler": "cc 1.0, flags `-O1 -fopenmp`", "runtime": "/lib/libgomp.so", "threads": "2, 4",
             "runs each": "3", "seed": "7", "setting free": "as the runtime is by itself",
-            "setting priorities": "priorities count: `OMP_MAX_TASK_PRIORITY=9`", "tasks": "tied"})
+            "setting priorities": "priorities count: `OMP_MAX_TASK_PRIORITY=9`", "tasks": "tied",
+            "directed programs": "tree_*", "random programs": "9"})
 
     def test_of_mutants(self):
         options = types.SimpleNamespace(threads=(2, 4), runs=3, seed=7, tasks=["tied"], without=[], match="*",
-                                        timeout=3, programs=20, directed=True, seconds=60)
+                                        timeout=3, programs=20, seconds=60)
         found = of_mutants(options, types.SimpleNamespace(toolchain=StubToolchain()), ["free"])
         self.assertEqual((found["threads"], found["random programs"], found["settings"]), ("2, 4", "20", "free"))
         self.assertEqual(len(found["texts of directed programs"]), 64)
@@ -52,9 +51,6 @@ class Facts(unittest.TestCase):
         self.assertEqual(told_runtimes({"PATH": "/bin", "OMP_DYNAMIC": "true", "KMP_USE_YIELD": "2"}),
                          "`KMP_USE_YIELD=2 OMP_DYNAMIC=true`")
         self.assertEqual(told_runtimes({"PATH": "/bin"}), "")
-
-    def test_mutant(self):
-        self.assertEqual(facts(mutate="hang")["mutant"], "hang")
 
     def test_machine_and_time_come_after_the_test(self):
         results = Results()

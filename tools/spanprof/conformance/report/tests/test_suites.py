@@ -1,10 +1,10 @@
-"""Results as JUnit's XML and as lines of the Test Anything Protocol."""
+"""Results as JUnit's XML."""
 import collections
 import unittest
 import xml.etree.ElementTree
 
 from spanprof.conformance.report.results import Outcome, Results
-from spanprof.conformance.report.suites import junit, tap
+from spanprof.conformance.report.suites import junit
 
 
 def results():
@@ -26,14 +26,6 @@ class JUnit(unittest.TestCase):
                                 "taskwait_twice": ["3 of 8 runs failed: hung 2, refused 1"]})
         self.assertEqual(suite[2].get("classname"), "spanprof-conformance.untied")
         self.assertEqual(suite.find("testcase/failure").text, "event 3: `<` ?")
-
-
-class Lines(unittest.TestCase):
-    def test_tests(self):
-        self.assertEqual(tap(results()).split("\n"), [
-            "TAP version 13", "1..3", "ok 1 - depend_chain (tied)",
-            "not ok 2 - priority_flat (tied) # TODO found/priority_no_end.md",
-            "not ok 3 - taskwait_twice (untied)", "# 3 of 8 runs failed: hung 2, refused 1", "# event 3: `<` \x01"])
 
 
 if __name__ == "__main__":

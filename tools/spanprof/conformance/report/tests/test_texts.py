@@ -1,9 +1,10 @@
 """Reports and their tables."""
-import json
 import unittest
 
+from spanprof.conformance.judge.other_rules import OTHERS
 from spanprof.conformance.report import tables
-from spanprof.conformance.report.texts import Report, as_json, markdown, reproducer
+from spanprof.conformance.report.texts import Report, markdown, reproducer
+from spanprof.conformance.run.alone import OneFile
 from spanprof.conformance.run.reproduce import Found
 from spanprof.conformance.report.results import Results
 from spanprof.conformance.tests.helpers import case_of, failure_of
@@ -12,7 +13,8 @@ from spanprof.conformance.run.took import Took
 
 
 def found_of(failure, ways=("refused, taskwait",), failed=3):
-    return Found(failure, "mixed-7", "omptasks 1\ntaskwait\n", "int main(void);\n", 12, failed, 20, list(ways))
+    file = OneFile("int main(void);\n", 5, 20)
+    return Found(failure, "mixed-7", "omptasks 1\ntaskwait\n", file, 12, failed, 20, list(ways))
 
 
 def report_of(results=None, found=()):
@@ -34,7 +36,7 @@ class Tables(unittest.TestCase):
         self.assertEqual(lines[0], "| rule | construct | 2 threads | 4 threads |")
         self.assertIn("| taskwait | taskwait | 0 / 0 / 2 | 0 / 0 / 2 |", lines)
         self.assertIn("| dependence | out, then in | 0 / 0 / 0 | 0 / 0 / 0 |", lines)
-        self.assertEqual(len(lines), 2 + 6 + 6)
+        self.assertEqual(len(lines), 2 + 6 + 6 + len(OTHERS))
 
     def test_untried(self):
         held, close = tables.untried(results_of(LARGE), set())
@@ -62,33 +64,19 @@ class Reports(unittest.TestCase):
         for part in ("| compiler | cc |", "## How hard each rule was tried", "Never close:",
                      "| free | plain | 12 | 0 |", "| free | late | 4 | 2 |",
                      "spanprof-conformance shrink report-1.tasks",
-                     "3 of 20 runs on 2 threads failed.", "(schedule: late)",
-                     "`cc -fopenmp -Iharness report-1.c harness/*.c`, then `./a.out 2 3 1 1000 5`"):
+                     "3 of 20 runs on 2 threads failed in the test; 5 of 20 runs of the file fail.",
+                     "(schedule: late)"):
             self.assertIn(part, text)
-
-    def test_delays_where_they_were_asked_for(self):
-        report = report_of(results_of(LARGE))
-        self.assertNotIn("## Delayed time", markdown(report, "report"))
-        report.delays = ["| creation | task | 7: 1.0, 2.0 |"]
-        self.assertIn("waits of ready segments\n\n| creation | task |", markdown(report, "report"))
 
     def test_the_last_line_is_how_long_it_took(self):
         report = report_of(found=[found_of(failure_of(SMALL))])
         report.took = Took(3, 1, 4)
         self.assertEqual(markdown(report, "report").split("\n")[-1], report.took.told())
-        self.assertEqual(json.loads(as_json(report, "report"))["seconds"], {"wall": 3, "tester": 1, "started": 4})
 
     def test_no_failures_no_chapters_of_them(self):
         text = markdown(report_of(results_of(LARGE)), "report")
         self.assertNotIn("## Failures", text)
         self.assertNotIn("## Smallest", text)
-
-    def test_json(self):
-        fields = json.loads(as_json(report_of(found=[found_of(failure_of(SMALL))]), "report"))
-        self.assertEqual(fields["facts"]["compiler"], "cc")
-        self.assertEqual(fields["failures"][0]["programs"], ["small"])
-        self.assertEqual(fields["smallest"][0]["file"], "report-1.tasks")
-        self.assertEqual(fields["tried"][0]["count"], 4)
 
     def test_failure_without_a_log(self):
         failure = failure_of(case_of())

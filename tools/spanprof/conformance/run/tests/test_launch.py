@@ -36,9 +36,9 @@ class Reading(unittest.TestCase):
         log, = read_logs("run 2 plain\nstart 0 0\nrunaway: more than two gigabytes of memory\n")
         self.assertEqual((log.end, log.detail), ("crashed", "runaway: more than two gigabytes of memory"))
 
-    def test_events_with_their_moments(self):
-        log, = read_logs("run 3 plain\nstart 0 0 1700\nfinish 0 0 1900\ndone 17\n")
-        self.assertEqual((log.events, log.moments), (["start 0 0", "finish 0 0"], [1700, 1900]))
+    def test_what_the_program_saw_itself(self):
+        log, = read_logs("run 3 plain\nwrong data of a task: 3 was seen, 4 is right\nvalue 3 26 31\ndone 17\n")
+        self.assertEqual((log.wrong, log.value), ("data of a task: 3 was seen, 4 is right", "3 26 31"))
 
     def test_turns_of_taskloops(self):
         log, = read_logs("run 3 plain\nstart 0 0\nfinish 0 0\nturn 1 1\nturn 3 1\ndone 17\n")

@@ -13,7 +13,7 @@ LATE = Built("late", "wakes late", "taskwait", "no: slower", pathlib.Path("late.
 
 
 def options(**others):
-    usual = {"campaigns": 5, "programs": 3, "seed": 1, "jobs": 1, "directed": False, "without": [], "match": "*",
+    usual = {"campaigns": 5, "programs": 3, "seed": 1, "jobs": 1, "without": [], "match": "in_final",
              "seconds": 60, "tasks": ["tied"]}
     return types.SimpleNamespace(**{**usual, **others})
 
@@ -49,8 +49,8 @@ class OnMutants(unittest.TestCase):
 
     def test_until_half_of_the_campaigns_can_no_longer_fail(self):
         caught, bench, kept = self.caught(lambda case: False)
-        self.assertEqual([one.tried for one in caught["lost"].campaigns], [3, 3, 3])
-        self.assertEqual(len({case.name for case in bench.tried}), 9)  # each campaign has programs of its own
+        self.assertEqual([one.tried for one in caught["lost"].campaigns], [4, 4, 4])
+        self.assertEqual(len({case.name for case in bench.tried}), 10)  # each campaign has random programs of its own
         self.assertEqual([name for name, _ in kept], ["lost"] * 3)
 
     def test_two_programs_are_enough(self):
@@ -61,14 +61,14 @@ class OnMutants(unittest.TestCase):
 
     def test_one_campaign_where_nothing_is_broken(self):
         caught, _, _ = self.caught(lambda case: True, (LOST, LATE))
-        self.assertEqual([one.tried for one in caught["late"].campaigns], [3])
+        self.assertEqual([one.tried for one in caught["late"].campaigns], [4])
         self.assertFalse(caught["late"].surely(1))
 
     def test_goes_on_from_what_was_kept(self):
         kept = [("lost", {"failed": {"p": [2, "free", "taskwait"]}, "tried": 3, "seconds": 1.5})] * 2
         caught, bench, more = self.caught(lambda case: case.name.startswith("many-20"), kept=kept)
         self.assertEqual([len(one.failed) for one in caught["lost"].campaigns], [1, 1, 1])
-        self.assertEqual((len(more), len(bench.tried), caught["lost"].times()), (1, 3, 3))
+        self.assertEqual((len(more), len(bench.tried), caught["lost"].times()), (1, 4, 3))
         caught, bench, _ = self.caught(lambda case: True, kept=kept * 2)
         self.assertEqual((caught["lost"].times(), bench.tried), (4, []))
 
@@ -92,7 +92,7 @@ class WhatWasSeen(unittest.TestCase):
 
 class Order(unittest.TestCase):
     def test_programs_of_the_rule_come_first(self):
-        cases = cases_of_campaign(options(directed=True, match="*wait*", programs=0), {"in", "out"}, 0)
+        cases = cases_of_campaign(options(match="*wait*", programs=0), {"in", "out"}, 0)
         ordered = in_order(cases, "taskwait depend")
         alone = [case for case in ordered if is_self_checking(case)]
         names = [case.name for case in ordered[len(alone):]]
@@ -104,7 +104,8 @@ class Order(unittest.TestCase):
 
     def test_tied_tasks_come_before_others(self):
         cases = cases_of_campaign(options(tasks=["tied", "untied"]), {"in", "out"}, 0)
-        self.assertEqual([case.variant for case in in_order(cases, "once")], ["tied"] * 3 + ["untied"] * 3)
+        self.assertEqual([case.variant for case in in_order(cases, "once")],
+                         ["self-checking"] + ["tied"] * 3 + ["untied"] * 3)
 
 
 if __name__ == "__main__":

@@ -1,8 +1,10 @@
 """Shrunk failures: how they are told, and when a failure counts as seen again."""
 import unittest
+from unittest import mock
 
 from spanprof.conformance.judge.cases import Tally
 from spanprof.conformance.judge.verdicts import Refused, Verdict
+from spanprof.conformance.run.alone import OneFile
 from spanprof.conformance.run.launch import Log
 from spanprof.conformance.generate.program import Wait, nodes
 from spanprof.conformance.run.reproduce import MOST_EVENTS, Found, Limits, Reproducer, is_like, reproduce_all
@@ -22,8 +24,11 @@ class Bench(StubBench):
     def stacks_of(self, _case, _conditions):
         return ["Thread 1"]
 
-    def source(self):
-        return "C"
+
+def setUpModule():
+    patch = mock.patch("spanprof.conformance.run.reproduce.one_file", lambda *_: OneFile("C", 5, 20))
+    patch.start()
+    unittest.addModuleCleanup(patch.stop)
 
 
 class Rare(Bench):

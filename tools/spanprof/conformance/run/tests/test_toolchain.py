@@ -29,14 +29,14 @@ class Toolchains(unittest.TestCase):
         compiler = self.folder / name
         compiler.write_text(COMPILER.format(folder=self.folder))
         compiler.chmod(0o755)
-        return Toolchain(str(compiler), list(flags), self.folder)
+        return Toolchain(" ".join([str(compiler), *flags]), self.folder)
 
     def test_kinds_that_the_compiler_knows(self):
         self.assertEqual(self.toolchain().kinds, {"in", "out", "inout"})
 
     def test_a_compiler_that_is_not_there(self):
         with self.assertRaisesRegex(NoCompiler, "^--cc no-such-cc: No such file or directory$"):
-            Toolchain("no-such-cc -O2", [], self.folder)
+            Toolchain("no-such-cc -O2", self.folder)
 
     def test_the_harness_is_compiled_once(self):
         toolchain = self.toolchain()
