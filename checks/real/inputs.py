@@ -6,6 +6,7 @@ import struct
 import sys
 
 LETTERS = "ACDEFGHIKLMNPQRSTVWY"
+DRAWN = {"H": "9/9/9/f/9/9/9", "L": "8/8/8/8/8/8/f", "O": "6/9/9/9/9/9/6", "E": "f/8/8/e/8/8/f"}    # four points a row
 
 
 def sequences(chance, count, length, changes, letters=LETTERS):
@@ -45,6 +46,16 @@ def picture(width, height):
     return b"P5 %d %d 255\n" % (width, height) + bytes(points)
 
 
+def lettering(words, size=6):
+    """Letters in black on white, as a portable map."""
+    lines = ["0".join(format(int(DRAWN[one].split("/")[row], 16), "04b") if one in DRAWN else "0000" for one in words)
+             for row in range(7)]
+    edge = ["0" * len(lines[0])] * 3
+    rows = [bytes(0 if point == "1" else 255 for point in "000%s000" % line for _ in range(size))
+            for line in edge + lines + edge for _ in range(size)]
+    return b"P5 %d %d 255\n" % (len(rows[0]), len(rows)) + b"".join(rows)
+
+
 def sound(seconds, rate=44100):
     """Two channels of a falling tone."""
     values = [int(9000 * math.sin(i / (9 + i / rate))) for i in range(seconds * rate) for _ in range(2)]
@@ -59,6 +70,8 @@ def inputs():
     chance = random.Random(1)
     found = {"aligned.fasta": fasta(sequences(chance, 40, 80, 0.3)), "proteins.fasta": unaligned(chance),
              "cone.in": cone(chance), "water.xyz": water(2), "picture.pgm": picture(400, 300), "sound.wav": sound(1)}
+    found["reads.fasta"] = fasta(sequences(random.Random(2), 40, 100, 0.03, "acgt"))
+    found["letters.pgm"] = lettering("HELLO HOLE HELL LEE HOE")
     genomes = enumerate(sequences(chance, 3, 60000, 0.05, "ACGT"))
     return dict(found, **{"genome%d.fasta" % number: fasta([pair]) for number, pair in genomes})
 

@@ -277,7 +277,7 @@ expect_error 127 'llvm: no such program on the PATH; llvm of this folder is ./ll
 expect_error 126 './in: not executable' spanprof-record -- ./in
 expect_error 126 '/tmp: a folder, and no program' spanprof-record -- /tmp
 words="./plain has no OpenMP in it: it is linked neither with gcc's runtime (libgomp) nor with LLVM's runtime "
-words+='(libomp), and loads no library by itself; was it compiled with -fopenmp?'
+words+='(libomp), and loads no other library or program; was it compiled with -fopenmp?'
 expect_error 125 "$words" spanprof-record -- ./plain
 words='./static is linked statically, and no recorder can be loaded into it; link it without -static'
 expect_error 125 "$words" spanprof-record -- ./static

@@ -65,6 +65,9 @@ bool is_recorder(const void *code, const Places &places) {
   return module && module->path.substr(module->path.rfind('/') + 1) == "librecorder.so";
 }
 
+// Those of a call of MPI end with it, whatever its library does inside: it talks to other ranks, or waits for them.
+bool is_of_ranks(const std::string &name) { return begins_with_one(name, {"MPI_", "PMPI_"}); }
+
 void add_names(Names &all, const Names &more) {
   for (const std::string &name : more) {
     if (!all.empty() && is_of_system(all.back()) && is_of_system(name)) all.back() = name;  // what the program called
@@ -101,6 +104,8 @@ std::string named_calls(const Calls &calls, const Places &places) {
     if (is_runtime && !all.empty()) break;
     if (!is_runtime && !is_recorder(code, places)) add_names(all, names_of(code, places));
   }
+  auto ranks = std::find_if(all.rbegin(), all.rend(), is_of_ranks);
+  if (ranks != all.rend()) all.erase(all.begin(), ranks.base() - 1);
   auto start = std::find_if(all.begin(), all.end(), calls_main);
   bool is_nameless = start != all.begin() && start != all.end() && has_no_symbol(*(start - 1));
   if (is_nameless) all.erase(start, all.end()), all.push_back("main");

@@ -113,3 +113,9 @@ TEST(calls_end_where_the_system_called_the_program) {
   EXPECT(calls_of({"f", "f", "main", "_start"}), "main;f");
   EXPECT(calls_of({"inflate", "[tool]", "libc_start_main@libc.so.6", "[tool]"}), "main;[tool];inflate");
 }
+
+TEST(calls_end_with_that_of_mpi) {
+  EXPECT(calls_of({"opal_progress", "PMPI_Recv", "MPI_Allreduce", "solve", "main"}), "main;solve;MPI_Allreduce");
+  EXPECT(calls_of({"PMPI_Init", "main"}), "main;PMPI_Init");
+  EXPECT(calls_of({"mpi_sum_", "main"}), "main;mpi_sum_");
+}

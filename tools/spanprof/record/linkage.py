@@ -12,6 +12,8 @@ NAMES = {"libgomp.so": GCC, "libomp.so": LLVM, "libomp-": LLVM, "libiomp5.so": L
 SANITIZERS = ("libasan.so", "libtsan.so", "libclang_rt.asan", "libclang_rt.tsan")
 ELF = b"\x7fELF"   # the first bytes of a program, or of a library
 ENTRIES = {"GOMP_parallel": GCC, "GOMP_task": GCC, "__kmpc_fork_call": LLVM}
+LOADS = re.compile(r"dlopen|execv|execv[ep]|execvpe|execlp?|execle|posix_spawnp?")
+SYSTEM = re.compile(r"lib(c|m|dl|rt|pthread|gcc_s|stdc\+\+)\.so|ld-linux|linux-vdso")
 
 
 @dataclass
@@ -22,7 +24,7 @@ class Linkage:
     libraries: Dict[str, str] = field(default_factory=dict)  # each runtime with the path, empty where none was found
     inside: Set[str] = field(default_factory=set)            # runtimes that are linked into the program itself
     called: Set[str] = field(default_factory=set)            # what it calls of gcc's runtime
-    loads: bool = False                                      # libraries by itself, which may have OpenMP in them
+    loads: bool = False                                      # libraries or programs, which may have OpenMP in them
     is_checked: bool = False                                 # by a sanitizer's library, which has to be loaded first
 
 
@@ -31,16 +33,19 @@ def runtime_of(name):
     return next((runtime for start, runtime in NAMES.items() if name.startswith(start)), "")
 
 
-def shared_runtimes(listing):
-    """Of what `ldd` prints: each runtime, with its path; empty where the loader does not find it."""
+def libraries(listing):
+    """Of what `ldd` prints: each library's file name with its path; empty where the loader does not find it."""
     found = {}
     for line in listing.splitlines():
         name, arrow, rest = line.strip().partition(" => ")
-        runtime = runtime_of(os.path.basename(name.split(" ")[0]))
-        if runtime:
-            path = rest if arrow else name
-            found[runtime] = "" if path.startswith("not found") else path.rpartition(" (")[0]
+        path = rest if arrow else name
+        found[os.path.basename(name.split(" ")[0])] = "" if path.startswith("not found") else path.rpartition(" (")[0]
     return found
+
+
+def shared_runtimes(listing):
+    """Each runtime of OpenMP among them, with its path."""
+    return {runtime_of(name): path for name, path in libraries(listing).items() if runtime_of(name)}
 
 
 def is_checked(listing):
@@ -79,13 +84,21 @@ def first_bytes(path):
         raise Fault("%s: %s" % (path, wrong.strerror)) from wrong
 
 
+def loads_more(undefined, listing):
+    """Whether a program calls what loads a library or another program, or one of its libraries does, as python's."""
+    own = [path for name, path in libraries(listing).items() if path and not SYSTEM.match(name)]
+    return any(map(LOADS.fullmatch, undefined)) or \
+        any("dlopen" in symbols(listed(["readelf", "-W", "--dyn-syms", path]))[1] for path in own)
+
+
 def linkage(path):
     """What the file of a program is linked with."""
     if first_bytes(path) != ELF:
         return Linkage(is_script=True)
-    libraries = listed(["ldd", path])
+    listing = listed(["ldd", path])
     defined, undefined = symbols(listed(["readelf", "-W", "--symbols", path]))
     inside = {runtime for name, runtime in ENTRIES.items() if name in defined}
     called = {name for name in undefined if name.startswith("GOMP_")}
-    return Linkage(False, is_static(libraries), shared_runtimes(libraries), inside, called,
-                   "dlopen" in undefined, is_checked(libraries))
+    runtimes = shared_runtimes(listing)
+    return Linkage(False, is_static(listing), runtimes, inside, called,
+                   not runtimes and loads_more(undefined, listing), is_checked(listing))

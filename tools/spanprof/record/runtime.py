@@ -38,7 +38,7 @@ def llvm_runtime():
 
 
 def may_load(linkage):
-    """Whether a library with OpenMP may come later: in an interpreter, or in a program that a script runs."""
+    """Whether a library with OpenMP may come later: in an interpreter, or in a program that this one runs."""
     return linkage.is_script or linkage.loads
 
 
@@ -49,8 +49,8 @@ def refuse(path, linkage):
     if GCC in linkage.inside:
         raise Fault("%s has %s inside; link it with the shared library, or compile it with clang" % (path, GCC))
     if not (linkage.libraries or linkage.inside or may_load(linkage)):
-        raise Fault("%s has no OpenMP in it: it is linked neither with %s nor with %s, and loads no library by itself; "
-                    "was it compiled with -fopenmp?" % (path, GCC, LLVM))
+        raise Fault("%s has no OpenMP in it: it is linked neither with %s nor with %s, and loads no other library or "
+                    "program; was it compiled with -fopenmp?" % (path, GCC, LLVM))
 
 
 def refuse_targets(lacking):

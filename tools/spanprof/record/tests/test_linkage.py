@@ -4,9 +4,12 @@ import unittest
 from unittest import mock
 
 from spanprof.errors import Fault
-from spanprof.record.linkage import GCC, LLVM, Linkage, is_checked, is_static, linkage, shared_runtimes, symbols
+from spanprof.record.linkage import (GCC, LLVM, Linkage, is_checked, is_static, linkage, loads_more, shared_runtimes,
+                                     symbols)
 from spanprof.record.runtime import Chosen, by_version, choose, what_it_lacks
 from spanprof.record.tests.made_up import LDD_GCC, LDD_LLVM, LDD_MISSING, LDD_PLAIN, LDD_STATIC, SYMBOLS
+
+CALLS = "     4: 0000000000000000     0 FUNC    GLOBAL DEFAULT  UND %s@GLIBC_2.2.5 (4)\n"
 
 
 class Listings(unittest.TestCase):
@@ -50,6 +53,17 @@ class Programs(unittest.TestCase):
 
     def test_a_runtime_inside(self):
         self.assertEqual(self.linkage_of(b"\x7fELF", {"ldd": LDD_PLAIN, "readelf": SYMBOLS}).inside, {GCC})
+
+    def test_a_program_that_becomes_another(self):
+        listings = {"ldd": LDD_PLAIN, "readelf": CALLS % "execv"}
+        self.assertTrue(self.linkage_of(b"\x7fELF", listings).loads)
+        self.assertFalse(self.linkage_of(b"\x7fELF", dict(listings, readelf=CALLS % "executed")).loads)
+
+    def test_a_program_whose_library_loads_others(self):
+        """As python's where it is a library; that the system's own can do so says nothing."""
+        with mock.patch("spanprof.record.linkage.listed", return_value=CALLS % "dlopen"):
+            self.assertTrue(loads_more({"Py_BytesMain"}, "\tlibpython3.so => /lib/libpython3.so (0x1)\n" + LDD_PLAIN))
+            self.assertFalse(loads_more({"puts"}, LDD_PLAIN))
 
     def test_a_file_that_cannot_be_read(self):
         with self.assertRaisesRegex(Fault, "No such file"):
