@@ -96,6 +96,20 @@ for program in llvm gcc $others; do
     echo "$program"
 done
 
+own_runtime() { # NAME: a library, and gcc's runtime under a name of its own
+    cp "$(gcc -print-file-name=libgomp.so.1)" "libgomp-$1.so.1"
+    gcc -shared -Wl,-soname,"libgomp-$1.so.1" -x c /dev/null -o "libgomp-$1.so"
+    gcc -g -O1 -fopenmp -fPIC -DLIBRARY -c "$top/checks/recorders/record/own_runtimes.c" -o "$1.o"
+    gcc -shared "$1.o" -L. -Wl,--no-as-needed "-lgomp-$1" "-Wl,-rpath,$PWD" -o "$1.so"
+}
+own_runtime first
+own_runtime second
+gcc -g -O1 "$top/checks/recorders/record/own_runtimes.c" -o own_runtimes -ldl
+expect "libraries with a runtime each" 0 spanprof-record --all --force -- ./own_runtimes
+expect_word "libraries with a runtime each" 'regions on a second libgomp in the process, not recorded'
+expect_recording own_runtimes
+echo "libraries with a runtime each"
+
 # A signal goes to the program, which decides how both end.
 spanprof-record --force -- ./llvm wait < in > out 2> err &
 recorder=$!

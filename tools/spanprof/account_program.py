@@ -1,7 +1,6 @@
 """What spanprof_large account tells of a timed document."""
 import re
 import subprocess
-import tempfile
 
 from spanprof import client
 
@@ -37,14 +36,6 @@ def ask(words, path):
             return answer(words, document)
     except OSError as wrong:
         raise NoAccount("%s: %s" % (path, wrong.strerror)) from wrong
-
-
-def ask_of(words, document):
-    """The same of a document's words."""
-    with tempfile.TemporaryFile() as file:  # no pipe, which a program that reads nothing would break
-        file.write(document.encode())
-        file.seek(0)
-        return answer(words, file)
 
 
 def answer(words, document):

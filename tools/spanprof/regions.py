@@ -35,10 +35,6 @@ class Region(NamedTuple):
         return self.threads * self.elapsed
 
 
-def place_name(name):
-    return name if name.startswith(UNKNOWN) else "region at " + name
-
-
 def union(stretches):
     """How long all of them are, what several have counted once."""
     covered, length = 0, 0

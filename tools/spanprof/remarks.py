@@ -23,6 +23,7 @@ WORDS = {
     "unseen detach": ("detach of gcc's code, which LLVM's runtime does not see", "and the program may crash"),
     "unseen target": ("target of gcc's code, which its own runtime runs next to LLVM's",
                       "and with nowait or depend the program's results may be wrong"),
+    "unseen runtime": ("regions on a second libgomp in the process, not recorded", ""),
     "cancellation": ("cancellation, left out", "as another run may cancel sooner or later"),
     "target": ("target task, left out", ""),
     "region in a task": ("parallel region inside a task, whose time counts there", ""),

@@ -34,6 +34,7 @@ std::vector<Remark> unseen(const Head &head) {
   std::vector<Remark> out;
   if (head.unseen & log_form::unseen_detach) out.push_back(Remark::UnseenDetach);
   if (head.unseen & log_form::unseen_target) out.push_back(Remark::UnseenTarget);
+  if (head.unseen & log_form::unseen_runtime) out.push_back(Remark::UnseenRuntime);
   return out;
 }
 

@@ -20,6 +20,7 @@ constexpr RemarkLine lines[] = {
     {Remark::Detach, "detach", Not, Low},
     {Remark::UnseenDetach, "unseen detach", Not, Low, uncounted},
     {Remark::UnseenTarget, "unseen target", Low, Low, uncounted},
+    {Remark::UnseenRuntime, "unseen runtime", Low, Low, uncounted},
     {Remark::Cancel, "cancellation", Either, Either},
     {Remark::Target, "target", Low, Low},
     {Remark::NestedRegion, "region in a task", Low, High},

@@ -19,6 +19,7 @@ enum class Remark : uint8_t {
   Detach,
   UnseenDetach,
   UnseenTarget,
+  UnseenRuntime,
   Cancel,
   Target,
   NestedRegion,

@@ -33,16 +33,13 @@ bool is_in_called_function(const void *code) {
 
 CodeRange runtime_code, recorder_code;
 
-namespace {
-// Where no module has the function the range stays empty, and no address is in it.
-void find(const void *function, CodeRange &code) {
-  CodeRange range{reinterpret_cast<uintptr_t>(function), 0};
-  if (dl_iterate_phdr(find_segment, &range)) code = range;
+CodeRange code_around(const void *code) {
+  CodeRange range{reinterpret_cast<uintptr_t>(code), 0};
+  return dl_iterate_phdr(find_segment, &range) ? range : CodeRange{};
 }
-}  // namespace
 
-void find_runtime(const void *function) { find(function, runtime_code); }
-void find_recorder() { find(reinterpret_cast<const void *>(find_recorder), recorder_code); }
+void find_runtime(const void *function) { runtime_code = code_around(function); }
+void find_recorder() { recorder_code = code_around(reinterpret_cast<const void *>(find_recorder)); }
 
 const void *nearest_in_program() {
   constexpr int most_frames = 12;

@@ -12,6 +12,7 @@ struct CodeRange {
 
 // Written while recording begins, before callbacks arrive, and read without a lock from then on.
 extern CodeRange runtime_code, recorder_code;
+CodeRange code_around(const void *code);  // of its module; an empty one where no module has it
 void find_runtime(const void *function);  // the module of this function is the runtime
 void find_recorder();  // whose functions stand before the runtime's
 inline bool in_runtime(const void *code) { return runtime_code.has(code) || recorder_code.has(code); }  // not for none

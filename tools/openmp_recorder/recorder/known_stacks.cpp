@@ -17,7 +17,7 @@ uint32_t telling(const CallStack &stack, const void *code) {
 }  // namespace
 
 // None is where nothing is.
-KnownStacks::KnownStacks() : stacks{{0, 0, 0, UINT32_MAX, 0}} {}
+KnownStacks::KnownStacks(const frames::Stack &of) : stacks{{0, 0, 0, UINT32_MAX, 0}}, lowest(of.lowest), end(of.end) {}
 
 uint64_t KnownStacks::learn(const void *code, const void *place, const char *own) {
   auto told = reinterpret_cast<uint64_t>(place);
@@ -44,7 +44,6 @@ bool KnownStacks::has_room(uint32_t head) const {
 }
 
 void KnownStacks::keep(const void *code, const CallStack &stack, uint64_t place, const char *own) {
-  highest = std::max(highest, own + stack.all.back().above);
   Creation &creation = creations[creation_of(code)];
   if (!creation.code) {
     if (listed == most_creations) return;

@@ -5,13 +5,14 @@
 #include <cstring>
 #include <vector>
 
+#include "frames.hpp"
 #include "unwind.hpp"
 
 // What is known of a stack is where its return addresses stood, and which they were. Where all of them stand there now,
 // the path is the same: a function has its caller's return address as far above its own as at the last call from this
 // address, unless its frame varies (`alloca`, arrays of variable length). Of such a function an old word may be taken
 // for it, where that is a return address that stood there in a path of the same calls below.
-// One thread's own, since it knows the highest address of that thread's stack: it must not outlive the thread.
+// One thread's own, since it knows where that thread's stack lies: it must not outlive the thread.
 class KnownStacks {
  public:
   struct Stack {
@@ -20,7 +21,7 @@ class KnownStacks {
     uint32_t farthest;  // of them
     uint32_t next;  // of the same slot; 0 is none
   };
-  KnownStacks();
+  explicit KnownStacks(const frames::Stack &of);  // the thread's own
   // `code` is the place that the runtime tells, and `own` where the recorder's return address stands.
   // Without a lock or memory, since most creations come here. `own` is where the return address of the running callback
   // stands; the answer holds until `learn` is called.
@@ -55,7 +56,7 @@ class KnownStacks {
   std::vector<ReturnAddress> words;
   uint32_t unwound = 0;
   unsigned listed = 0;  // creations
-  const char *highest = nullptr;  // of the thread's stack that was seen
+  uintptr_t lowest, end;  // of the thread's stack
 
   static unsigned slot(uint64_t number) {
     return static_cast<unsigned>(number * 0x9e3779b97f4a7c15 >> (64 - slot_bits));
@@ -75,8 +76,12 @@ class KnownStacks {
     std::memcpy(&word, place, sizeof word);
     return word;
   }
-  // Reads above `highest` may be outside of the stack's memory.
-  bool is_of_stack(const char *own, uint32_t above) const { return own + above <= highest; }
+  // What is read lies on the stack that the thread began with: one that the program gave it, as for a coroutine, may
+  // end anywhere.
+  bool is_of_stack(const char *own, uint32_t above) const {
+    auto at = reinterpret_cast<uintptr_t>(own);
+    return lowest <= at && at + above + sizeof(uintptr_t) <= end;
+  }
   // Ask for the farthest word before any is read.
   bool holds(const Stack &stack, const char *own) const {
     if (!is_of_stack(own, stack.farthest)) return false;

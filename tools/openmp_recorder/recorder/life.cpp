@@ -61,13 +61,12 @@ void in_child_of_fork() {
   begin_log(life->log, life->call);
 }
 
-void tell_beginning() {
+void say_unseen(uint32_t what) {
   if (life->options.quiet) return;
-  say("recording to " + life->log.folder);
-  if (life->log.unseen & log_form::unseen_detach)
-    say("gcc's detach is not seen by LLVM's runtime, and the program may crash");
-  if (life->log.unseen & log_form::unseen_target)
+  if (what & log_form::unseen_detach) say("gcc's detach is not seen by LLVM's runtime, and the program may crash");
+  if (what & log_form::unseen_target)
     say("gcc's target is run by its own runtime beside LLVM's: with nowait or depend the program's results may be wrong");
+  if (what & log_form::unseen_runtime) say("a second libgomp in the process is not recorded");
 }
 
 // Also runs where the program never met OpenMP (`life` is null).
@@ -116,13 +115,21 @@ void begin_recording(void (*call)(), uint32_t unseen) {
   life->process = getpid();
   name_log();
   begin_log(life->log, life->call);
-  tell_beginning();
+  if (!life->options.quiet) say("recording to " + life->log.folder);
+  say_unseen(life->log.unseen);
   // Handlers of a child run in the order of registration: those that are registered when the library is loaded
   // (`look_at_start`, `forget_samples`) come before `in_child_of_fork`.
   pthread_atfork(leave_log, go_on_with_log, in_child_of_fork);
   at_quick_exit(end_of_process);
   // Last: all that came before is the recorder's own time.
   set_time_of_beginning(time_since(life->runtime_begins));
+}
+
+void tell_unseen(uint32_t more) {
+  if (!life || __atomic_load_n(&life->log.unseen, __ATOMIC_RELAXED) & more) return;
+  if (__atomic_fetch_or(&life->log.unseen, more, __ATOMIC_RELAXED) & more) return;
+  mark_unseen(more);
+  say_unseen(more);
 }
 
 void expect_end_by_this_thread() { on_exit(on_end_by_exit, nullptr); }

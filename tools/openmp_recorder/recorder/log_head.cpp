@@ -16,6 +16,7 @@
 
 #include "known_stacks.hpp"
 #include "log_modules.hpp"
+#include "own_stack.hpp"
 #include "path_numbers.hpp"
 #include "samples.hpp"
 #include "say.hpp"
@@ -145,6 +146,12 @@ void begin_log(const Beginning &how, void (*call)()) {
   in_a_record = time_of_record(call);
 }
 
+void mark_unseen(uint32_t more) {
+  std::lock_guard<std::mutex> guard(making);
+  beginning.unseen |= more;
+  if (head) head->unseen |= more;
+}
+
 void set_time_of_beginning(uint64_t took) { beginning_took = took; }
 
 ThreadLog *make_thread_log() {
@@ -156,7 +163,7 @@ ThreadLog *make_thread_log() {
     thread_log = of_ended.back();
     of_ended.pop_back();
     thread_log->begin_thread();
-    if (beginning.call_paths) thread_log->stacks = new KnownStacks;
+    if (beginning.call_paths) thread_log->stacks = new KnownStacks(own_stack());
     sample_thread(*thread_log, beginning.folder);
     return thread_log;
   }
@@ -167,7 +174,7 @@ ThreadLog *make_thread_log() {
   is_made = true;
   thread_log = new ThreadLog(next_thread++);
   thread_log->is_slow = true;
-  if (beginning.call_paths) thread_log->stacks = new KnownStacks;
+  if (beginning.call_paths) thread_log->stacks = new KnownStacks(own_stack());
   // Under the lock: one thread's log gets it, once.
   if (beginning_took) thread_log->tell_stood_still(std::exchange(beginning_took, 0));
   sample_thread(*thread_log, beginning.folder);

@@ -6,12 +6,14 @@
 #include <algorithm>
 #include <cstdio>
 
+#include "own_stack.hpp"
+
 namespace {
 Look at_load;
 
 // In the child of a fork the one thread is the first of its process, and looks again.
 void look_at_start() {
-  if (getpid() == gettid()) at_load = look_now();
+  if (is_first_thread()) at_load = look_now();
 }
 
 __attribute__((constructor)) void library_is_loaded() {

@@ -3,7 +3,6 @@
 #include <fcntl.h>
 #include <pthread.h>
 #include <sys/mman.h>
-#include <sys/resource.h>
 #include <sys/syscall.h>
 #include <time.h>
 #include <unistd.h>
@@ -18,13 +17,12 @@
 #include "callers.hpp"
 #include "clocks.hpp"
 #include "log_head.hpp"
+#include "own_stack.hpp"
 #include "registers.hpp"
 #include "sample_signal.hpp"
 #include "system_calls.hpp"
 
 #if defined(__x86_64__)
-extern "C" char *__libc_stack_end;
-
 __thread Samples *own_samples = nullptr;  // no handler reads it
 
 namespace {
@@ -32,7 +30,6 @@ using log_form::RawSample;
 using log_form::window_bytes;
 
 constexpr long apart = 2000000;  // nanoseconds of the processor; kernels look at their ticks, often each 4 ms
-constexpr uint64_t longest_stack = 1 << 30;
 constexpr size_t largest = sizeof(RawSample) + log_form::most_frames * sizeof(uint64_t);
 
 // In a handler too: calls of the kernel alone. The room is taken from the disk, so that no write can fail.
@@ -53,32 +50,6 @@ char *map_memory() {
 }
 
 size_t bytes_of(const RawSample &sample) { return sizeof sample + sample.frames * sizeof(uint64_t); }
-
-// True too of a thread that forked, in the child, whatever stack it runs on: `sample_here` looks at where that is.
-bool is_first_thread() { return getpid() == gettid(); }
-
-uint64_t length_of_first_stack() {
-  rlimit most{};
-  bool is_known = !getrlimit(RLIMIT_STACK, &most) && most.rlim_cur < longest_stack;
-  return is_known ? most.rlim_cur : longest_stack;
-}
-
-// Of the calling thread, from its lowest address on; nothing where that is not known.
-// Not in a handler, since pthread_getattr_np allocates.
-frames::Stack own_stack() {
-  if (is_first_thread()) {
-    auto end = reinterpret_cast<uint64_t>(__libc_stack_end);
-    return {end - length_of_first_stack(), end};
-  }
-  pthread_attr_t attributes;
-  if (pthread_getattr_np(pthread_self(), &attributes)) return {};
-  void *lowest = nullptr;
-  size_t bytes = 0;
-  pthread_attr_getstack(&attributes, &lowest, &bytes);
-  pthread_attr_destroy(&attributes);
-  auto first = reinterpret_cast<uint64_t>(lowest);
-  return {first, first + bytes};
-}
 
 // The system's functions would link another library, or be those of the program.
 int make_timer(Samples *of) {
@@ -126,8 +97,8 @@ thread_local AtEnd at_end;
 
 void Samples::begin_file(const std::string &name) {
   if (name.size() >= sizeof path) return;
-  is_busy = true;
-  // Until `is_busy` is false again a signal must not find a window that is half copied, or unmapped.
+  // A signal must not find a window that is half copied, or unmapped.
+  Busy busy(*this);
   char *memory = window;
   window = map_window(name.c_str(), 0);
   if (window && memory) std::memcpy(window, memory, used);
@@ -136,7 +107,6 @@ void Samples::begin_file(const std::string &name) {
   std::memcpy(path, name.c_str(), name.size() + 1);
   is_over = !window;
   each = 1;
-  is_busy = false;
 }
 
 void Samples::begin_thread() {
@@ -222,38 +192,34 @@ void Samples::publish(RawSample &sample, int64_t began) {
 void Samples::take(const siginfo_t &signal, const ucontext_t &context) {
   // Nothing may touch the window before.
   if (!is_to_write(signal)) return;
-  is_busy = true;
+  Busy busy(*this);
   int64_t began = wall_time();
-  if (make_room()) {
-    RawSample &sample = sample_here(context);
-    sample.slept = 0;
-    sample.stands_for = static_cast<uint32_t>(since * (apart / 1000));
-    since = 0;
-    publish(sample, began);
-  }
-  is_busy = false;
+  if (!make_room()) return;
+  RawSample &sample = sample_here(context);
+  sample.slept = 0;
+  sample.stands_for = static_cast<uint32_t>(since * (apart / 1000));
+  since = 0;
+  publish(sample, began);
 }
 
 // In the place of the recorder's own functions stands that of the system which they called.
 void Samples::put_wait(const void *function, int64_t nanoseconds) {
   if (!may_write()) return;
   KeepErrno kept;
-  is_busy = true;
+  Busy busy(*this);
   int64_t began = wall_time();
   ucontext_t context;
-  if (!getcontext(&context) && make_room()) {
-    RawSample &sample = sample_here(context);
-    uint64_t *calls = sample.calls(), *end = calls + sample.frames;
-    auto is_own = [](uint64_t code) { return recorder_code.has(reinterpret_cast<const void *>(code)); };
-    // The innermost call is this function itself, so at least one goes and the system's function has room.
-    uint64_t *rest = std::find_if_not(calls, end, is_own);
-    sample.frames = static_cast<uint8_t>(1 + std::move(rest, end, calls + 1) - (calls + 1));
-    calls[0] = reinterpret_cast<uint64_t>(function);
-    sample.slept = 1;
-    sample.stands_for = static_cast<uint32_t>(nanoseconds / 1000);
-    publish(sample, began);
-  }
-  is_busy = false;
+  if (getcontext(&context) || !make_room()) return;
+  RawSample &sample = sample_here(context);
+  uint64_t *calls = sample.calls(), *end = calls + sample.frames;
+  auto is_own = [](uint64_t code) { return recorder_code.has(reinterpret_cast<const void *>(code)); };
+  // The innermost call is this function itself, so at least one goes and the system's function has room.
+  uint64_t *rest = std::find_if_not(calls, end, is_own);
+  sample.frames = static_cast<uint8_t>(1 + std::move(rest, end, calls + 1) - (calls + 1));
+  calls[0] = reinterpret_cast<uint64_t>(function);
+  sample.slept = 1;
+  sample.stands_for = static_cast<uint32_t>(nanoseconds / 1000);
+  publish(sample, began);
 }
 
 void sample_thread(ThreadLog &log, const std::string &folder) {

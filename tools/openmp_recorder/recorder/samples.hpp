@@ -34,8 +34,24 @@ class Samples {
   size_t used = 0;
   uint64_t windows = 0;  // of the file, before this one
   unsigned each = 1, since = 0;  // of so many signals one is written, where memory alone has them
-  // One thread's code and its handler alone use them. Volatile orders these flags, and no other memory.
-  volatile bool is_busy = false, is_over = false;
+  volatile bool is_busy = false, is_over = false;  // one thread's code and its handler alone use them
+  // While it stands a signal finds nothing to write to. Its fences keep the compiler from moving what is done to the
+  // window out of it; a thread's own handler sees what its processor has done so far.
+  class Busy {
+   public:
+    explicit Busy(Samples &of) : samples(of) {
+      samples.is_busy = true;
+      std::atomic_signal_fence(std::memory_order_seq_cst);
+    }
+    ~Busy() {
+      std::atomic_signal_fence(std::memory_order_seq_cst);
+      samples.is_busy = false;
+    }
+    Busy(const Busy &) = delete;
+
+   private:
+    Samples &samples;
+  };
   // Atomic, since another thread may end it: whoever exchanges the number for -1 deletes the timer, once.
   std::atomic<int> timer{-1};
   frames::Stack stack{};

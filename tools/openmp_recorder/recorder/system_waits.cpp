@@ -25,7 +25,7 @@ namespace {
 class Waiting {
  public:
   Waiting(const void *called, const void *by) : function(called), place(by), samples(own_samples) {
-    if (samples) began = read_ticks(After::Itself);
+    if (samples) began = is_stamp ? read_time_stamp(After::Itself) : static_cast<uint64_t>(wall_time());
   }
   ~Waiting() {
     if (samples && took() >= static_cast<double>(least_wait)) tell();
@@ -35,8 +35,13 @@ class Waiting {
  private:
   const void *function, *place;
   Samples *samples;
+  // The recorder may begin during the call, on another thread, and from then on reads the other counter.
+  bool is_stamp = by_time_stamp;
   uint64_t began = 0;
-  double took() const { return static_cast<double>(read_ticks(After::Itself) - began) * nanoseconds_of_tick(); }
+  double took() const {
+    if (!is_stamp) return static_cast<double>(static_cast<uint64_t>(wall_time()) - began);
+    return static_cast<double>(read_time_stamp(After::Itself) - began) * nanoseconds_of_tick();
+  }
   // The thread may have lost its samples during the call, as in the child of a fork.
   __attribute__((noinline)) void tell() const {
     if (!in_runtime(place) && samples == own_samples) samples->put_wait(function, static_cast<int64_t>(took()));
@@ -44,12 +49,14 @@ class Waiting {
 };
 }  // namespace
 
-// The static is constant when the library is loaded, so no guard is locked at its first use.
+// Programs call them in their handlers too, where the loader's lookup is unsafe: so each is found while this library is
+// loaded. The static is constant before that, for calls that come sooner.
 #define WAITS_BY(version, before, result, name, parameters, ...)                            \
+  static Systems<result(*) parameters> systems_##name(#name, version);                      \
+  __attribute__((constructor)) static void find_##name() { systems_##name.get(); }          \
   ENTRY result name parameters {                                                            \
-    static Systems<result(*) parameters> systems(#name, version);                           \
     before;                                                                                 \
-    auto function = systems.get();                                                          \
+    auto function = systems_##name.get();                                                   \
     Waiting waiting(reinterpret_cast<const void *>(function), __builtin_return_address(0)); \
     return function(__VA_ARGS__);                                                           \
   }

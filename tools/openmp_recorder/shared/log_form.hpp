@@ -95,7 +95,7 @@ struct Head {
   int64_t program_start;  // on CLOCK_MONOTONIC
   int64_t in_a_record;  // nanoseconds that a record takes, on the clock of costs
   uint32_t process, is_child;
-  uint32_t unseen;  // bits: gcc's `detach`, and its `target`
+  uint32_t unseen;  // bits: gcc's `detach`, its `target`, a second runtime
   HowEnded how_ended;
   Pair end;  // when it ended, or recording stopped inside a region
   int64_t end_processor;  // of the thread that ended it
@@ -105,5 +105,5 @@ struct Head {
   char program[256];  // its path
 };
 static_assert(sizeof(Head) == 400, "as LOG.md has it");
-enum Unseen : uint32_t { unseen_detach = 1, unseen_target = 2 };
+enum Unseen : uint32_t { unseen_detach = 1, unseen_target = 2, unseen_runtime = 4 };
 }  // namespace log_form

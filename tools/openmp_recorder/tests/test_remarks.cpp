@@ -39,8 +39,9 @@ TEST(the_direction_of_each_remark) {
   moves({Remark::MutexInOutSet, Remark::AllMemory, Remark::ItemsLeftOut, Remark::Detach, Remark::UnseenDetach,
          Remark::EqualTurns, Remark::HeldLock},
         Not, Low);
-  moves({Remark::Target, Remark::UnseenTarget, Remark::NestedWaits, Remark::LeftInside, Remark::RecordsFull,
-         Remark::Unfinished, Remark::ToldElsewhere, Remark::PartsLeftOut, Remark::OtherThread, Remark::Slept},
+  moves({Remark::Target, Remark::UnseenTarget, Remark::UnseenRuntime, Remark::NestedWaits, Remark::LeftInside,
+         Remark::RecordsFull, Remark::Unfinished, Remark::ToldElsewhere, Remark::PartsLeftOut, Remark::OtherThread,
+         Remark::Slept},
         Low, Low);
   moves({Remark::ToldLate, Remark::Preempted}, High, High);
   moves({Remark::NestedRegion}, Low, High);

@@ -9,6 +9,7 @@
 #include "callers.hpp"
 #include "known_stacks.hpp"
 #include "logged_paths.hpp"
+#include "own_stack.hpp"
 #include "path_numbers.hpp"
 #include "check.hpp"
 
@@ -24,7 +25,7 @@ namespace {
 void go_on() { asm volatile(""); }
 
 struct Asked {
-  KnownStacks stacks;
+  KnownStacks stacks{own_stack()};
   uint64_t last = 0;
   unsigned learned = 0;
 };
@@ -128,6 +129,15 @@ TEST(a_function_whose_frame_varies_is_unwound_for_each_of_its_sizes) {
   EXPECT(recorded.run(varying_less), less);
   EXPECT(recorded.run(varying_more), more);
   EXPECT(recorded.paths().size(), 2u);
+}
+
+TEST(a_stack_that_the_program_gave_the_thread_is_unwound_each_time) {
+  Recorded recorded;
+  Asked apart{KnownStacks({0, 0})};
+  run_code(solving, apart);
+  run_code(solving, apart);
+  EXPECT(apart.learned, 2u);
+  EXPECT(log_form::path_of(apart.last), 1u);
 }
 
 TEST(threads_have_the_numbers_of_paths_together) {

@@ -5,8 +5,8 @@ import re
 from spanprof.record.linkage import listed, symbols
 
 # What each version of gcc's runtime was the first to have, the newest first.
-FIRST_OF_GCC = (("GOMP_6.0", "15"), ("GOMP_5.1.2", "14"), ("GOMP_5.1.1", "13"), ("GOMP_5.1", "12"),
-                ("GOMP_5.0.1", "11"), ("OMP_5.0.1", "10"), ("GOMP_5.0", "9"))
+FIRST_OF_GCC = (("GOMP_6.0.1", "16"), ("GOMP_6.0", "15"), ("GOMP_5.1.2", "14"), ("GOMP_5.1.1", "13"),
+                ("GOMP_5.1", "12"), ("GOMP_5.0.1", "11"), ("OACC_2.6", "10"), ("GOMP_5.0", "9"))
 MODULE = re.compile(r"(?m)^\w+ \w+ \w+ runtime (.*)$")
 WORDS = {"gnu": "gcc %s's libgomp", "llvm": "LLVM %s's libomp"}
 

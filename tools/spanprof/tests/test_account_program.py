@@ -3,7 +3,7 @@ import tempfile
 import unittest
 from unittest import mock
 
-from spanprof.account_program import NoAccount, ask, ask_of, in_words
+from spanprof.account_program import NoAccount, ask, in_words
 from spanprof.client import HOW
 
 
@@ -40,7 +40,7 @@ class Asked(unittest.TestCase):
             self.asked("/none")
         with mock.patch("spanprof.client.takes_any_size", lambda: False):
             with self.assertRaises(NoAccount) as caught:
-                ask_of([], "a document")
+                ask([], __file__)
         self.assertEqual(str(caught.exception), HOW)
 
     def test_no_document(self):

@@ -3,6 +3,7 @@
 #include <elf.h>
 #include <fcntl.h>
 #include <link.h>
+#include <sys/auxv.h>
 #include <sys/mman.h>
 #include <sys/stat.h>
 #include <unistd.h>
@@ -11,17 +12,6 @@
 #include <cstring>
 
 namespace {
-// The first module is the program's own file.
-int find_program(dl_phdr_info *module, size_t, void *range) {
-  for (int i = 0; i < module->dlpi_phnum; i++) {
-    const ElfW(Phdr) &segment = module->dlpi_phdr[i];
-    if (segment.p_type != PT_LOAD || !(segment.p_flags & PF_X)) continue;
-    uintptr_t first = module->dlpi_addr + segment.p_vaddr;
-    *static_cast<CodeRange *>(range) = {first, first + segment.p_memsz};
-  }
-  return 1;
-}
-
 // A file of which nothing is taken on trust: a section beyond its end is none.
 struct File {
   const char *begin;
@@ -64,6 +54,5 @@ bool program_has_lines() {
 CodeRange code_with_lines;
 
 void find_lines() {
-  CodeRange program;
-  if (program_has_lines() && dl_iterate_phdr(find_program, &program)) code_with_lines = program;
+  if (program_has_lines()) code_with_lines = code_around(reinterpret_cast<const void *>(getauxval(AT_ENTRY)));
 }

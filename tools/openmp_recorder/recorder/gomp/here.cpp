@@ -1,13 +1,13 @@
 #include "here.hpp"
 
-#include <unistd.h>
-
 #include "callbacks.hpp"
 #include "construct.hpp"
 #include "callers.hpp"
 #include "life.hpp"
 #include "program_start.hpp"
 #include "own.hpp"
+#include "own_stack.hpp"
+#include "system_calls.hpp"
 
 __thread Here this_here;
 ompt_data_t implicit_task = {0};
@@ -25,8 +25,7 @@ Look look_at_beginning() {
 void begin_initial(Here &own, const Look &met) {
   on_implicit_task(ompt_scope_begin, nullptr, nullptr, 1, 0, ompt_task_initial);
   own.log = own_log();
-  bool is_first = getpid() == gettid();
-  if (own.log && !is_stopped() && is_first) thread_log->look_back(look_at_beginning(), met, moment_now());
+  if (own.log && !is_stopped() && is_first_thread()) thread_log->look_back(look_at_beginning(), met, moment_now());
 }
 
 bool begin_runtime() {
@@ -66,6 +65,7 @@ void tell_left(Here &own) {
 }
 
 Here &begin_here(bool in_a_part) {
+  KeepErrno kept;
   const Look met = in_a_part ? Look{} : look_now();
   // Threads that meet the runtime meanwhile wait here for the first one; `begin_runtime` must not lead here.
   static const bool has_begun = begin_runtime();

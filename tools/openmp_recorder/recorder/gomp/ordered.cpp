@@ -2,6 +2,7 @@
 #include <stdarg.h>
 
 #include <algorithm>
+#include <utility>
 #include <vector>
 
 #include "callbacks.hpp"
@@ -12,7 +13,7 @@
 namespace {
 using Unsigned = unsigned long long;
 constexpr auto order = static_cast<ompt_mutex_t>(order_of_turns);
-constexpr unsigned most_loops = 16;  // within each other
+constexpr unsigned few_loops = 8, most_loops = 128;  // within each other: more than compilers have to take
 
 // The turn by its numbers in the loops. A source is recorded before the runtime's call, a sink after it, so that their
 // records are in the order of what happened.
@@ -24,6 +25,11 @@ void tell_turn(const Turn *numbers, ompt_dependence_type_t type) {
     items[i].dependence_type = type;
   }
   on_dependences(here().task, items.data(), static_cast<int>(items.size()));
+}
+
+template <class Turn, size_t... Loop>
+void hand_on(void (*wait)(Turn, ...), const Turn *turn, std::index_sequence<Loop...>) {
+  wait(turn[Loop]...);
 }
 
 // One for each thread, with the lowest bit set: no lock has this address.
@@ -58,21 +64,23 @@ ENTRY void GOMP_doacross_ull_post(Unsigned *turn) {
 }
 
 // The turn's numbers in the inner loops follow that in the outermost.
-// Where LLVM's runtime answers, the number of arguments is not known here: the most are read and handed on, and it uses
-// those that there are.
-#define WAIT(name, Turn)                                                                                              \
-  ENTRY void name(Turn first, ...) {                                                                                  \
-    static const auto llvms = reinterpret_cast<decltype(&name)>(llvms_function(#name));                               \
-    static const auto own = llvms ? llvms : reinterpret_cast<decltype(&name)>(own_function(#name));                   \
-    unsigned counts = llvms ? most_loops : std::min(here().counts, most_loops);                                       \
-    Turn turn[most_loops] = {first};                                                                                  \
-    va_list more;                                                                                                     \
-    va_start(more, first);                                                                                            \
-    for (unsigned i = 1; i < counts; i++) turn[i] = va_arg(more, Turn);                                               \
-    va_end(more);                                                                                                     \
-    own(turn[0], turn[1], turn[2], turn[3], turn[4], turn[5], turn[6], turn[7], turn[8], turn[9], turn[10], turn[11], \
-        turn[12], turn[13], turn[14], turn[15]);                                                                      \
-    if (!llvms) tell_turn(turn, ompt_dependence_type_sink);                                                           \
+// Where another runtime answers, the number of arguments is not known here: the most are read and handed on, and it
+// uses those that there are.
+#define WAIT(name, Turn)                                                                 \
+  ENTRY void name(Turn first, ...) {                                                     \
+    static void *const llvms = llvms_function(#name, PLACE);                             \
+    static void *const own = llvms ? llvms : own_function(#name);                        \
+    void *others = passed_on(llvms, #name, PLACE);                                       \
+    auto call = reinterpret_cast<void (*)(Turn, ...)>(others ? others : own);            \
+    unsigned counts = others ? most_loops : std::min(here().counts, most_loops);         \
+    Turn turn[most_loops] = {first};                                                     \
+    va_list more;                                                                        \
+    va_start(more, first);                                                               \
+    for (unsigned i = 1; i < counts; i++) turn[i] = va_arg(more, Turn);                  \
+    va_end(more);                                                                        \
+    if (counts <= few_loops) hand_on(call, turn, std::make_index_sequence<few_loops>()); \
+    else hand_on(call, turn, std::make_index_sequence<most_loops>());                    \
+    if (!others) tell_turn(turn, ompt_dependence_type_sink);                             \
   }
 WAIT(GOMP_doacross_wait, long)
 WAIT(GOMP_doacross_ull_wait, Unsigned)

@@ -42,11 +42,11 @@ Target &target_of(void *addresses) {
 void run_outside_of_teams(void *of) {
   Target &target = *reinterpret_cast<Target *>(static_cast<char *>(of) - sizeof(Head));
   Here &own = here();
-  bool was_in_team = own.in_team, was_final = own.is_final;
-  own.in_team = own.is_final = false;
+  Here before = own;
+  own.in_team = own.is_final = own.in_divided = false;
+  own.copied = nullptr;
   target.code(target.addresses);
-  own.in_team = was_in_team;
-  own.is_final = was_final;
+  own = before;
 }
 
 // No task of its own: only what it waited for is recorded.
@@ -73,7 +73,7 @@ Head head_of_target(const void *place) {
 
 // Also where the program's own tasks are LLVM's.
 bool is_unknown() {
-  static const bool is_of_llvm = llvms_function("GOMP_task");
+  static const bool is_of_llvm = llvms_function("GOMP_task", nullptr);
   static const bool has_device = reinterpret_cast<int (*)()>(own_function("omp_get_num_devices"))() > 0;
   return is_of_llvm || has_device || is_cancelled(cancelled_group);
 }
@@ -88,7 +88,7 @@ void wait_for_items(unsigned flags, void **depend, const void *place) {
 
 ENTRY void GOMP_target_ext(int device, Code code, size_t count, void **addresses, size_t *sizes, unsigned short *kinds,
                            unsigned flags, void **depend, void **more) {
-  OWN(GOMP_target_ext);
+  ENTER(GOMP_target_ext, device, code, count, addresses, sizes, kinds, flags, depend, more);
   if (is_unknown()) return own_GOMP_target_ext(device, code, count, addresses, sizes, kinds, flags, depend, more);
   Here &own = here();
   bool is_task = flags & target_nowait && !own.is_final;
@@ -109,7 +109,7 @@ ENTRY void GOMP_target_ext(int device, Code code, size_t count, void **addresses
 #define COPIED(name)                                                                                                \
   ENTRY void name(int device, size_t count, void **addresses, size_t *sizes, unsigned short *kinds, unsigned flags, \
                   void **depend) {                                                                                  \
-    OWN(name);                                                                                                      \
+    ENTER(name, device, count, addresses, sizes, kinds, flags, depend);                                             \
     if (is_unknown()) return own_##name(device, count, addresses, sizes, kinds, flags, depend);                     \
     wait_for_items(flags, depend, PLACE);                                                                           \
     own_##name(device, count, addresses, sizes, kinds, flags, nullptr);                                             \

@@ -1,0 +1,31 @@
+#include "own_stack.hpp"
+
+#include <pthread.h>
+#include <sys/resource.h>
+
+extern "C" char *__libc_stack_end;
+
+namespace {
+constexpr uint64_t longest_stack = 1 << 30;
+
+uint64_t length_of_first_stack() {
+  rlimit most{};
+  bool is_known = !getrlimit(RLIMIT_STACK, &most) && most.rlim_cur < longest_stack;
+  return is_known ? most.rlim_cur : longest_stack;
+}
+}  // namespace
+
+frames::Stack own_stack() {
+  if (is_first_thread()) {
+    auto end = reinterpret_cast<uint64_t>(__libc_stack_end);
+    return {end - length_of_first_stack(), end};
+  }
+  pthread_attr_t attributes;
+  if (pthread_getattr_np(pthread_self(), &attributes)) return {};
+  void *lowest = nullptr;
+  size_t bytes = 0;
+  pthread_attr_getstack(&attributes, &lowest, &bytes);
+  pthread_attr_destroy(&attributes);
+  auto first = reinterpret_cast<uint64_t>(lowest);
+  return {first, first + bytes};
+}
