@@ -61,6 +61,6 @@ NAMES = {"serial": "serial", "too_few_tasks": "too few tasks", "dependence": "de
          "sleep": "asleep", "too_few_threads": "too few threads", "too_many_threads": "too many threads",
          "machine": "busy machine", "recorder": "recorder", "startup": "startup"}
 EFFICIENT = 0.85        # of the threads' time in code, from which on nothing need be lost
-MOST = 0.5              # of the lost time, from which on the machine is its cause
+BUSY = 0.1              # of the threads' time, from which on what other programs took is told apart
 SECOND = 0.1            # of the run's time, from which on a second cause is told
 WORTH_A_CHANGE = 0.03   # the same of a change

@@ -10,7 +10,6 @@ from spanprof.text import SECTION
 
 WIDTH, MOST_LINES = 100, 8
 LABEL = 6
-BUSY = 0.1      # of the threads' time off the processor, from which on the last line says so
 NO_FASTER = 1.1
 LEAST_TOLD = 0.005     # of the threads' time, from which on a part of it is told
 TRIED = {
@@ -57,7 +56,7 @@ def words_of_run(facts):
     used = (usage.get("user_ns") or 0) + (usage.get("system_ns") or 0)
     return {"threads": facts.threads, "processors": facts.processors, "target": facts.target, "usable": facts.usable,
             "all_tasks": grouped(facts.tasks), "average_task": lasting(average_task(facts)),
-            "code": "%.0f" % (100 * facts.share(facts.code)), **words_of_kernel(facts, usage),
+            "code": "%.0f" % (100 * facts.own_share(facts.code)), **words_of_kernel(facts, usage),
             "system": "%.0f" % (100 * (usage.get("system_ns") or 0) / used if used else 0)}
 
 
@@ -165,7 +164,7 @@ def speed_words(facts):
     one = facts.on_one
     if not one:
         return ""
-    times = one / max(facts.now, 1)
+    times = one / max(facts.seen, 1)
     told = "no faster" if 1 / NO_FASTER < times < NO_FASTER else "%.1f times as fast" % times if times > 1 else \
         "%.1f times slower" % (1 / times)
     return ", %s on one: %s" % (lasting(one), told)
@@ -173,15 +172,16 @@ def speed_words(facts):
 
 def first_line(found):
     facts = found.facts
-    return "%s: %s on %s%s%s. At best %s." % (
+    alone = ", %s without other programs" % lasting(facts.now) if facts.now < facts.seen else ""
+    return "%s: %s on %s%s%s%s. At best %s." % (
         facts.program or "program", lasting(found.now), several(facts.threads, "thread"),
-        " of " + facts.runtime if facts.runtime else "", speed_words(facts), lasting(found.best))
+        " of " + facts.runtime if facts.runtime else "", alone, speed_words(facts), lasting(found.best))
 
 
 def lost_lines(found, names):
     facts = found.facts
     for i, loss in enumerate(found.causes):
-        share = facts.share(loss.time)
+        share = facts.lost_share(loss)
         line = "%-*s%2.0f %%  %s" % (LABEL, "lost" * (i == 0), 100 * share, lost_sentence(facts, names, loss))
         yield shortened(line, WIDTH)
 
@@ -216,12 +216,11 @@ def unsure(found, names):
 def sure_words(found):
     """How much of the program was seen, and how it went."""
     facts = found.facts
-    off = sum(facts.share(loss.time) for loss in found.losses if loss.kind == "machine")
     parts = [several(facts.runs, "run"),
              "recorder %.1f %%" % (100 * facts.share(facts.recorder)) if facts.recorder else "",
              "%.1f %% of the program seen" % (100 * facts.coverage) if facts.coverage is not None else "",
              "gains predicted" if any(step.change for step in found.plan) else "",
-             "machine busy: %.0f %%" % (100 * off) if off >= BUSY else ""]
+             "machine busy: %.0f %%" % (100 * facts.share(facts.taken)) if facts.taken else ""]
     return list(filter(None, parts))
 
 

@@ -37,7 +37,8 @@ class Losses(unittest.TestCase):
         for name, kind in (("task at a.c:1", TASK), ("the beginning", SERIAL), ("turns of the loop at a.c:3", SHARE)):
             one = place(name, kind, cost=20 * MS)       # on the processor, of the 80 ms that it lasted
             found = facts([one], preempted=60 * MS, preempted_by={name: 60 * MS}, starved=40 * MS,
-                          starved_by={name: 40 * MS}, delayed=80 * MS, delayed_by={name: 80 * MS})
+                          starved_by={name: 40 * MS}, starved_off={name: 30 * MS}, delayed=80 * MS,
+                          delayed_by={name: 80 * MS})
             machine = sum(loss.time for loss in losses(found) if loss.kind == "machine")
             self.assertGreaterEqual(machine, (60 + 30 + 60) * MS)
             self.assertEqual(sum(loss.time for loss in losses(found)) + code_on_one(found, losses(found)),

@@ -119,10 +119,12 @@ class Sentences(unittest.TestCase):
         self.assertIsNone(as_json(told, Names(run, SOURCES))["diagnosis"][0]["change"])
 
     def test_of_a_busy_machine_only_to_record_again(self):
-        run = found(preempted=200 * MS, starved=80 * MS, starved_by={TASKS: 80 * MS})
+        run = found(preempted=200 * MS)
         lines = short_lines(diagnose(run), Names(run, SOURCES))
-        self.assertEqual([line[:5] for line in lines[:3]], ["image", "lost ", "sure "])
-        self.assertIn("record it again on a machine with less to do", lines[1])
+        self.assertEqual(lines[:3], [
+            "image: 100 ms on 4 threads, 50.0 ms without other programs. At best 50.0 ms.",
+            "lost  50 %  other programs had the processors: record it again on a machine with less to do",
+            "sure  1 run, machine busy: 50 %"])
 
     def test_what_went_wrong_has_a_line(self):
         run = found()
