@@ -242,7 +242,7 @@ def kind_of_preempted(facts):
 
 def off_losses(facts):
     """In the midst of code, but not in it: at locks, asleep, off the processor."""
-    locks = {lock.place or lock.kind: lock.waited for lock in facts.locks}
+    locks = {lock_name(lock): lock.waited for lock in facts.locks}
     off = int(facts.at_locks * off_while_waiting(facts))
     return by_place("lock", facts.at_locks - off, locks) + [Loss(kind_of_preempted(facts), "", off)] + \
         by_place("sleep", facts.asleep, facts.asleep_by or at_heaviest(facts)) + \
@@ -294,12 +294,23 @@ def dearer(facts):
     return {name: max(0, place.cost - one[name]) for name, place in facts.places.items() if name in one}
 
 
+def kernel_kind(facts):
+    """To wait for a lock and to wake who waits for it are system calls too; and the weights of their places."""
+    is_lock = facts.locks and facts.at_locks > MUCH * facts.whole_time and not has_many_faults(facts)
+    return ("lock", {lock_name(facts.locks[0]): 1}) if is_lock else ("system", at_heaviest(facts))
+
+
+def lock_name(lock):
+    return lock.place or lock.kind
+
+
 def in_code_losses(facts):
     """Of what counts as code: in the kernel, making small tasks, and dearer than on one thread."""
     left, out = facts.code, []
     is_small = mostly_small(facts) and not keeps_waiting(facts)
     making = min(facts.creating * facts.tasks, facts.code // 2) if is_small else 0
-    for kind, time, weights in (("system", system_time(facts), at_heaviest(facts)),
+    kernel, at_kernel = kernel_kind(facts)
+    for kind, time, weights in ((kernel, system_time(facts), at_kernel),
                                 ("small_tasks", making, at_heaviest(facts)),
                                 ("memory", sum(dearer(facts).values()), dearer(facts))):
         part = min(time, left)

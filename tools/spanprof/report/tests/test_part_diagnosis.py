@@ -33,8 +33,8 @@ class Screens(unittest.TestCase):
                       "50.0 msif all threads ran its code all the time", "38 % lost: 8 tasks of image.c:9 (tone)",
                       "First: depend(in: tab[f(0, 1)]) at image.c:9, if the tasks only read it. 100 ms to 60.0 ms",
                       "- #pragma omp task depend(in: b[0]) depend(inout: tab[f(0, 1)])",
-                      "Then, on top of it:divide main (image.c:4-6) among 4 tasks 60.0 ms to 40.0 ms",
-                      "Not known: whether code costs more on 4 threads: --full."):
+                      "Then, on top of it:parallelise main (image.c:4-6): loop or tasks 60.0 ms to 40.0 ms",
+                      "Not known: whether atomics or shared memory slow it: --full."):
             self.assertIn(words, shown)
 
     def test_the_bar_is_the_whole(self):
