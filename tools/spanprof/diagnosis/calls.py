@@ -55,8 +55,9 @@ def calls_of(path, names):
 
 @lru_cache(maxsize=4096)
 def known(calls):
-    """Names of functions of the system stay as they are, with their library's."""
-    return tuple(one if OF_SYSTEM in one else plain(one) for one in calls.split(";"))
+    """Those of the system with their library's name, or that of headers."""
+    return tuple(plain(name) + at + library for name, at, library in (one.partition(OF_SYSTEM)
+                                                                      for one in calls.split(";")))
 
 
 def asleep_in(sampled):

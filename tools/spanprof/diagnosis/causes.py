@@ -23,34 +23,34 @@ class Cause(NamedTuple):
 
 
 TABLE = (
-    Cause("serial", 0.05, "{where} runs alone: {alone}"),
+    Cause("serial", 0.05, "{where} runs on one thread: {alone}"),
     Cause("too_few_tasks", 0.05, "too few tasks: threads wait while {where} runs"),
-    Cause("imbalance", 0.05, "uneven tasks at {where}: threads wait for the longest, {largest}; average {average}"),
-    Cause("dependence", 0.05, "{tasks} of {where} run one after another: {many} have depend({item})"),
+    Cause("imbalance", 0.05, "uneven tasks at {where}: the longest takes {largest}, the average one {average}"),
+    Cause("dependence", 0.05, "{tasks} of {where} are serial: {many} have depend({item})"),
     Cause("wait", 0.05, "threads wait at {where}, where other tasks could run"),
     Cause("small_tasks", 0.1, "{all_tasks} tasks of {average_task} each: creating and starting them costs too much",
           "larger tasks at {at}: a cutoff or grainsize"),
     Cause("creation", 0.1, "one thread creates all {all_tasks} tasks, {average_task} each: the others wait for it",
-          "create the tasks of {at} in several tasks: taskloop"),
+          "larger tasks at {at}, or taskloop: it creates them in several threads"),
     Cause("small_regions", 0.1, "{regions} at {where} take {region_time} each: starting them costs too much",
-          "larger regions than at {where}: around the outer loop"),
+          "take parallel at {where} out of the loop around it; leave the for"),
     Cause("undeferred", 0.05, "{tasks} of {where} run immediately, in the thread that creates them"),
     Cause("loop_schedule", 0.05, "threads wait at the end of {at}: its work is shared out unevenly", "{shared}"),
-    Cause("lock", 0.1, "threads wait for {where}, entered {times} times",
-          "do less in {where}: own data, joined once"),
+    Cause("lock", 0.1, "threads wait for {where}, {times}",
+          "do less in {where}: a copy for each thread"),
     Cause("exclusion", 0.1, "tasks of {where} exclude each other: mutexinoutset",
-          "mutexinoutset on smaller parts, or only for the update"),
+          "mutexinoutset at {at} on smaller items, or in a task of the update alone"),
     Cause("memory", 0.1, "{where} costs {dearer} times as much on {threads} threads as on one: memory is contended",
-          "own data for each task, joined once: no shared counters"),
+          "a copy for each thread of what {at} writes, joined once: reduction"),
     Cause("system", 0.1, "{system} % of the processor time is the kernel's: {kernel}", "{less_kernel}"),
     Cause("sleep", 0.1, "{where} sleeps {in_what}",
           "begin what {at} waits for sooner, or use more threads"),
     Cause("too_few_threads", 0.1, "{got} in the region at {where}{others}: {target} can run",
-          "use {target} threads at {where}: {who_asked}"),
+          "ask for {target} threads at {where}{who_asked}"),
     Cause("too_many_threads", 0.1, "{threads} threads on {processors} processors, {in_region}",
           "use {processors} threads: num_threads or OMP_NUM_THREADS"),
     Cause("machine", 0.25, "other programs had the processors: record it again on a machine with less to do"),
-    Cause("efficient", 0.0, "little: threads were in code {code} % of the time; only less work helps"),
+    Cause("efficient", 0.0, "little: threads ran code {code} % of the time{suspect}"),
 )
 BY_KIND = {cause.kind: cause for cause in TABLE}
 # Short names of them, and of what is lost without a cause.
@@ -61,6 +61,6 @@ NAMES = {"serial": "serial", "too_few_tasks": "too few tasks", "dependence": "de
          "sleep": "asleep", "too_few_threads": "too few threads", "too_many_threads": "too many threads",
          "machine": "busy machine", "recorder": "recorder", "startup": "startup"}
 EFFICIENT = 0.85        # of the threads' time in code, from which on nothing need be lost
-MOST = 0.5              # of the lost time, from which on the machine is its cause
+BUSY = 0.1              # of the threads' time, from which on what other programs took is told apart
 SECOND = 0.1            # of the run's time, from which on a second cause is told
 WORTH_A_CHANGE = 0.03   # the same of a change

@@ -113,6 +113,19 @@ def candidates(facts, seen):
     return out + list(own_tasks(facts))
 
 
+def without(found, lost):
+    """The statements, with costs less by what their segments lost."""
+    current, left = 0, dict(lost)
+    for one in found:
+        if one.kind == "work":
+            less = min(one.cost, left.get(current, 0))
+            left[current] = left.get(current, 0) - less
+            one = one._replace(cost=one.cost - less)
+        elif one.kind != "taskgroup":   # each other mark begins a segment
+            current += 1
+        yield one
+
+
 class Bench:
     """A text on which changes are tried, on as many threads as the run could have had. All have these seconds, or as
     long as the run took and no less than ten seconds; `longest` is what one of them took."""
@@ -120,10 +133,11 @@ class Bench:
     def __init__(self, text, facts, seconds=None):
         self.facts, self.head = facts, text.head
         self.until, self.longest = time.monotonic() + (seconds or seconds_for(text.head)), 0
-        self.kept = list(text.statements())
+        self.unit = text.head.nanoseconds or 1
+        lost = {segment: time // self.unit for segment, time in facts.preempted_in.items()}
+        self.kept = list(without(text.statements(), lost) if lost and text.head.clock != "cpu" else text.statements())
         self.seen = survey(self.kept)
         self.costs = costs_for(text.head, self.seen)
-        self.unit = text.head.nanoseconds or 1
 
     def candidates(self):
         return best_first(candidates(self.facts, self.seen), lambda change: change.kind)

@@ -59,9 +59,9 @@ class Compared:
 def spread_of(facts):
     """By how much of the median the runs differ from it at most; of one run as runs mostly do."""
     runs = facts.true_many or []
-    if len(runs) < 2 or not facts.now:
+    if len(runs) < 2 or not facts.seen:
         return ONE_RUN
-    return max(max(runs) - facts.now, facts.now - min(runs)) / facts.now
+    return max(max(runs) - facts.seen, facts.seen - min(runs)) / facts.seen
 
 
 def matched_by(facts):
@@ -137,7 +137,7 @@ def lines(found):
     told = [(found.after.found.facts.program or "program", verdict(found))]
     told += [("where" * (i == 0), place_line(found, place)) for i, place in enumerate(places)]
     told += [("predicted", predicted_line(found))] * bool(predicted_line(found))
-    told += [("now", "lost %.0f %%: %s" % (100 * last.facts.share(loss.time), lost_sentence(
+    told += [("now", "lost %.0f %%: %s" % (100 * last.facts.lost_share(loss), lost_sentence(
         last.facts, found.after.names, loss))) for loss in last.causes[:1]]
     width = max(LABEL, *(len(label) + 2 for label, _ in told[1:]))
     return [shortened("%s: %s" % told[0], WIDTH)] + [shortened("%-*s%s" % (width, *one), WIDTH) for one in told[1:]]

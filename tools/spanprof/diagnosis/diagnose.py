@@ -2,7 +2,7 @@
 from dataclasses import dataclass, field
 from typing import List
 
-from spanprof.diagnosis.causes import BY_KIND, EFFICIENT, MOST, SECOND
+from spanprof.diagnosis.causes import BUSY, BY_KIND, EFFICIENT, SECOND
 from spanprof.diagnosis.losses import NO_CAUSE, OF_SHAPE, Loss, code_on_one, least_of, losses, merged
 from spanprof.diagnosis.plan import best_of, bounds, step_of, steps_after
 
@@ -21,21 +21,21 @@ class Diagnosis:
 
     @property
     def now(self):
-        return self.facts.now
+        return self.facts.seen
 
     @property
     def best(self):
         """Where all threads run its code all the time."""
         facts = self.facts
-        least = self.now * self.code_on_one * facts.target / (facts.whole_time * facts.usable or 1)
-        return min(self.now, int(least))
+        least = facts.now * self.code_on_one * facts.target / (facts.own_time * facts.usable or 1)
+        return min(facts.now, int(least))
 
 
 def as_won_back(facts, found, steps):
     """What the shape lost is of the kind of the change that wins back most of it."""
     best = best_of([step for step in steps if step.change and step.kind in (*OF_SHAPE, "undeferred")])
     pool = sum(loss.time for loss in found if loss.kind in OF_SHAPE)
-    if not best or facts.share(pool) * POOL > best.gain / max(facts.now, 1):
+    if not best or facts.own_share(pool) * POOL > best.gain / max(facts.now, 1):
         return found
     return merged([Loss(best.kind, best.place, loss.time) if loss.kind in OF_SHAPE else loss for loss in found])
 
@@ -46,12 +46,10 @@ def matching(step, found):
     return next((loss for loss in same if loss.place == step.place), same[0] if same else None)
 
 
-def machine_of(facts, found):
-    """The loss to other programs, where it is most of what was lost: then the program's own losses are unsure."""
-    lost = [loss for loss in found if loss.kind not in NO_CAUSE]
-    machine = sum(loss.time for loss in lost if loss.kind == "machine")
-    is_cause = facts.share(machine) >= BY_KIND["machine"].least and machine > MOST * sum(loss.time for loss in lost)
-    return [Loss("machine", "", machine)] if is_cause else []
+def taken_by_others(facts, found):
+    """The loss to other programs, where it is much: what the program lost itself is told of the rest."""
+    machine = sum(loss.time for loss in found if loss.kind == "machine")
+    return machine if facts.share(machine) >= BUSY else 0
 
 
 def with_alike(loss, found):
@@ -60,11 +58,9 @@ def with_alike(loss, found):
 
 
 def causes_of(facts, found, steps, code):
-    """A busy machine; or else the first is that of the step that is worth most, and a second one where it may bring a
-    tenth of the run's time."""
-    machine, out, seen = machine_of(facts, found), [], set()
-    if machine:
-        return machine
+    """The first is that of the step that is worth most, and a second one where it may bring a tenth of the run's time.
+    Where the program has none of its own it is the machine."""
+    out, seen = [], set()
     for step in steps:
         loss = matching(step, found)
         loss = loss and with_alike(loss, found)
@@ -75,21 +71,22 @@ def causes_of(facts, found, steps, code):
             seen.add(step.kind)
     if out:
         return out[:2]
-    ran = facts.whole_time - sum(loss.time for loss in found if loss.kind in NO_CAUSE)
-    named = [with_alike(loss, found) for loss in found if loss.kind in BY_KIND]
-    largest = [loss for loss in named if facts.share(loss.time) >= BY_KIND[loss.kind].least]
-    return [Loss("efficient", "", ran - code)] if code >= EFFICIENT * ran or not largest else largest[:1]
+    ran = facts.own_time - sum(loss.time for loss in found if loss.kind in NO_CAUSE)
+    named = [with_alike(loss, found) for loss in found if loss.kind in BY_KIND and loss.kind != "machine"]
+    largest = [loss for loss in named if loss.time >= least_of(facts, found, BY_KIND[loss.kind].least)]
+    if code < EFFICIENT * ran and largest:
+        return largest[:1]
+    is_machine = facts.share(facts.taken) >= BY_KIND["machine"].least
+    return [Loss("machine", "", facts.taken) if is_machine else Loss("efficient", "", ran - code)]
 
 
 def diagnose(facts, bench=None):
     """`bench` tries changes of the text; without it only bounds are told. Of a run on one thread no cause is named: it
     says nothing of more threads."""
     found = losses(facts)
-    code = code_on_one(facts, found)
+    code, facts.taken = code_on_one(facts, found), taken_by_others(facts, found)
     if facts.target == 1:
         return Diagnosis(facts, found, code_on_one=code)
-    if machine_of(facts, found):
-        bench = None
     steps = bounds(facts, facts.now, found)
     if bench:
         before = bench.end([])

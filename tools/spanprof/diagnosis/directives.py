@@ -23,9 +23,19 @@ def has(line, construct):
     return bool(found) and re.search(r"\b%s\b" % construct, found[1]) is not None
 
 
+def directive_before(lines, number, construct):
+    """Where the function has none after a line, the last before it; the line itself where there is none."""
+    for here in range(min(number, len(lines)), max(number - LONGEST, 0), -1):
+        if has(lines[here - 1], construct):
+            return here
+        if CONDITION.match(lines[here - 1]) or TOP_LEVEL.match(lines[here - 1]):
+            break
+    return number
+
+
 def directive_line(lines, number, construct):
-    """That of the directive: gcc may give a construct the line of a statement before it, or of its function. The line
-    itself where none follows in the function, or only one that may not be compiled."""
+    """That of the directive: gcc may give a construct the line of a statement before it, of its function, or after its
+    loop. The line itself where the function has none, or only one that may not be compiled."""
     conditions = 0
     for here in range(number, min(len(lines), number + LONGEST) + 1):
         if has(lines[here - 1], construct):
@@ -35,7 +45,7 @@ def directive_line(lines, number, construct):
             conditions = max(0, conditions + {"if": 1, "endif": -1}[condition[1]])
         if here > number and TOP_LEVEL.match(lines[here - 1]):
             break
-    return number
+    return directive_before(lines, number, construct)
 
 
 def code_of(line):

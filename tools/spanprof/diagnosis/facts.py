@@ -58,9 +58,12 @@ class Facts:
     outside: int = 0
     delayed_by: Dict[str, int] = field(default_factory=dict)
     starved_by: Dict[str, int] = field(default_factory=dict)
+    starved_off: Dict[str, int] = field(default_factory=dict)       # of `starved_by`, while what ran was preempted
     starting_by: Dict[str, float] = field(default_factory=dict)     # of `delayed_by`, while regions start and end
     asleep_by: Dict[str, int] = field(default_factory=dict)
     preempted_by: Dict[str, int] = field(default_factory=dict)
+    preempted_in: Dict[int, int] = field(default_factory=dict)      # by segment, where its cost has it
+    taken: int = 0                      # of the threads' time, by other programs, where that is much
     calls: Sampled = Sampled({}, {})
     places: dict = field(default_factory=dict)
     functions: Dict[str, str] = field(default_factory=dict)
@@ -92,9 +95,19 @@ class Facts:
         return self.target * self.elapsed
 
     @property
-    def now(self):
+    def own_time(self):
+        """The threads' time that other programs left."""
+        return self.whole_time - self.taken
+
+    @property
+    def seen(self):
         """The elapsed time that a person sees: of unrecorded runs, where there are any."""
         return int(statistics.median(self.true_many)) if self.true_many else self.elapsed
+
+    @property
+    def now(self):
+        """What the recorded run takes of it without what other programs took."""
+        return self.seen if self.true_many else self.elapsed - self.taken // self.target
 
     @property
     def on_one(self):
@@ -107,6 +120,14 @@ class Facts:
 
     def share(self, time):
         return time / self.whole_time if self.whole_time else 0.0
+
+    def own_share(self, time):
+        """Of the time that other programs left."""
+        return time / self.own_time if self.own_time else 0.0
+
+    def lost_share(self, loss):
+        """What the program lost itself is told of the time that others left it."""
+        return self.share(loss.time) if loss.kind == "machine" else self.own_share(loss.time)
 
 
 def function_in(words):
@@ -134,13 +155,31 @@ def starting_shares(found):
     return {name: starting[name] / time for name, time in whole.items() if time}
 
 
+def kept_waiting(facts, row, preempted, time):
+    """Of the time for which threads starved while a segment lasted: had it been preempted no more than code was on
+    average, each had waited for so much less; and of the rest as much is due to that as of the code."""
+    average = facts.preempted / max(facts.code + facts.preempted, 1)
+    alone = min(time, (facts.threads - 1) * max(0, preempted - average * (row.end - row.begin)))
+    return int(alone + average * (time - alone))
+
+
+def set_starved(facts, found):
+    """Of segments that were preempted it is known how long others starved while each lasted."""
+    names = [(name, segment) if facts.preempted_in.get(segment) else name for segment, name in enumerate(found.places)]
+    for key, time in replace(found, places=names).starved_by.items():
+        name, segment = key if isinstance(key, tuple) else (key, None)
+        off = kept_waiting(facts, found.rows[segment], facts.preempted_in[segment], time) if segment is not None else 0
+        facts.starved_by[name] = facts.starved_by.get(name, 0) + time
+        facts.starved_off[name] = facts.starved_off.get(name, 0) + off
+
+
 def set_breakdown(facts, found):
     found = of_those_at_once(found, facts.threads)
     facts.threads = found.threads
     for name, part in found.parts.items():
         setattr(facts, name.replace(" ", "_"), part)
-    facts.delayed_by, facts.starved_by = found.delayed_by, found.starved_by
-    facts.starting_by = starting_shares(found)
+    facts.delayed_by, facts.starting_by = found.delayed_by, starting_shares(found)
+    set_starved(facts, found)
 
 
 def set_by_greedy(facts):
@@ -160,11 +199,12 @@ def off_by_segment(path, head):
 
 
 def set_off(facts, off, program):
-    """By place."""
+    """By place, and what was preempted by segment."""
     for segment, (slept, preempted) in off.items():
         name = program.kinds[program.code.of[segment]]
         facts.asleep_by[name] = facts.asleep_by.get(name, 0) + slept
         facts.preempted_by[name] = facts.preempted_by.get(name, 0) + preempted
+        facts.preempted_in[segment] = preempted
 
 
 def costs_of(code, off, head):

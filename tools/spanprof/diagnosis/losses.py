@@ -11,7 +11,7 @@ SMALL = 5000            # nanoseconds of code in a task, below which creating an
 A_TASK = 10000          # nanoseconds that each thread loses at most by making, waking for and starting one task
 A_CREATION = 1000       # nanoseconds: a thread with less code for each task mostly waits for the runtime to create it
 MANY = 8                # tasks for each thread, from which on to make them may cost much
-LITTLE = 0.025          # of the threads' time, below which nothing is a cause
+UNSURE = 0.1            # of what other programs took, by which a loss of the program itself may be off
 MUCH = 0.1              # of the run's time, from which on handling tasks may be what is lost
 SEVERAL = 1.5           # of the largest pieces: from which on several threads run a place at once
 UNEVEN = 1.5            # of the average piece: from which on the largest one is uneven
@@ -169,18 +169,27 @@ def off_while_waiting(facts):
     return min(facts.preempted / (facts.code + facts.preempted), 1 - min(max(on, 0), waiting) / waiting)
 
 
+def delayed_off_share(facts, name):
+    return max(off_while_waiting(facts), preempted_share(facts, name))
+
+
 def asleep_share(facts, name):
     """Of the time that code lasted."""
     place, slept = facts.places.get(name), facts.asleep_by.get(name, 0)
     return slept / max(place.cost, slept) if place and slept else 0.0
 
 
-def collected(kinds, by, kind_of, facts, least_off=0.0, for_sleep=False):
+def starved_off_share(facts, name):
+    """Of the time for which threads had nothing to run but this code."""
+    return facts.starved_off.get(name, 0) / max(facts.starved_by.get(name, 0), 1)
+
+
+def collected(kinds, by, kind_of, facts, off_share, for_sleep=False):
     """While code was preempted, the machine kept those waiting too that were idle for it; and sleep did while it
     slept, where they had nothing else to run."""
     off = kind_of_preempted(facts)
     for name, time in by.items():
-        part = int(time * max(least_off, preempted_share(facts, name)))
+        part = int(time * off_share(facts, name))
         slept = int((time - part) * asleep_share(facts, name)) if for_sleep else 0
         for key, lost in (((off, name), part), (("sleep", name), slept), ((kind_of(facts, name), name),
                                                                           time - part - slept)):
@@ -192,12 +201,13 @@ def idle_losses(facts):
     kinds, missing = {}, missing_threads(facts)
     short = min(sum(missing.values()), facts.starved + (facts.target - facts.threads) * facts.elapsed)
     starved = facts.starved + (facts.target - facts.threads) * facts.elapsed - short
-    collected(kinds, divided(starved, facts.starved_by or {"": 1}), kind_of_starved, facts, for_sleep=True)
+    collected(kinds, divided(starved, facts.starved_by or {"": 1}), kind_of_starved, facts, starved_off_share,
+              for_sleep=True)
     delayed = divided(facts.delayed, facts.delayed_by or {"": 1})
     starting = {name: int(time * starting_share(facts, name)) for name, time in delayed.items()}
-    collected(kinds, starting, lambda *_: "small_regions", facts, off_while_waiting(facts))
+    collected(kinds, starting, lambda *_: "small_regions", facts, delayed_off_share)
     collected(kinds, {name: time - starting[name] for name, time in delayed.items()}, kind_of_delayed, facts,
-              off_while_waiting(facts))
+              delayed_off_share)
     return start_of(facts, [Loss(*key, time) for key, time in kinds.items()]) + \
         by_place("too_few_threads", short, missing)
 
@@ -232,7 +242,7 @@ def kind_of_preempted(facts):
 
 def off_losses(facts):
     """In the midst of code, but not in it: at locks, asleep, off the processor."""
-    locks = {lock.place or lock.kind: lock.waited for lock in facts.locks}
+    locks = {lock_name(lock): lock.waited for lock in facts.locks}
     off = int(facts.at_locks * off_while_waiting(facts))
     return by_place("lock", facts.at_locks - off, locks) + [Loss(kind_of_preempted(facts), "", off)] + \
         by_place("sleep", facts.asleep, facts.asleep_by or at_heaviest(facts)) + \
@@ -284,12 +294,23 @@ def dearer(facts):
     return {name: max(0, place.cost - one[name]) for name, place in facts.places.items() if name in one}
 
 
+def kernel_kind(facts):
+    """To wait for a lock and to wake who waits for it are system calls too; and the weights of their places."""
+    is_lock = facts.locks and facts.at_locks > MUCH * facts.whole_time and not has_many_faults(facts)
+    return ("lock", {lock_name(facts.locks[0]): 1}) if is_lock else ("system", at_heaviest(facts))
+
+
+def lock_name(lock):
+    return lock.place or lock.kind
+
+
 def in_code_losses(facts):
     """Of what counts as code: in the kernel, making small tasks, and dearer than on one thread."""
     left, out = facts.code, []
     is_small = mostly_small(facts) and not keeps_waiting(facts)
     making = min(facts.creating * facts.tasks, facts.code // 2) if is_small else 0
-    for kind, time, weights in (("system", system_time(facts), at_heaviest(facts)),
+    kernel, at_kernel = kernel_kind(facts)
+    for kind, time, weights in ((kernel, system_time(facts), at_kernel),
                                 ("small_tasks", making, at_heaviest(facts)),
                                 ("memory", sum(dearer(facts).values()), dearer(facts))):
         part = min(time, left)
@@ -327,8 +348,8 @@ def useful_time(facts, found):
 
 
 def least_of(facts, found, share):
-    """The least loss that is a cause: a share of the useful time, on a busy machine no less than a little of all."""
-    return max(share * useful_time(facts, found), LITTLE * facts.whole_time)
+    """The least loss that is a cause: a share of the useful time, and more on a busy machine."""
+    return share * useful_time(facts, found) + UNSURE * facts.taken
 
 
 def code_on_one(facts, found):

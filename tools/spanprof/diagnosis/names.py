@@ -13,8 +13,12 @@ CALL = re.compile(r"^(?:[\w.\[\]>-]+\s*[-+*/]?=\s*)?([A-Za-z_]\w*)\s*\(")
 DEPEND = re.compile(r"depend\s*\(\s*(\w+)\s*:\s*((?:[^()]|\([^()]*\))*)\)")
 LINE = re.compile(r"[^\s:/]+:\d+$")
 LONGEST_CALLED = 50     # columns of a function and its caller
+ATOMIC = re.compile(r"omp\s+atomic|\bstd::atomic\b|\bfetch_(add|sub|or|and|xor)\b|__atomic_|__sync_", re.I)
+MUCH_CODE = 0.2         # of all code, from which on a place is looked at
 NO_CALLS = ("if", "for", "while", "switch", "return", "sizeof")
+KINDS = ("in", "out", "inout", "inoutset", "mutexinoutset", "depobj")
 WRITES = {"out": "inout"}       # as the recorder writes it
+UNNAMED = "the item they share"
 
 
 def code_at(name):
@@ -39,9 +43,12 @@ def split_items(words):
 
 
 def items_in(directive):
-    """The items of a directive as they are spelt, by the type that the recorder writes; and the type as it is spelt."""
-    found = {}
-    for kind, words in DEPEND.findall(directive):
+    """The items of a directive as they are spelt, by the type that the recorder writes; and the type as it is spelt.
+    None where a clause cannot be read, as one of a macro: another's item would have its name."""
+    found, clauses = {}, DEPEND.findall(directive)
+    if len(clauses) < len(re.findall(r"\bdepend\s*\(", directive)) or any(kind not in KINDS for kind, _ in clauses):
+        return {}
+    for kind, words in clauses:
         found.setdefault(WRITES.get(kind, kind), []).extend((kind, item) for item in split_items(words))
     return found
 
@@ -128,6 +135,15 @@ class Names:
             return begin or end
         return "code %s %s" % ("after" if begin else "before", begin or end) if begin or end else "main"
 
+    def atomic(self):
+        """The line of an atomic operation in code that has much of the cost; empty where the source shows none."""
+        found = [place for place in self.facts.places.values() if place.cost > MUCH_CODE * self.facts.code]
+        for file, first, last in map(self.stretch, sorted(found, key=lambda place: -place.cost)):
+            for number in range(first or last, last + 1):
+                if ATOMIC.search("".join(self.lines_of(file)[number - 1:number])):
+                    return "%s:%d" % (file, number)
+        return ""
+
     def line(self, name):
         """The same of a wait, a lock or a region."""
         line = self.begin(name, name)
@@ -190,9 +206,9 @@ class Names:
         return told if not name.startswith(("taskwait", "taskgroup", "barrier")) else "the " + told
 
     def item(self, place, item):
-        """Of a place's tasks, such as `inout: tab[0]`; by its number where the source is not found. gcc's code has the
-        items of a task in reverse order."""
-        kind, name = item
+        """Of a place's tasks, such as `inout: tab[0]`, where the source tells it. gcc's code has the items of a task in
+        reverse order."""
+        kind = item[0]
         directive = items_in(self.directive(place.name, place.at))
         written, index = directive.get(kind, [])[::-1 if self.facts.is_of_gcc else 1], place.positions.get(item)
-        return "%s: %s" % (written[index] if index is not None and index < len(written) else (kind, name))
+        return "%s: %s" % (written[index] if index is not None and index < len(written) else (kind, UNNAMED))

@@ -4,8 +4,7 @@ from typing import Optional
 
 from spanprof.diagnosis.causes import BY_KIND, WORTH_A_CHANGE
 from spanprof.diagnosis.changes import Change
-from spanprof.diagnosis.losses import (IN_CODE, begun, kind_of_task, least_of, losses, most_shared,
-                                       share_of_start)
+from spanprof.diagnosis.losses import IN_CODE, begun, kind_of_task, least_of, most_shared, share_of_start
 from spanprof.diagnosis.places import SERIAL, TASK
 from spanprof.text import BEGINNING
 
@@ -82,20 +81,14 @@ def likely(facts, seen, change):
     return AT_THE_ENDS if is_at_an_end(facts, change.place) else LIKELY[change.kind]
 
 
-def predicted(now, before, end, kept=0.0):
-    """The run's time after a change, by how much sooner the greedy run of the text ends; `kept` is the share that a
-    busy machine took, which stays."""
-    return int(now - now * (1 - kept) * (1 - end / before)) if before else now
+def predicted(now, before, end):
+    """The run's time after a change, by how much sooner the greedy run of the text ends."""
+    return int(now * end / before) if before else now
 
 
-def machine_share(facts):
-    """Of the threads' time, what other programs took."""
-    return facts.share(sum(loss.time for loss in losses(facts) if loss.kind == "machine"))
-
-
-def least_time(facts, now, code):
+def least_time(facts, code):
     """All of this code on as many threads as run at once."""
-    return int(now * code / max(facts.usable * facts.elapsed, 1))
+    return int(facts.seen * code / max(facts.usable * facts.elapsed, 1))
 
 
 def started(facts, change):
@@ -107,8 +100,8 @@ def started(facts, change):
 
 def step_of(facts, seen, now, before, tried):
     """Of a change that was tried; `before` is where the greedy run ended without it."""
-    after = min(now, max(predicted(now, before, tried.end, machine_share(facts)),
-                         least_time(facts, facts.now, facts.work)))
+    after = min(now, max(predicted(now, before, tried.end),
+                         least_time(facts, facts.code + facts.asleep + facts.recorder)))
     kind, place = cause_of(facts, tried.change)
     if tried.change.kind == "split":
         after += int((now - after) * started(facts, tried.change))
@@ -118,9 +111,9 @@ def step_of(facts, seen, now, before, tried):
 
 def bound_of(facts, now, loss):
     """As if what is lost by this cause were gone; all code is still to run, if it is not in code that it is lost."""
-    after = int(now * (1 - facts.share(loss.time)))
+    after = int(now * (1 - facts.own_share(loss.time)))
     if loss.kind not in IN_CODE:
-        after = min(now, max(after, least_time(facts, facts.now, facts.code)))
+        after = min(now, max(after, least_time(facts, facts.code)))
     return Step(loss.kind, loss.place, now, after, after, int(now - BOUND_LEAST * (now - after)))
 
 

@@ -38,7 +38,7 @@ def step_for(found, loss):
 def cause_json(found, names, loss):
     facts, step = found.facts, step_for(found, loss)
     place = step.place if step and loss.kind == step.kind and not loss.place else loss.place
-    return {"kind": loss.kind, "place": place_json(facts, names, place), "lost_share": round(facts.share(loss.time), 6),
+    return {"kind": loss.kind, "place": place_json(facts, names, place), "lost_share": round(facts.lost_share(loss), 6),
             "lost_ms": milliseconds(loss.time / facts.target), "what": lost_sentence(facts, names, loss),
             "change": change_json(facts, names, step) if step else None,
             "how": "predicted" if step and step.change else "bound"}

@@ -10,7 +10,6 @@ from spanprof.text import SECTION
 
 WIDTH, MOST_LINES = 100, 8
 LABEL = 6
-BUSY = 0.1      # of the threads' time off the processor, from which on the last line says so
 NO_FASTER = 1.1
 LEAST_TOLD = 0.005     # of the threads' time, from which on a part of it is told
 TRIED = {
@@ -19,7 +18,7 @@ TRIED = {
     "drop-wait": "leave out {waits}, if nothing after it needs those tasks",
     "defer": "defer more tasks at {at}: change its if or final",
     "task": "make {where} a task of its own"}
-SPLIT = {"serial": "divide {where} among {usable} tasks", "imbalance": "divide the longest tasks at {where}",
+SPLIT = {"serial": "parallelise {where}: loop or tasks", "imbalance": "divide the longest tasks at {where}",
          "too_few_tasks": "divide each task of {where} into {usable}"}
 
 
@@ -57,7 +56,7 @@ def words_of_run(facts):
     used = (usage.get("user_ns") or 0) + (usage.get("system_ns") or 0)
     return {"threads": facts.threads, "processors": facts.processors, "target": facts.target, "usable": facts.usable,
             "all_tasks": grouped(facts.tasks), "average_task": lasting(average_task(facts)),
-            "code": "%.0f" % (100 * facts.share(facts.code)), **words_of_kernel(facts, usage),
+            "code": "%.0f" % (100 * facts.own_share(facts.code)), **words_of_kernel(facts, usage),
             "system": "%.0f" % (100 * (usage.get("system_ns") or 0) / used if used else 0)}
 
 
@@ -66,7 +65,7 @@ def words_of_alone(facts, names, place):
     serial = [one for one in facts.places.values() if one.kind == SERIAL]
     part, whole, ran = place.cost, sum(one.cost for one in serial), names.ran(place)
     if place.kind != SERIAL or part == whole and not ran:
-        return "the other threads wait"
+        return "the others wait"
     if ran:
         sampled = together(facts.calls.ran, [one.name for one in serial])
         part = whole * sum(time for calls, time in sampled.items() if ran.function in calls) / sum(sampled.values())
@@ -84,8 +83,8 @@ def words_of_sleep(facts, name):
 def who_asked(facts, region):
     """For fewer threads than the run could have had, as far as it is known."""
     if not region.asked or region.asked >= facts.target:
-        return "OMP_DYNAMIC, OMP_THREAD_LIMIT" if region.asked else "num_threads, OMP_NUM_THREADS"
-    return "the program itself asks for %d" % region.asked
+        return ": OMP_DYNAMIC, OMP_THREAD_LIMIT" if region.asked else ": num_threads, OMP_NUM_THREADS"
+    return ": the program asks for %d" % region.asked
 
 
 def words_of_region(facts, names, name):
@@ -101,17 +100,31 @@ def words_of_region(facts, names, name):
     return out
 
 
+def words_of_suspect(facts, names):
+    """What may make code slow on several threads, where nothing was measured of it."""
+    if facts.cost_on_one is not None:
+        return "; only less work helps"
+    at = names.atomic()
+    return ", with an atomic at " + at if at else ", as far as one run shows"
+
+
 def words(facts, names, name):
     """What a sentence may have, of a place, a wait, a lock or a region."""
     place = facts.places.get(name)
     out = dict(words_of_run(facts), where=names.place(name), at=names.at(name), item="",
                in_what=words_of_sleep(facts, name), tasks="", many="", largest="", average="", dearer="", times="",
-               alone="the other threads wait", shared=words_of_schedule(names, name, place),
+               alone="the others wait", suspect=words_of_suspect(facts, names),
+               shared=words_of_schedule(names, name, place),
                **words_of_region(facts, names, name))
     if place:
         out.update(words_of_place(facts, names, place), alone=words_of_alone(facts, names, place))
-    out.update({"times": grouped(lock.times) for lock in facts.locks if name in (lock.place, lock.kind)})
+    out.update({"times": times_of(lock) for lock in facts.locks if name in (lock.place, lock.kind)})
     return out
+
+
+def times_of(lock):
+    """Of a lock of the system only the waits are recorded."""
+    return "%s%s times" % ("" if lock.kind in ("mutex", "rwlock") else "entered ", grouped(lock.times))
 
 
 def lost_sentence(facts, names, loss):
@@ -150,8 +163,9 @@ def shortened(text, width):
 
 
 def gain_words(step):
-    bound = "" if step.change else "at best "
-    return "%s -> %s%s" % (lasting(step.before), bound, lasting(step.after))
+    """Without a lock the code is cheaper too."""
+    bound = "%s" if step.change else "%s or less" if step.kind == "lock" else "at best %s"
+    return "%s -> %s" % (lasting(step.before), bound % lasting(step.after))
 
 
 def change_line(label, facts, names, step):
@@ -165,7 +179,7 @@ def speed_words(facts):
     one = facts.on_one
     if not one:
         return ""
-    times = one / max(facts.now, 1)
+    times = one / max(facts.seen, 1)
     told = "no faster" if 1 / NO_FASTER < times < NO_FASTER else "%.1f times as fast" % times if times > 1 else \
         "%.1f times slower" % (1 / times)
     return ", %s on one: %s" % (lasting(one), told)
@@ -173,15 +187,16 @@ def speed_words(facts):
 
 def first_line(found):
     facts = found.facts
-    return "%s: %s on %s%s%s. At best %s." % (
+    alone = ", %s undisturbed" % lasting(facts.now) if facts.now < facts.seen else ""
+    return "%s: %s on %s%s%s%s. At best %s." % (
         facts.program or "program", lasting(found.now), several(facts.threads, "thread"),
-        " of " + facts.runtime if facts.runtime else "", speed_words(facts), lasting(found.best))
+        " of " + facts.runtime if facts.runtime else "", alone, speed_words(facts), lasting(found.best))
 
 
 def lost_lines(found, names):
     facts = found.facts
     for i, loss in enumerate(found.causes):
-        share = facts.share(loss.time)
+        share = facts.lost_share(loss)
         line = "%-*s%2.0f %%  %s" % (LABEL, "lost" * (i == 0), 100 * share, lost_sentence(facts, names, loss))
         yield shortened(line, WIDTH)
 
@@ -209,19 +224,20 @@ def unsure(found, names):
     if facts.target == 1:
         return "what more threads would bring: record on more"
     if facts.cost_on_one is None and facts.true_one is None and facts.threads > 1:
-        return "whether code costs more on %d threads: --full" % facts.threads
+        at = names.atomic()
+        what = "the atomic at %s slows" % at if at else "atomics or shared memory slow"
+        return "whether %s it: --full" % what
     return ""
 
 
 def sure_words(found):
     """How much of the program was seen, and how it went."""
     facts = found.facts
-    off = sum(facts.share(loss.time) for loss in found.losses if loss.kind == "machine")
     parts = [several(facts.runs, "run"),
              "recorder %.1f %%" % (100 * facts.share(facts.recorder)) if facts.recorder else "",
              "%.1f %% of the program seen" % (100 * facts.coverage) if facts.coverage is not None else "",
              "gains predicted" if any(step.change for step in found.plan) else "",
-             "machine busy: %.0f %%" % (100 * off) if off >= BUSY else ""]
+             "machine busy: %.0f %%" % (100 * facts.share(facts.taken)) if facts.taken else ""]
     return list(filter(None, parts))
 
 

@@ -20,7 +20,7 @@ def headline(found):
 
 def lost_words(told):
     found = told.found
-    return [tag("p", tag("b", "%.0f %%" % (100 * found.facts.share(loss.time))), " lost: ",
+    return [tag("p", tag("b", "%.0f %%" % (100 * found.facts.lost_share(loss))), " lost: ",
                 lost_sentence(found.facts, told.names, loss), ".", class_="lost") for loss in found.causes]
 
 

@@ -90,10 +90,18 @@ class Diagnoses(unittest.TestCase):
         found = facts([place(TASKS)], preempted=110 * MS, at_locks=130 * MS)
         self.assertEqual(diagnose(found).causes[0].kind, "lock")
 
-    def test_a_busy_machine_is_the_cause_of_most_that_is_lost_and_no_change_is_promised(self):
-        found = facts([place(TASKS)], preempted=150 * MS, starved=120 * MS, starved_by={TASKS: 120 * MS})
+    def test_on_a_busy_machine_what_the_program_lost_itself_is_told_of_the_rest(self):
+        found = facts([place(TASKS)], preempted=200 * MS, starved=120 * MS, starved_by={TASKS: 120 * MS})
         told = diagnose(found, Bench({(): 90, asked("split", TASKS + "=4"): 45}))
-        self.assertEqual(([loss.kind for loss in told.causes], told.plan), (["machine"], []))
+        self.assertEqual([loss.kind for loss in told.causes], ["too_few_tasks"])
+        self.assertEqual((found.now, told.best), (50 * MS, 20 * MS))
+        self.assertEqual((found.lost_share(told.causes[0]), told.plan[0].before), (0.6, 50 * MS))
+
+    def test_a_busy_machine_is_the_cause_where_the_program_lost_little_itself(self):
+        found = facts([place(TASKS)], preempted=200 * MS, starved=25 * MS, starved_by={TASKS: 25 * MS})
+        told = diagnose(found, Bench({(): 90, asked("split", TASKS + "=4"): 80}))
+        self.assertEqual((told.causes, found.lost_share(told.causes[0]), told.plan), (
+            [Loss("machine", "", 200 * MS)], 0.5, []))
 
     def test_at_best_all_threads_run_its_code_all_the_time(self):
         self.assertEqual(diagnose(facts([place(TASKS)], starved=200 * MS)).best, 50 * MS)
@@ -107,7 +115,6 @@ class Steps(unittest.TestCase):
     def test_a_time_follows_the_greedy_end(self):
         self.assertEqual(predicted(120, 100, 50), 60)
         self.assertEqual(predicted(120, 0, 0), 120)
-        self.assertEqual(predicted(120, 100, 50, kept=0.5), 90)     # what the machine took stays
 
     def test_a_bound_is_that_of_losing_nothing(self):
         step = bound_of(facts(code=200 * MS), 100 * MS, Loss("lock", "", 100 * MS))

@@ -36,8 +36,12 @@ class Directives(unittest.TestCase):
         self.assertEqual(directive_line(BATCHES, 3, "task"), 3)
         self.assertEqual(directive_line(BATCHES, 4, "taskwait"), 6)
 
+    def test_a_line_after_the_directive(self):
+        self.assertEqual(directive_line(BATCHES, 7, "task"), 3)
+
     def test_a_directive_of_another_function_is_none(self):
-        self.assertEqual(directive_line(BATCHES, 7, "task"), 7)
+        self.assertEqual(directive_line(BATCHES[9:], 4, "taskgroup"), 4)
+        self.assertEqual(directive_line(BATCHES[:12], 12, "task"), 12)
 
     def test_a_directive_that_may_not_be_compiled_is_none(self):
         lines = ["  f();", "#ifdef FAST", "#pragma omp task", "#else", "#pragma omp task if(0)", "#endif",

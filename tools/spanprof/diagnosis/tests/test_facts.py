@@ -6,8 +6,9 @@ from types import SimpleNamespace
 
 from spanprof.account import Account, Row
 from spanprof.diagnosis import facts as module
-from spanprof.diagnosis.facts import (Facts, costs_of, elapsed_in, function_in, of_those_at_once, off_by_segment,
-                                      regions_of, runtime_name, set_meta, set_off, starting_shares)
+from spanprof.diagnosis.facts import (Facts, costs_of, elapsed_in, function_in, kept_waiting, of_those_at_once,
+                                      off_by_segment, regions_of, runtime_name, set_meta, set_off, set_starved,
+                                      starting_shares)
 from spanprof.diagnosis.lock_times import Held, locks_of
 from spanprof.diagnosis.places import AFTER_REGION, OWN
 from spanprof.diagnosis.tests.worked import MS, TEXT, facts, program
@@ -83,6 +84,7 @@ class Recorded(unittest.TestCase):
     def test_the_time_now_is_that_of_unrecorded_runs(self):
         self.assertEqual(facts(true_many=[3, 1, 2]).now, 2)
         self.assertEqual(facts().now, 100 * MS)
+        self.assertEqual((facts(taken=40 * MS).seen, facts(taken=40 * MS).now), (100 * MS, 90 * MS))
 
     def test_files_beside_a_text(self):
         with tempfile.TemporaryDirectory() as folder:
@@ -125,6 +127,15 @@ class Starting(unittest.TestCase):
         places = [OWN + " at a.c:3", OWN + " at a.c:3", AFTER_REGION + " at a.c:3", "task at a.c:5"]
         found = starting_shares(SimpleNamespace(rows=rows, places=places))
         self.assertEqual(found, {places[0]: 52000 / 152000, places[2]: 1.0})
+
+    def test_who_starves_while_code_is_preempted_more_than_on_average_waits_for_that(self):
+        run = facts(preempted=0, preempted_in={1: 60})
+        rows = [Row(0, 0, 0, 40), Row(1, 0, 0, 100), Row(2, 0, 0, 40), Row(3, 0, 0, 40)]
+        set_starved(run, Account(4, 100, 220, 0, 180, 0, rows=rows, places=["a", "b", "a", "a"]))
+        self.assertEqual((run.starved_by, run.starved_off), ({"b": 180}, {"b": 180}))
+        run = facts(preempted=100 * MS)      # a quarter of the time of all code
+        self.assertEqual(kept_waiting(run, rows[1], 60, 180), 105 + 75 // 4)
+        self.assertEqual(kept_waiting(run, rows[1], 25, 180), 45)
 
     def test_threads_that_only_took_turns_are_not_idle(self):
         rows = [Row(0, 0, 0, 10), Row(5, 10, 10, 30), Row(0, 30, 30, 40)]

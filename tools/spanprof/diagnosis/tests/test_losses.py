@@ -2,6 +2,7 @@ import random
 import unittest
 
 from spanprof.diagnosis.facts import Region
+from spanprof.diagnosis.lock_times import Held
 from spanprof.diagnosis.losses import Loss, by_place, code_on_one, divided, losses, system_time
 from spanprof.diagnosis.places import OF_THREADS, SERIAL, SHARE, TASK
 from spanprof.diagnosis.tests.worked import MS, facts, place
@@ -37,7 +38,8 @@ class Losses(unittest.TestCase):
         for name, kind in (("task at a.c:1", TASK), ("the beginning", SERIAL), ("turns of the loop at a.c:3", SHARE)):
             one = place(name, kind, cost=20 * MS)       # on the processor, of the 80 ms that it lasted
             found = facts([one], preempted=60 * MS, preempted_by={name: 60 * MS}, starved=40 * MS,
-                          starved_by={name: 40 * MS}, delayed=80 * MS, delayed_by={name: 80 * MS})
+                          starved_by={name: 40 * MS}, starved_off={name: 30 * MS}, delayed=80 * MS,
+                          delayed_by={name: 80 * MS})
             machine = sum(loss.time for loss in losses(found) if loss.kind == "machine")
             self.assertGreaterEqual(machine, (60 + 30 + 60) * MS)
             self.assertEqual(sum(loss.time for loss in losses(found)) + code_on_one(found, losses(found)),
@@ -63,6 +65,12 @@ class Losses(unittest.TestCase):
         self.assertEqual(system(user_ns=60 * MS, system_ns=350 * MS), 240 * MS)     # of 300 ms of code
         self.assertEqual(system(user_ns=310 * MS, system_ns=120 * MS), 0)
         self.assertEqual(system(user_ns=290 * MS, system_ns=110 * MS, minor_faults=10000), 40 * MS)
+
+    def test_system_calls_of_a_run_that_waits_for_a_lock_are_of_the_lock(self):
+        locks, usage = [Held("a.c:9", "mutex", 9, 1, 2)], {"user_ns": 60 * MS, "system_ns": 240 * MS}
+        for waited, kind in ((100, "lock"), (10, "system")):
+            found = losses(facts([place("task at a.c:1")], at_locks=waited * MS, locks=locks, usage=usage))
+            self.assertEqual(found[0].kind, kind)
 
     def test_code_of_several_threads_is_shared_out_unevenly(self):
         parts = place("code of one of the region's threads", OF_THREADS, cost=40 * MS, pieces=4, tasks=4)

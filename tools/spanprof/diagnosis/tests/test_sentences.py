@@ -13,7 +13,7 @@ from spanprof.diagnosis.places import OF_THREADS, OWN, SERIAL, SHARE
 from spanprof.diagnosis.plan import Step
 from spanprof.diagnosis.schema import as_json
 from spanprof.diagnosis.sentences import (WIDTH, change_sentence, lost_sentence, short_lines, shortened, speed_words,
-                                          sum_lines, waits, who_asked)
+                                          sum_lines, times_of, waits, who_asked)
 from spanprof.diagnosis.tests.worked import MS, facts, place
 
 SOURCE = """static void tone(float *d, int n) {
@@ -85,9 +85,11 @@ class Named(unittest.TestCase):
         one = self.facts.places[TASKS]
         self.assertEqual(self.names.item(one, ("inout", "a0")), "inout: tab[f(0, 1)]")
         self.assertEqual(self.names.item(one, ("inout", "a2")), "out: d[0]")
-        self.assertEqual(Names(self.facts, None).item(one, ("inout", "a2")), "inout: a2")
+        self.assertEqual(Names(self.facts, None).item(one, ("inout", "a2")), "inout: the item they share")
 
     def test_items_of_a_directive(self):
+        self.assertEqual(items_in("depend(USES: a) depend(inout: b)"), {})
+        self.assertEqual(items_in("depend(iterator(i=0:9), in: a[i]) depend(inout: b)"), {})
         self.assertEqual(items_in("depend(in: a[i, j], b) depend (out:c)"),
                          {"in": [("in", "a[i, j]"), ("in", "b")], "inout": [("out", "c")]})
 
@@ -101,9 +103,9 @@ class Sentences(unittest.TestCase):
         lines = short_lines(diagnose(run), Names(run, SOURCES), "spanprof-record --all")
         self.assertEqual(lines, [
             "image: 100 ms on 4 threads. At best 50.0 ms.",
-            "lost  25 %  8 tasks of image.c:9 (tone) run one after another: all have depend(inout: tab[f(0, 1)])",
+            "lost  25 %  8 tasks of image.c:9 (tone) are serial: all have depend(inout: tab[f(0, 1)])",
             "sure  1 run, 99.9 % of the program seen",
-            "      not known: whether code costs more on 4 threads: --full",
+            "      not known: whether atomics or shared memory slow it: --full",
             "more  spanprof-record --all"])
 
     def test_page_faults_are_told_where_they_are_most_of_it(self):
@@ -119,15 +121,29 @@ class Sentences(unittest.TestCase):
         self.assertIsNone(as_json(told, Names(run, SOURCES))["diagnosis"][0]["change"])
 
     def test_of_a_busy_machine_only_to_record_again(self):
-        run = found(preempted=200 * MS, starved=80 * MS, starved_by={TASKS: 80 * MS})
+        run = found(preempted=200 * MS)
         lines = short_lines(diagnose(run), Names(run, SOURCES))
-        self.assertEqual([line[:5] for line in lines[:3]], ["image", "lost ", "sure "])
-        self.assertIn("record it again on a machine with less to do", lines[1])
+        self.assertEqual(lines[:3], [
+            "image: 100 ms on 4 threads, 50.0 ms undisturbed. At best 50.0 ms.",
+            "lost  50 %  other programs had the processors: record it again on a machine with less to do",
+            "sure  1 run, machine busy: 50 %"])
 
     def test_what_went_wrong_has_a_line(self):
         run = found()
         lines = short_lines(diagnose(run), Names(run, SOURCES), news=["the log is cut", "and so on"])
         self.assertIn("note  the log is cut (and 1 more: --all)", lines)
+
+    def test_what_one_run_does_not_show_is_suspected_of_an_atomic_in_the_source(self):
+        run = found()
+        run.places[TASKS].cost = 200 * MS
+        lines = ["    sum.fetch_add(tone(d, n));" if number == 11 else line for number, line in enumerate(SOURCE, 1)]
+        told = short_lines(diagnose(run), Names(run, SimpleNamespace(lines_of=lambda name: lines)))
+        self.assertIn("little: threads ran code 100 % of the time, with an atomic at image.c:11", told[1])
+        self.assertIn("whether the atomic at image.c:11 slows it: --full", told[3])
+
+    def test_of_a_lock_of_the_system_only_the_waits_are_counted(self):
+        self.assertEqual([times_of(Held("a.c:1", kind, 9000, 1, 2)) for kind in ("critical", "mutex")],
+                         ["entered 9,000 times", "9,000 times"])
 
     def test_no_cause_of_one_thread(self):
         run = found(threads=1, asked=1)
@@ -160,7 +176,7 @@ class Sentences(unittest.TestCase):
                 ("defer", TASKS, "undeferred", "defer more tasks at image.c:9: change its if or final"),
                 ("task", "after taskwait at image.c:12", "too_few_tasks",
                  "make main (image.c:13-14) a task of its own"),
-                ("split", "the beginning=4", "serial", "divide main (image.c:4-6) among 4 tasks"),
+                ("split", "the beginning=4", "serial", "parallelise main (image.c:4-6): loop or tasks"),
                 ("split", TASKS + "=4", "imbalance", "divide the longest tasks at image.c:9 (tone)")):
             change = single(option, word)
             step = Step(kind, TASKS if option == "in-for-inout" else change.place, 2, 1, 1, 1, 1.0, change)
@@ -178,8 +194,8 @@ class Sentences(unittest.TestCase):
                Region("image.c:40", 4, 9 * MS, 4)]
         run = facts([tone()], regions=few, asked=4)
         self.assertEqual([who_asked(run, region) for region in few[:2]],
-                         ["the program itself asks for 1", "OMP_DYNAMIC, OMP_THREAD_LIMIT"])
-        self.assertEqual(who_asked(run, Region("image.c:20", 2, MS)), "num_threads, OMP_NUM_THREADS")
+                         [": the program asks for 1", ": OMP_DYNAMIC, OMP_THREAD_LIMIT"])
+        self.assertEqual(who_asked(run, Region("image.c:20", 2, MS)), ": num_threads, OMP_NUM_THREADS")
         self.assertEqual(lost_sentence(run, Names(run, None), Loss("too_few_threads", "image.c:20", MS)),
                          "1 thread in the region at image.c:20 and in 1 other: 4 can run")
 
@@ -249,12 +265,13 @@ class BySamples(unittest.TestCase):
     def test_serial_code_is_named_by_its_function(self):
         ran = {"the beginning": {("main", "convert", "plasma"): 95000, ("main", "read"): 5000}}
         self.assertEqual(self.told(Loss("serial", "the beginning", 9), ran=ran).partition(": ")[0],
-                         "plasma (called by convert) runs alone")
+                         "plasma (called by convert) runs on one thread")
         self.assertRegex(self.told(Loss("serial", "the beginning", 9), ran=ran), ": 95 % of .* of serial code$")
-        self.assertRegex(self.told(Loss("serial", "the beginning", 9)), "runs alone: 56 % of 90.0 ms of serial code$")
+        self.assertRegex(self.told(Loss("serial", "the beginning", 9)),
+                         "runs on one thread: 56 % of 90.0 ms of serial code$")
         own = facts([place(OWN + " at image.c:6", OF_THREADS)])
         self.assertRegex(lost_sentence(own, Names(own, SOURCES), Loss("serial", OWN + " at image.c:6", 9)),
-                         "runs alone: the other threads wait$")
+                         "runs on one thread: the others wait$")
 
     def test_sleep_has_the_function_that_sleeps(self):
         slept = {"the beginning": {("main", "load", "read"): 9000}}

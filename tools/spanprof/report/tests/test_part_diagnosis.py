@@ -34,8 +34,8 @@ class Screens(unittest.TestCase):
                       "Where the time of the 4 threads went",
                       "Firstdepend(in: tab[f(0, 1)]) at image.c:9, if the tasks only read it 100 ms → 60.0 ms (−40 %)",
                       "- #pragma omp task depend(in: b[0]) depend(inout: tab[f(0, 1)])",
-                      "Then, on top of itdivide main (image.c:4-6) among 4 tasks 60.0 ms → 40.0 ms (−33 %)",
-                      "Not known: whether code costs more on 4 threads: --full."):
+                      "Then, on top of itparallelise main (image.c:4-6): loop or tasks 60.0 ms → 40.0 ms (−33 %)",
+                      "Not known: whether atomics or shared memory slow it: --full."):
             self.assertIn(words, shown)
 
     def test_the_bar_is_the_whole(self):
