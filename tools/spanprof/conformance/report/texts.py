@@ -64,4 +64,3 @@ def markdown(report, stem):
     if report.took:
         lines.append(report.took.told())
     return "\n".join(lines)
-
