@@ -1,6 +1,7 @@
 // Code that gcc has optimised tells a construct at the line of a statement before it: so the text says that places may
 // be wrong.
 // compiler: gcc
+// runtime: llvm
 // text: # remark: construct in code that gcc has optimised, whose line may be that of a statement before it, 2 times?.*: work and span are right, places may not be: compile with -g -Og
 #include "spend.h"
 

@@ -1,5 +1,6 @@
 // With -O2 gcc gives all constructs of a region the line of `parallel`: the places are wrong, and the text says so.
 // compiler: gcc
+// runtime: llvm
 // text: # remark: construct at the line of another, since the compiler kept none of its own, \d+ times?.*: work and span are right, places are not: compile with -g -Og
 // text: depend
 #include "spend.h"

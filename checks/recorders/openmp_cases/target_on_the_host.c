@@ -4,7 +4,7 @@
 // text: task if\(0\) depend\(inout: a1\) {  # target_on_the_host.c:27
 // text: task depend\(inout: a1\) {  # target_on_the_host.c:28
 // text: task if\(0\) depend\(inout: a1\) {  # target_on_the_host.c:29
-// text: task if\(0\) {  # target_on_the_host.c:32
+// text: task if\(0\) {  # target_on_the_host.c:3[23]
 // text: taskwait  # target_on_the_host.c:35
 #include <stdio.h>
 #include <stdlib.h>

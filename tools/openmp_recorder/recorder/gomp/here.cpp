@@ -37,9 +37,9 @@ bool begin_runtime() {
   // Clocks first, then both ranges of code, then the log: a record needs all of them.
   find_runtime(own_function("GOMP_parallel"));
   find_recorder();
-  find_lines();
   begin_recording(make_a_record, 0);
-  if (this_log().call_paths) tell_creation = on_create_by_path;
+  if (this_log().call_paths) tell_creation = on_create_by_path;  // by the calls, which lead to the call
+  else find_lines();
   return true;
 }
 
