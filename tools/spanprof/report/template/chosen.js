@@ -28,7 +28,7 @@ function choose(lanes, segment) {
   lanes.stretch.reveal(bar.start, bar.end);
   lanes.draw();
   const box = lanes.element.getBoundingClientRect(), { row } = lanes.run.where.get(segment);
-  showTip(lanes.words([bar]), box.left + Math.max(lanes.x(bar.start), LEFT), box.top + lanes.top(row + 1));
+  showTip(lanes.words([bar]), box.left + Math.max(lanes.x(bar.start), LEFT), box.top + lanes.top(row + 1), lanes);
 }
 
 function leave(lanes) {

@@ -102,7 +102,9 @@ function listenToPointer(lanes) {
     if (hold.pointers.size) hold.move(event);
     else lanes.tellAt(...at(lanes, event), event);
   });
-  element.addEventListener("pointerleave", (event) => { if (event.pointerType === "mouse") showTip(""); });
+  element.addEventListener("pointerleave", (event) => {
+    if (event.pointerType === "mouse" && tipOf === lanes) showTip("");
+  });
 }
 
 function listenToControls(lanes) {

@@ -1,7 +1,9 @@
 // One timeline: a row for each thread, and an axis.
 
 const tip = document.querySelector(".tip");
-function showTip(words, x, y) {
+let tipOf = null;    // the timeline that the words are of
+function showTip(words, x, y, lanes = null) {
+  tipOf = lanes;
   tip.classList.toggle("shown", Boolean(words));
   if (!words) return;
   tip.textContent = words;
@@ -98,6 +100,6 @@ class Lanes {
   tellStretch({ from, to }) { return wordsOfStretch(this, from, to); }
   tellAt(x, y, event) {
     const bars = this.barsAt(x, y);
-    showTip(bars.length ? this.words(bars) : "", event.clientX, event.clientY);
+    showTip(bars.length ? this.words(bars) : "", event.clientX, event.clientY, this);
   }
 }
