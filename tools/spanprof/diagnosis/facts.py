@@ -1,4 +1,5 @@
 """What is known of one recorded run, as plain data: everything else of a diagnosis is made of it."""
+import heapq
 import re
 import statistics
 from array import array
@@ -20,6 +21,7 @@ from spanprof.text_file import TextFile
 from spanprof.whatif.numbers import numbers_of
 
 RUNTIMES = {"llvm": "LLVM", "gnu": "gcc"}
+MOST_APART = 64         # preempted segments; idle time is shared among all at once, so many take long
 EXCLUDING = "mutexinoutset"     # the remark of a text that has inoutset in its place
 OF_GCC = "lines of gcc"         # that of a text whose tasks or waits are of gcc's code
 
@@ -164,11 +166,18 @@ def kept_waiting(facts, row, preempted, time):
 
 
 def set_starved(facts, found):
-    """Of segments that were preempted it is known how long others starved while each lasted."""
-    names = [(name, segment) if facts.preempted_in.get(segment) else name for segment, name in enumerate(found.places)]
+    """Of the segments that were preempted most it is known how long others starved while each lasted; of the rest as
+    much of that time is due to it as of the code at their place."""
+    apart, rest = set(heapq.nlargest(MOST_APART, facts.preempted_in, facts.preempted_in.get)), Counter()
+    for segment in facts.preempted_in.keys() - apart:
+        rest[found.places[segment]] += facts.preempted_in[segment]
+    names = [(name, segment) if segment in apart else name for segment, name in enumerate(found.places)]
     for key, time in replace(found, places=names).starved_by.items():
         name, segment = key if isinstance(key, tuple) else (key, None)
-        off = kept_waiting(facts, found.rows[segment], facts.preempted_in[segment], time) if segment is not None else 0
+        if segment is None:
+            off = int(time * rest[name] / max(facts.places[name].cost + rest[name], 1)) if name in rest else 0
+        else:
+            off = kept_waiting(facts, found.rows[segment], facts.preempted_in[segment], time)
         facts.starved_by[name] = facts.starved_by.get(name, 0) + time
         facts.starved_off[name] = facts.starved_off.get(name, 0) + off
 
