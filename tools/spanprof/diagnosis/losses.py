@@ -199,11 +199,13 @@ def collected(kinds, by, kind_of, facts, off_share, for_sleep=False):
 def idle_losses(facts):
     """Of threads that ran no code, with those that the run could have had and did not."""
     kinds, missing = {}, missing_threads(facts)
-    short = min(sum(missing.values()), facts.starved + (facts.target - facts.threads) * facts.elapsed)
-    starved = facts.starved + (facts.target - facts.threads) * facts.elapsed - short
+    starved = facts.starved + (facts.target - facts.threads) * facts.elapsed
+    short = min(sum(missing.values()), starved + facts.delayed)     # a small team leaves work ready, as pieces of loops
+    short_delayed = short * facts.delayed // max(starved + facts.delayed, 1)
+    starved -= short - short_delayed
     collected(kinds, divided(starved, facts.starved_by or {"": 1}), kind_of_starved, facts, starved_off_share,
               for_sleep=True)
-    delayed = divided(facts.delayed, facts.delayed_by or {"": 1})
+    delayed = divided(facts.delayed - short_delayed, facts.delayed_by or {"": 1})
     starting = {name: int(time * starting_share(facts, name)) for name, time in delayed.items()}
     collected(kinds, starting, lambda *_: "small_regions", facts, delayed_off_share)
     collected(kinds, {name: time - starting[name] for name, time in delayed.items()}, kind_of_delayed, facts,

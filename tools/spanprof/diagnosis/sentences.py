@@ -15,7 +15,7 @@ LEAST_TOLD = 0.005     # of the threads' time, from which on a part of it is tol
 TRIED = {
     "in-for-inout": "depend(in: {item}) at {at}, if the tasks only read it",
     "drop-depend": "no depend items at {at}, if the tasks may run in any order",
-    "drop-wait": "leave out {waits}, if nothing after it needs those tasks",
+    "drop-wait": "leave out {waits}, if no result is needed yet",
     "defer": "defer more tasks at {at}: change its if or final",
     "task": "make {where} a task of its own"}
 SPLIT = {"serial": "parallelise {where}: loop or tasks", "imbalance": "divide the longest tasks at {where}",
@@ -111,14 +111,18 @@ def words_of_suspect(facts, names):
 def words(facts, names, name):
     """What a sentence may have, of a place, a wait, a lock or a region."""
     place = facts.places.get(name)
-    out = dict(words_of_run(facts), where=names.place(name), at=names.at(name), item="",
+    out = dict(words_of_run(facts), where=names.place(name), at=names.at(name), item="", less_inside="",
                in_what=words_of_sleep(facts, name), tasks="", many="", largest="", average="", dearer="", times="",
                alone="the others wait", suspect=words_of_suspect(facts, names),
                shared=words_of_schedule(names, name, place),
                **words_of_region(facts, names, name))
     if place:
         out.update(words_of_place(facts, names, place), alone=words_of_alone(facts, names, place))
-    out.update({"times": times_of(lock) for lock in facts.locks if name in (lock.place, lock.kind)})
+    for lock in facts.locks:
+        if name in (lock.place, lock.kind):
+            is_ordered = lock.kind == "ordered"
+            out.update(times=times_of(lock),
+                       less_inside="compute before it" if is_ordered else "a copy for each thread")
     return out
 
 

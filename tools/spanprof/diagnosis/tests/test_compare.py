@@ -44,7 +44,7 @@ class Compared(unittest.TestCase):
         run = facts([place("task at a.c:9")], at_locks=200 * MS)
         before = Told(diagnose(run), Names(run, None))
         found = lines(compared(before, told(9, 0, elapsed=60 * MS)))
-        self.assertIn("predicted  50.0 ms for: %s" % BY_KIND["lock"].change.format(where=""), found)
+        self.assertIn("predicted  50.0 ms for: %s" % BY_KIND["lock"].change.format(where="", less_inside=""), found)
 
     def test_a_place_that_only_one_has(self):
         run = facts([place("task at a.c:9"), place("task at b.c:3")])

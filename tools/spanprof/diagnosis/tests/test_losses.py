@@ -29,6 +29,14 @@ class Losses(unittest.TestCase):
             self.assertTrue(all(loss.time > 0 for loss in losses(found)))
             self.assertGreaterEqual(code_on_one(found, losses(found)), 0)
 
+    def test_a_small_team_loses_the_others_though_its_loop_has_more_to_run(self):
+        turns = "turns of the loop at a.c:3"
+        found = losses(facts([place(turns, SHARE)], regions=[Region("a.c:2", 2, 90 * MS)], delayed=150 * MS,
+                             delayed_by={turns: 150 * MS}, starved=50 * MS, starved_by={turns: 50 * MS}))
+        lost = {kind: sum(loss.time for loss in found if loss.kind == kind) for kind in ("too_few_threads",
+                                                                                         "loop_schedule")}
+        self.assertEqual(lost, {"too_few_threads": 180 * MS, "loop_schedule": 20 * MS})
+
     def test_a_part_of_the_beginning_starts_the_program(self):
         begins = place("the beginning", SERIAL, cost=20 * MS, pieces=1, tasks=0)
         found = losses(facts([begins], starved=60 * MS, starved_by={begins.name: 60 * MS}))

@@ -172,7 +172,7 @@ class Sentences(unittest.TestCase):
                 ("drop-depend", TASKS, "dependence",
                  "no depend items at image.c:9, if the tasks may run in any order"),
                 ("drop-wait", "taskwait at image.c:12", "wait",
-                 "leave out the taskwait at image.c:12, if nothing after it needs those tasks"),
+                 "leave out the taskwait at image.c:12, if no result is needed yet"),
                 ("defer", TASKS, "undeferred", "defer more tasks at image.c:9: change its if or final"),
                 ("task", "after taskwait at image.c:12", "too_few_tasks",
                  "make main (image.c:13-14) a task of its own"),
