@@ -10,6 +10,7 @@ SHARES = (0.8, 0.5, 0.3)    # of the samples that a function has to have, tried 
 OF_SYSTEM = "@"     # behind a function of the system's libraries
 NO_NAME = "["       # before the name of a file, which stands for a function that has no symbol
 OUTERMOST = ("main", "_start")
+OF_MPI = re.compile("P?MPI_(?!Init)")
 OF_COMPILERS = re.compile(r"(\.omp_outlined|\._omp_fn|\.part\.|\.constprop\.|\.isra\.|\.cold|\.lto_priv| \[clone ).*$")
 ARGUMENTS = re.compile(r"(?<!operator)(?<!^)\(.*$")
 OFFSET = re.compile(r"\+0x[0-9a-f]+$")
@@ -39,6 +40,11 @@ def plain(function):
     before, operator, rest = function.partition("operator ")
     name = before.rpartition(" ")[2] + operator + rest.strip()
     return "::".join(name.split("::")[-2:]) or function
+
+
+def is_of_ranks(calls):
+    """Whether they end with a call of MPI but for its beginning: it waits for other ranks, mostly without sleeping."""
+    return OF_MPI.match(calls[-1]) is not None
 
 
 def calls_of(path, names):

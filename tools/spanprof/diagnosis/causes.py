@@ -43,7 +43,7 @@ TABLE = (
     Cause("memory", 0.1, "{where} costs {dearer} times as much on {threads} threads as on one: memory is contended",
           "a copy for each thread of what {at} writes, joined once: reduction"),
     Cause("system", 0.1, "{system} % of the processor time is the kernel's: {kernel}", "{less_kernel}"),
-    Cause("sleep", 0.1, "{where} sleeps {in_what}",
+    Cause("sleep", 0.1, "{where} waits {in_what}",
           "begin what {at} waits for sooner, or use more threads"),
     Cause("too_few_threads", 0.1, "{got} in the region at {where}{others}: {target} can run",
           "ask for {target} threads at {where}{who_asked}"),

@@ -9,7 +9,7 @@ from typing import Dict, List, Optional
 
 from spanprof.account import account_of
 from spanprof.account_program import NoAccount
-from spanprof.diagnosis.calls import Sampled, calls_of, plain
+from spanprof.diagnosis.calls import Sampled, calls_of, is_of_ranks, plain
 from spanprof.diagnosis.lock_times import locks_of
 from spanprof.diagnosis.places import A_START, AROUND_REGIONS, in_text, read_places
 from spanprof.head import head_of
@@ -216,6 +216,15 @@ def set_off(facts, off, program):
         facts.preempted_in[segment] = preempted
 
 
+def set_ranks(facts):
+    """Calls that wait for other ranks count as sleep, for as long as they were sampled."""
+    for name, ran in facts.calls.ran.items():
+        waits = {calls: ran.pop(calls) for calls in list(ran) if is_of_ranks(calls)}
+        if waits:
+            facts.calls.slept.setdefault(name, Counter()).update(waits)
+            facts.asleep_by[name] = facts.asleep_by.get(name, 0) + 1000 * sum(waits.values())
+
+
 def costs_of(code, off, head):
     """In nanoseconds. Those by the wall clock have the time in which a thread was preempted, and lose it here."""
     unit = head.nanoseconds or 1
@@ -290,6 +299,7 @@ def facts_of(recording):
     facts.locks, facts.regions = locks_of(recording.file("locks"), head), regions_of(path)
     set_off(facts, off, program)
     facts.calls = calls_of(recording.file("calls"), program.names)
+    set_ranks(facts)
     try:
         set_breakdown(facts, account_of(head, numbers.work, document(recording), program.names))
     except NoAccount:

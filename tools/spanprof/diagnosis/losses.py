@@ -4,6 +4,7 @@ Threads x elapsed time = code as on one thread + the losses.
 """
 from typing import NamedTuple
 
+from spanprof.diagnosis.calls import A_SAMPLE
 from spanprof.diagnosis.places import A_START, OF_THREADS, OWN, SERIAL, SHARE
 from spanprof.text import BEGINNING, where
 
@@ -276,9 +277,16 @@ def begun(facts):
     return facts.places[BEGINNING].cost if BEGINNING in facts.places else 0
 
 
+def loading(facts):
+    """Of the code before all constructs, that of the system's loader: samples begin when it has loaded the recorder, so
+    they see none of it, and all of the program's own but for a sample at either end."""
+    seen = sum(sum(found.get(BEGINNING, {}).values()) for found in (facts.calls.ran, facts.calls.slept))
+    return begun(facts) - 1000 * (seen + 2 * A_SAMPLE) if facts.calls.ran else 0
+
+
 def share_of_start(facts):
     """Of the code before all constructs, what the program and its runtime need to start."""
-    return min(1.0, STARTED / max(begun(facts), 1)) if facts.whole else 0.0
+    return min(1.0, max(STARTED, loading(facts)) / max(begun(facts), 1)) if facts.whole else 0.0
 
 
 def start_of(facts, losses_found):

@@ -73,10 +73,10 @@ def words_of_alone(facts, names, place):
 
 
 def words_of_sleep(facts, name):
-    """Such as `in read, called by load`; what it may be where no sample tells."""
+    """Such as `in read, called by load`, or of MPI for other ranks; what it may be where no sample tells."""
     function, caller = asleep_in(facts.calls.slept.get(name, {}))
     if not function:
-        return "or waits: for files, a network, other locks"
+        return "for files, a network or other locks"
     return "in %s%s" % (function, ", called by " + caller if caller else "")
 
 

@@ -6,9 +6,10 @@ from types import SimpleNamespace
 
 from spanprof.account import Account, Row
 from spanprof.diagnosis import facts as module
+from spanprof.diagnosis.calls import Sampled
 from spanprof.diagnosis.facts import (Facts, costs_of, elapsed_in, function_in, kept_waiting, of_those_at_once,
-                                      off_by_segment, regions_of, runtime_name, set_meta, set_off, set_starved,
-                                      starting_shares)
+                                      off_by_segment, regions_of, runtime_name, set_meta, set_off, set_ranks,
+                                      set_starved, starting_shares)
 from spanprof.diagnosis.lock_times import Held, locks_of
 from spanprof.diagnosis.places import AFTER_REGION, OWN
 from spanprof.diagnosis.tests.worked import MS, TEXT, facts, program
@@ -144,6 +145,13 @@ class Starting(unittest.TestCase):
         self.assertEqual((one.threads, one.delayed, one.starved, one.outside), (2, 0, 40, 20))
         self.assertEqual(sum(one.parts.values()), 2 * 50)
         self.assertIs(of_those_at_once(found, 8), found)
+
+    def test_a_call_of_mpi_waits_for_other_ranks(self):
+        run = facts(calls=Sampled({"the beginning": {("main", "MPI_Allreduce"): 8000, ("main", "MPI_Init"): 9000}}, {}))
+        set_ranks(run)
+        self.assertEqual(run.calls, Sampled({"the beginning": {("main", "MPI_Init"): 9000}},
+                                            {"the beginning": {("main", "MPI_Allreduce"): 8000}}))
+        self.assertEqual(run.asleep_by, {"the beginning": 8 * MS})
 
     def test_a_region_of_one_thread_is_alone_without_those_inside_it(self):
         outer, inner, alone = (Region(i, 0, *times, 0, 0, 0, i > 1, "a.c:%d" % i) for i, times in

@@ -1,6 +1,7 @@
 import random
 import unittest
 
+from spanprof.diagnosis.calls import Sampled
 from spanprof.diagnosis.facts import Region
 from spanprof.diagnosis.lock_times import Held
 from spanprof.diagnosis.losses import Loss, by_place, code_on_one, divided, losses, system_time
@@ -41,6 +42,13 @@ class Losses(unittest.TestCase):
         begins = place("the beginning", SERIAL, cost=20 * MS, pieces=1, tasks=0)
         found = losses(facts([begins], starved=60 * MS, starved_by={begins.name: 60 * MS}))
         self.assertEqual(found, [Loss("serial", begins.name, 45 * MS), Loss("startup", "", 15 * MS)])
+
+    def test_what_no_sample_has_seen_of_the_beginning_loads_the_program(self):
+        begins = place("the beginning", SERIAL, cost=80 * MS, pieces=1, tasks=0)
+        run = {"starved": 240 * MS, "starved_by": {begins.name: 240 * MS}}
+        for seen, start in ((12000, 180), (40000, 96), (78000, 15)):
+            found = losses(facts([begins], calls=Sampled({begins.name: {("main",): seen}}, {}), **run))
+            self.assertEqual(sum(loss.time for loss in found if loss.kind == "startup"), start * MS)
 
     def test_who_waits_for_preempted_code_waits_for_the_machine(self):
         for name, kind in (("task at a.c:1", TASK), ("the beginning", SERIAL), ("turns of the loop at a.c:3", SHARE)):

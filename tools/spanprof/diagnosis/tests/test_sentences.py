@@ -275,8 +275,8 @@ class BySamples(unittest.TestCase):
 
     def test_sleep_has_the_function_that_sleeps(self):
         slept = {"the beginning": {("main", "load", "read"): 9000}}
-        self.assertRegex(self.told(Loss("sleep", "the beginning", 9), slept=slept), "sleeps in read, called by load$")
-        self.assertRegex(self.told(Loss("sleep", "the beginning", 9)), "sleeps or waits: for files, a network, ")
+        self.assertRegex(self.told(Loss("sleep", "the beginning", 9), slept=slept), "waits in read, called by load$")
+        self.assertRegex(self.told(Loss("sleep", "the beginning", 9)), "waits for files, a network or other locks$")
 
 
 class Json(unittest.TestCase):
