@@ -1,6 +1,6 @@
 """What is told of a run on a terminal: at most eight lines of at most 100 columns."""
 from spanprof.account_words import lasting
-from spanprof.diagnosis.calls import OFFSET, asleep_in, together
+from spanprof.diagnosis.calls import NO_NAME, OFFSET, asleep_in, together
 from spanprof.diagnosis.causes import BY_KIND, NAMES
 from spanprof.diagnosis.losses import average_task, has_many_faults, missing_threads, most_shared
 from spanprof.diagnosis.places import SERIAL, SHARE
@@ -220,10 +220,16 @@ def sum_lines(found, names):
     return ["%.1f %% %s (measured)" % (100 * share, name) for name, share in shown + [("the rest", rest)]]
 
 
+def is_nameless(facts):
+    """Whether most of the code that samples saw is in functions without names."""
+    ran = together(facts.calls.ran, facts.calls.ran)
+    return 2 * sum(time for calls, time in ran.items() if calls[-1].startswith(NO_NAME)) > sum(ran.values())
+
+
 def unsure(found, names):
     """What one run cannot tell, or a program without the names of its functions."""
     facts, lost = found.facts, lost_lines(found, names)
-    if any(OFFSET.search(word) for line in lost for word in line.replace(":", " ").split()):
+    if is_nameless(facts) or any(OFFSET.search(word) for line in lost for word in line.replace(":", " ").split()):
         return "the names of its functions: build it with -g, or install its debug symbols"
     if facts.target == 1:
         return "what more threads would bring: record on more"

@@ -215,6 +215,12 @@ class Sentences(unittest.TestCase):
         told = Diagnosis(run, [], [Loss("serial", nameless.name, 50 * MS)], [], [], 1)
         self.assertIn("not known: the names of its functions", "".join(short_lines(told, names)))
 
+    def test_samples_without_names_ask_for_these(self):
+        for ran, is_asked in ((("main", "[plink1.9]"), True), (("main", "tone"), False)):
+            run = facts([place("the beginning", SERIAL, tasks=0)], calls=Sampled({"the beginning": {ran: 9000}}, {}))
+            told = Diagnosis(run, [], [Loss("efficient", "", 50 * MS)], [], [], 1)
+            self.assertEqual("the names of its functions" in "".join(short_lines(told, Names(run, None))), is_asked)
+
     def test_what_to_do_for_an_uneven_loop(self):
         told = {"turns of the loop at image.c:9": "smaller chunks at image.c:9, the longest first",
                 "a section at image.c:9": "smaller sections at image.c:9, the longest first"}
