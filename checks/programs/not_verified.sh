@@ -21,8 +21,8 @@ answers() {
     local told=$folder/$1
     {
         tools/spanprof-path $text
-        tools/spanprof-whatif $text --drop-wait taskwait
-        tools/spanprof-whatif $text --drop-wait taskwait --json
+        tools/spanprof-whatif $text --drop-wait 'taskgroup at merge_sort.c:33'
+        tools/spanprof-whatif $text --drop-wait 'taskgroup at merge_sort.c:33' --json
         tools/spanprof-report $text -o "$told.html" --json
     } > "$told" 2> "$told.said" || { fail "$1: a tool fails"; cat "$told.said"; }
 }

@@ -17,11 +17,13 @@ bool begins_with_one(const std::string &name, const std::vector<const char *> &s
   return std::any_of(starts.begin(), starts.end(), [&](auto *start) { return !name.rfind(start, 0); });
 }
 
-// The library of the system that has it; empty where it is the program's, or another library's.
+// The library of the system, or the interpreter, that has it; empty where it is the program's, or another library's.
 std::string library_of_system(const void *code, const Places &places) {
   const ModuleOfRun *module = code && places.modules() ? places.modules()->of(code) : nullptr;
   std::string name = module ? module->path.substr(module->path.rfind('/') + 1) : "";
-  return begins_with_one(name, {"libc.so", "libm.so", "ld-linux", "linux-vdso", "libstdc++", "libgcc_s"}) ? name : "";
+  bool is_of_one = begins_with_one(name, {"libc.so", "libm.so", "ld-linux", "linux-vdso", "libstdc++", "libgcc_s",
+                                          "python3", "libpython3", "libR.so", "liboctinterp", "libperl"});
+  return is_of_one ? name : "";
 }
 
 // As a program calls it: `sin` of `__sin_fma`.
