@@ -18,7 +18,7 @@ MUCH_CODE = 0.2         # of all code, from which on a place is looked at
 NO_CALLS = ("if", "for", "while", "switch", "return", "sizeof")
 KINDS = ("in", "out", "inout", "inoutset", "mutexinoutset", "depobj")
 WRITES = {"out": "inout"}       # as the recorder writes it
-UNNAMED = "the item they share"
+UNNAMED = "the same item"
 
 
 def code_at(name):

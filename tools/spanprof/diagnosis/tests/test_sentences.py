@@ -85,7 +85,7 @@ class Named(unittest.TestCase):
         one = self.facts.places[TASKS]
         self.assertEqual(self.names.item(one, ("inout", "a0")), "inout: tab[f(0, 1)]")
         self.assertEqual(self.names.item(one, ("inout", "a2")), "out: d[0]")
-        self.assertEqual(Names(self.facts, None).item(one, ("inout", "a2")), "inout: the item they share")
+        self.assertEqual(Names(self.facts, None).item(one, ("inout", "a2")), "inout: the same item")
 
     def test_items_of_a_directive(self):
         self.assertEqual(items_in("depend(USES: a) depend(inout: b)"), {})
