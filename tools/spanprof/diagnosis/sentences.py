@@ -189,12 +189,16 @@ def speed_words(facts):
     return ", %s on one: %s" % (lasting(one), told)
 
 
+def words_of_threads(facts):
+    """Those of the run, and its time without what other programs took."""
+    alone = ", %s undisturbed" % lasting(facts.now) if facts.now < facts.seen else ""
+    return several(facts.threads, "thread") + (" of " + facts.runtime if facts.runtime else "") + alone
+
+
 def first_line(found):
     facts = found.facts
-    alone = ", %s undisturbed" % lasting(facts.now) if facts.now < facts.seen else ""
-    return "%s: %s on %s%s%s%s. At best %s." % (
-        facts.program or "program", lasting(found.now), several(facts.threads, "thread"),
-        " of " + facts.runtime if facts.runtime else "", alone, speed_words(facts), lasting(found.best))
+    return "%s: %s on %s%s. At best %s." % (facts.program or "program", lasting(found.now), words_of_threads(facts),
+                                            speed_words(facts), lasting(found.best))
 
 
 def lost_lines(found, names):

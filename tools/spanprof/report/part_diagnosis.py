@@ -1,7 +1,7 @@
 """The first screen: a sentence, three times, where the threads' time went, the change as a diff, the plan, how sure."""
 from spanprof.account_words import lasting
 from spanprof.diagnosis.sentences import (change_sentence, loss_name, lost_sentence, several, speed_words, sure_words,
-                                          unsure)
+                                          unsure, words_of_threads)
 from spanprof.diagnosis.source_change import diff
 from spanprof.report.figures import PROVED, badge
 from spanprof.report.markup import join, tag
@@ -29,8 +29,7 @@ def one_time(time, words):
 
 
 def times(found):
-    facts = found.facts
-    now = "now, on %s" % several(facts.threads, "thread") + (" of %s" % facts.runtime if facts.runtime else "")
+    now = "now, on " + words_of_threads(found.facts)
     first = [one_time(step.after, "after the first change, %s" % ("predicted" if step.change else "at best"))
              for step in found.plan[:1]]
     return tag("div", one_time(found.now, now), *first,
