@@ -41,42 +41,6 @@ def certificate_of(path):
     return certificate
 
 
-def differences(path, words):
-    """Whether both programs print the same; a line where they do not."""
-    told = [run([program, *words], path)[0] for program in (PROGRAM, PLAIN)]
-    if told[0] == told[1]:
-        return 0
-    print("DIFFERENT: %s < %s: %r and %r" % (" ".join(words), path.name, told[0], told[1]))
-    return 1
-
-
-def compare_random():
-    """All commands on the random programs, and checks of claims that do not hold."""
-    texts, different, asked = sorted(FOLDER.glob("random/*.tasks")), 0, 0
-    for path in texts:
-        segments = segments_of(path)
-        for words in [*commands("", segments), ["greedy", "--threads", "2"], ["whatif", "%d=0" % segments]]:
-            inputs = [path] if words[0] != "check" else [certificate_of(path), *changed(certificate_of(path))]
-            for text in inputs:
-                different += differences(text, words)
-                asked += 1
-    print("%d reports on %d random programs: %d different" % (asked, len(texts), different))
-
-
-def changed(certificate):
-    """Certificates with one number of the claim, or one start, another."""
-    head, rest = certificate.read_text().split("---\n")
-    lines = rest.splitlines()
-    for number, line in enumerate(lines):
-        words = line.split()
-        if words[0] == "start" and (words[2] == "0" or number % 16):
-            continue
-        other = words[:-1] + [str(max(int(words[-1]) - 1, 0))]
-        path = certificate.with_suffix(".changed%d" % number)
-        path.write_text(head + "---\n" + "\n".join([*lines[:number], " ".join(other), *lines[number + 1:]]) + "\n")
-        yield path
-
-
 def called(words):
     """What a row calls the command: `whatif all` has a change for each segment."""
     if words[0] != "whatif":
@@ -194,7 +158,6 @@ def main():
     if len(sys.argv) == 5 and sys.argv[4] in modes:
         modes[sys.argv[4]]()
         return
-    compare_random()
     table(sys.argv[4:])
 
 

@@ -1,6 +1,6 @@
 #!/usr/bin/env bash
 # Times the commands and the reference implementation, which prints the same, on the texts of make_texts.py, and compares what
-# both print there and on random programs. The times are the processor's, of user and system, in milliseconds, the best
+# both print there. The times are the processor's, of user and system, in milliseconds, the best
 # of five (of RUNS, if that is set), and the two programs run in turns; the memory is the peak, in MiB.
 #
 #     bench/commands.sh [TEXT..]      PROGRAM names the program, if it is built
@@ -13,5 +13,4 @@ set -euo pipefail
 build_program
 make_texts
 build_reference
-python3 "$top/bench/random_texts.py" "$scratch/random" 100
 python3 "$top/bench/commands.py" "$PROGRAM" "$reference" "$scratch" "$@"

@@ -11,7 +11,6 @@ from unittest import mock
 sys.path.insert(0, str(pathlib.Path(__file__).resolve().parent))
 import large_texts
 import make_texts
-import random_texts
 
 
 def told(main, words):
@@ -32,7 +31,7 @@ class Words(unittest.TestCase):
         os.chdir(self.folder)
 
     def test_help_makes_nothing(self):
-        for script in (make_texts, random_texts, large_texts):
+        for script in (make_texts, large_texts):
             printed, said, status = told(script.main, ["--help"])
             self.assertIn("usage:", printed)
             self.assertIn("".join(script.__doc__.split()), "".join(printed.split()))
@@ -41,8 +40,7 @@ class Words(unittest.TestCase):
 
     def test_wrong_words_make_nothing(self):
         for script, wrong in ((make_texts, []), (make_texts, ["--texts"]), (make_texts, ["one", "two"]),
-                              (random_texts, ["texts", "many"]), (large_texts, ["chain"]),
-                              (large_texts, ["ring", "3"]), (large_texts, ["chain", "-3"])):
+                              (large_texts, ["chain"]), (large_texts, ["ring", "3"]), (large_texts, ["chain", "-3"])):
             printed, said, status = told(script.main, wrong)
             self.assertIn("usage:", said)
             self.assertEqual((printed, status), ("", 2))
@@ -61,11 +59,6 @@ class Folders(unittest.TestCase):
         self.assertEqual(made["small.tasks"], small())
         self.assertTrue(made["small.replay"].startswith(small() + "\n---\nstart 0 0\nfinish 0 0\n"))
         self.assertTrue(made["small.replay"].endswith("finish 0 3\n"))
-
-    def test_so_many_random_programs(self):
-        with tempfile.TemporaryDirectory() as folder:
-            random_texts.main([folder, "3"])
-            self.assertEqual(sorted(os.listdir(folder)), ["0.tasks", "1.tasks", "2.tasks"])
 
 
 class Shapes(unittest.TestCase):

@@ -45,11 +45,16 @@ installed() {
     if command -v "$1" > /dev/null; then passes "$1" "$@"; else passes "$1" echo "skipped: it is missing (package $1)"; fi
 }
 
+# no_symbolic_links: the gate refuses a checkout that has one.
+no_symbolic_links() { ! git ls-files -s | grep '^120000'; }
+
 # tested FOLDER TOP: the unit tests of a folder, which import from TOP.
 tested() { passes "$1" python3 -B -m unittest discover -q -s "$1" -t "$2"; }
 
 python='\.py$|^checks/quick\.sh$'
 proofs='^crates|^docs/|^README\.md$|^CONTRIBUTING\.md$|^checks/(sources|edits)/'
+wanted=1
+passes no_symbolic_links no_symbolic_links
 concerns "$python"
 passes style.py python3 -B checks/sources/style.py
 passes imports.py python3 -B checks/sources/imports.py
@@ -59,7 +64,7 @@ installed pycodestyle --ignore=E126,E402,E501,W291,W503,W504 tools checks bench 
 # What nothing but tests uses, apart from names that Python, argparse or a table of methods calls, and of programs that
 # are kept for what was measured.
 installed vulture --exclude '*/tests/*,*test_*.py' tools checks bench examples \
-    --ignore-names 'write_*,dont_write_bytecode,__getattr__,namespace,option_string,only_first,FORMERLY'
+    --ignore-names 'write_*,dont_write_bytecode,__getattr__,namespace,option_string,only_first'
 core='^tools/spanprof/(tests/)?[^/]+$'
 names=()
 for tests in tools/tests tools/spanprof/tests tools/spanprof/*/tests tools/spanprof/*/*/tests; do

@@ -75,7 +75,6 @@ one 600 compiles.sh checks/sources/compiles.sh
 one 600 examples.sh checks/agree/examples.sh
 one 600 documents.py checks/agree/documents.py
 one 900 one_command.py checks/programs/one_command.py
-one 600 'accounts.py 300' checks/agree/accounts.py 300
 one 300 exclusion.py checks/agree/exclusion.py
 one 600 reference.py checks/agree/reference.py
 timed 1800 openmp_cases.sh checks/recorders/openmp_cases.sh

@@ -10,6 +10,7 @@ import shutil
 import sys
 
 from spanprof.errors import Fault
+from spanprof.folders import other_places_of
 from spanprof.proof import SUFFIX
 from spanprof.version import commit_of
 
@@ -26,6 +27,15 @@ EXECUTABLE = ("bin/", "libexec/", "lib/spanprof/convert_log", "lib/spanprof/cali
 SHARED = ("*.py", "spanprof/**/*.py", "spanprof/report/template/*", "conformance/*.txt",
           "conformance/directed/*.tasks", "conformance/harness/*", "conformance/mutants/*")
 LEFT_OUT = ("install.py", "/tests/")
+
+
+def programs(variables, proved=(SPANPROF, LARGE)):
+    """The two to install: those that the variables name, the proved ones, or else those built without proofs."""
+    named = [variables.get(name) for name in ("SPANPROF", "SPANPROF_LARGE")]
+    if any(named) or os.path.isfile(proved[0]):
+        return tuple(name or path for name, path in zip(named, proved))
+    pairs = zip(other_places_of("spanprof"), other_places_of("spanprof_large"))
+    return next((pair for pair in pairs if all(map(os.path.isfile, pair))), proved)
 
 
 def shared_files():
@@ -54,8 +64,8 @@ def with_checksum(program, path):
 
 
 def plan(spanprof=SPANPROF, large=LARGE, library=LIBRARY):
-    """Where each file goes: pairs of a file and its path below the prefix. The program for texts of any size goes there
-    where it is built, and so does the library. What users call is a script; it calls the programs."""
+    """Where each file goes: pairs of a file and its path below the prefix. spanprof_large and the library are installed
+    if they are built. What users call is a script; it calls the programs."""
     pairs = [(os.path.join(TOOLS, "bin", "spanprof"), "bin/spanprof"), *with_checksum(spanprof, PROGRAM)]
     pairs += of_library(library)
     if os.path.isfile(large):
@@ -100,7 +110,7 @@ def check_sources(pairs):
     for source, path in pairs:
         if not os.path.isfile(source):
             shown = os.path.relpath(source, os.path.join(TOOLS, ".."))
-            raise Fault("%s: no such %s" % (shown, "program; README.md says how to build spanprof"
+            raise Fault("%s: no such %s" % (shown, "program; ./demo builds one, and tools/prove_program.sh a proved one"
                                             if path == PROGRAM else "file"))
 
 
@@ -163,8 +173,8 @@ def main():
     root = destination + os.path.normpath(prefix)
     try:
         if command == "install":
-            large = os.environ.get("SPANPROF_LARGE") or LARGE
-            install(root, plan(os.environ.get("SPANPROF") or SPANPROF, large), links(large))
+            spanprof, large = programs(os.environ)
+            install(root, plan(spanprof, large), links(large))
         else:
             print("%d files taken from %s" % (uninstall(root), root))
     except Fault as fault:

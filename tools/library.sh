@@ -10,6 +10,7 @@
 # no source below crates/ is newer. With MODULE=FILE it also keeps the LLVM module that was compiled.
 set -euo pipefail
 case ${1:-} in -h | --help) sed -n '2,/^set/{/^set/!s/^# \{0,1\}//p}' "$0"; exit ;; esac
+command -v rt > /dev/null || { echo "tools/library.sh needs Rattle's toolchain, rt" >&2; exit 1; }
 top=$(cd "$(dirname "$0")/.." && pwd)
 out=$(realpath -m "${1:-$top/out/library}")
 kit=$(dirname "$(dirname "$(realpath "$(command -v rt)")")")

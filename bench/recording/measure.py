@@ -23,8 +23,8 @@ SIZES = ((0, 200_000), (1, 200_000), (10, 40_000))  # microseconds of a task, an
 MILLION = 1_000_000
 CALLED = 200_000
 FEW = 5
-WAYS = ("without", "a tool that does nothing", "the recorder, wall", "the recorder, cpu")
-OTHER = "the other recorder, wall"
+WAYS = ("without", "a tool that does nothing", "the recorder", "the recorder, cpu")
+OTHER = "the other recorder"
 
 
 @dataclass
@@ -62,9 +62,11 @@ def is_of_gcc(runtime):
 
 
 def environment(tool, way, out, variable="OMP_TOOL_LIBRARIES"):
-    new = dict(os.environ, OMP_WAIT_POLICY="passive", SPANPROF_OUT=out, SPANPROF_QUIET="1",
-               SPANPROF_CLOCK="cpu" if way.endswith("cpu") else "wall")
-    new.pop("OMP_TOOL_LIBRARIES", None)
+    new = dict(os.environ, OMP_WAIT_POLICY="passive", SPANPROF_OUT=out, SPANPROF_QUIET="1")
+    for name in ("OMP_TOOL_LIBRARIES", "SPANPROF_CLOCK"):
+        new.pop(name, None)
+    if way.endswith("cpu"):
+        new["SPANPROF_CLOCK"] = "cpu"
     if tool:
         new[variable] = tool
     return new
@@ -117,7 +119,7 @@ def million_of(built):
     """Bytes of the log a task, and seconds and bytes of its conversion."""
     with tempfile.TemporaryDirectory() as folder:
         out = os.path.join(folder, "out")
-        numbers([built.program("calls"), built.recorder, str(MILLION)], environment("", "wall", out))
+        numbers([built.program("calls"), built.recorder, str(MILLION)], environment("", "the recorder", out))
         log = os.path.join(out + ".spanprof", "log")
         return (size_of(log) / MILLION, *converted(built, log))
 

@@ -22,7 +22,7 @@ class Measures(unittest.TestCase):
         self.assertEqual([BUILT.tool(way) for way in WAYS], ["", "/built/nothing.so", "/r.so", "/r.so"])
         told = [environment(BUILT.tool(way), way, "o") for way in WAYS]
         self.assertEqual([one.get("OMP_TOOL_LIBRARIES") for one in told], [None, "/built/nothing.so", "/r.so", "/r.so"])
-        self.assertEqual([one["SPANPROF_CLOCK"] for one in told], ["wall", "wall", "wall", "cpu"])
+        self.assertEqual([one.get("SPANPROF_CLOCK") for one in told], [None, None, None, "cpu"])
 
     def test_gccs_runtime_loads_no_tool(self):
         self.assertEqual(BUILT.ways_of("gcc-12"), [WAYS[0], WAYS[2]])
@@ -33,7 +33,7 @@ class Measures(unittest.TestCase):
         both = Built("/built", "/r.so", "/convert", "/o.so")
         self.assertEqual(both.ways(), WAYS + (OTHER,))
         self.assertEqual(both.tool(OTHER), "/o.so")
-        self.assertEqual(environment("/o.so", OTHER, "o")["SPANPROF_CLOCK"], "wall")
+        self.assertNotIn("SPANPROF_CLOCK", environment("/o.so", OTHER, "o"))
 
     def test_what_is_more_is_told_turn_by_turn(self):
         ways = (WAYS[0], WAYS[1], WAYS[2])

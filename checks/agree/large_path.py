@@ -4,7 +4,7 @@ programs and on programs of a million tasks. The rows of `spanprof_large slack` 
 (large_recordings/whole_graph.py), their chain a path of it that costs the span, and the sums by place those that
 plain_path.py adds up, which shares nothing with the tools. Of the large programs it tells time and memory.
 
-    checks/agree/large_path.py [COUNT]     COUNT random programs of each of two kinds (100)
+    checks/agree/large_path.py [COUNT]     COUNT random programs (100)
 
 Build spanprof_large first, or let SPANPROF_LARGE name it.
 """
@@ -20,7 +20,7 @@ TOP = Path(__file__).resolve().parents[2]
 sys.path[:0] = [str(TOP / folder) for folder in ("checks/agree/large_recordings", "tools")]
 sys.dont_write_bytecode = True
 
-import any_size  # noqa: E402
+import random_programs as drawn  # noqa: E402
 import whole_graph  # noqa: E402
 from plain_path import Wrong, check_rows, rows_of, sums_by_place  # noqa: E402
 from spanprof.answers import Answers  # noqa: E402
@@ -61,13 +61,10 @@ def compare(large, file):
         raise Wrong("by place %s, and not %s" % (found, wanted))
 
 
-def random_programs(count, folder):
-    """Pairs of a name and a text, of two generators."""
-    subprocess.run([sys.executable, TOP / "bench/random_texts.py", folder, str(count)], check=True)
+def random_programs(count):
+    """Pairs of a name and a text."""
     for number in range(count):
-        rng = random.Random(number)
-        yield "program %d of any_size" % number, commented(any_size.draw(number), rng)
-        yield "program %d of random_texts" % number, commented((folder / ("%d.tasks" % number)).read_text(), rng)
+        yield "random program %d" % number, commented(drawn.draw(number), random.Random(number))
 
 
 def examples():
@@ -115,7 +112,7 @@ def measure_large(name, made, folder):
 
 def one_line(count):
     """What has no ends of lines is no slower."""
-    text, numbers = any_size.independent(count)
+    text, numbers = drawn.independent(count)
     return "omptasks 1 " + text.split("\n", 1)[1].replace("\n", " ") + "# all\n", numbers
 
 
@@ -123,12 +120,12 @@ def check(large, count):
     with tempfile.TemporaryDirectory(prefix="large_path-") as name:
         folder = Path(name)
         print("%d examples: the same" % compare_all(large, examples(), folder), flush=True)
-        compared = compare_all(large, random_programs(count, folder), folder)
+        compared = compare_all(large, random_programs(count), folder)
         print("%d random programs: the same" % compared, flush=True)
-        for name, made in (("nested", any_size.nested(any_size.MILLION)), ("tree", any_size.tree(20)),
-                           ("chain", any_size.chain(any_size.MILLION)),
-                           ("independent", any_size.independent(any_size.MILLION)),
-                           ("one line", one_line(any_size.MILLION // 10))):
+        for name, made in (("nested", drawn.nested(drawn.MILLION)), ("tree", drawn.tree(20)),
+                           ("chain", drawn.chain(drawn.MILLION)),
+                           ("independent", drawn.independent(drawn.MILLION)),
+                           ("one line", one_line(drawn.MILLION // 10))):
             measure_large(name, made, folder)
 
 

@@ -17,8 +17,9 @@ from concurrent.futures import ThreadPoolExecutor
 from itertools import count as numbers
 from pathlib import Path
 
-import accounts
-import any_size
+import random_programs
+import random_runs
+from damaged import EVENTS, LOOPS, PLAIN, damaged
 from random_logs import draw_document
 from random_loops import draw_loops
 
@@ -70,7 +71,7 @@ class Pair:
 
 # ---- texts
 
-def damaged(rng, text):
+def damaged_once(rng, text):
     """The text cut somewhere, or with another byte somewhere."""
     place = rng.randrange(len(text))
     return text[:place] + (bytes([rng.choice(BYTES)]) + text[place + 1:] if rng.random() < 0.7 else b"")
@@ -118,9 +119,9 @@ def compare_text(small, large, text, seed):
     for words in OF_LARGE:
         large.compare(words, text)
     certificates = [told] if "\n---\n" in told else []
-    certificates += [any_size.with_another_number(told, rng) for _ in range(3) if certificates]
+    certificates += [random_programs.with_another_number(told, rng) for _ in range(3) if certificates]
     text = text.decode(errors="replace") if isinstance(text, bytes) else text
-    segments = any_size.segments_told(small.compare("span", text))
+    segments = random_programs.segments_told(small.compare("span", text))
     replays = [draw_document(rng, text, min(segments, 2_000)) for _ in range(2)]
     for pair in (small, large):
         for document in (*certificates, text, text + "---\n", f"{text}---\nend 0 chain 0"):
@@ -132,10 +133,16 @@ def compare_text(small, large, text, seed):
         large.compare("whatif --listed", text + rest)
 
 
-def compare_account(large, seed):
-    text, _, lines = accounts.draw_case(seed)
+def compare_account(large, document):
     for words in ("account", "account --rows", "account --path"):
-        large.compare(words, text + "---\n" + "\n".join(lines) + "\n" * (seed % 2))
+        large.compare(words, document)
+
+
+def compare_damaged(small, large, words, text):
+    """A text, a certificate or a replay with damage at each byte."""
+    for one in damaged(text):
+        small.compare(words, one)
+        large.compare(words, one)
 
 
 def compare_words(small, large):
@@ -157,9 +164,10 @@ def compare_large(large, tasks=20_000):
         text = made(name, tasks)
         for words in ("span", "--upto 64", "slack", "greedy --threads 64", "graph", "curve --upto 3"):
             large.compare(words, text)
+        compare_account(large, random_runs.as_a_run(text.decode(), large.compare("greedy --threads 3", text), 3))
         certificate = large.compare("certify", text)
         large.compare("check", certificate)
-        large.compare("check", any_size.with_another_number(certificate, random.Random(name)))
+        large.compare("check", random_programs.with_another_number(certificate, random.Random(name)))
     large.compare("span", "omptasks 1\n" + "task {\n" * 1_048_577)
     large.compare("show", "omptasks 2\nfor i 1 300 { for j 1 300 { task depend(inout: x[j-1], x[j]) { work 3 } } }\n")
 
@@ -169,6 +177,10 @@ def cases(small, large, count):
     examples = sorted((TOP / "examples").rglob("*.tasks"))
     yield compare_words, small, large
     yield compare_large, large
+    certificate = small.compare("certify", WORKED).encode()
+    for words, text in (("show", PLAIN), ("show", LOOPS), ("check", certificate),
+                        ("replay", WORKED.encode() + b"---\n" + EVENTS)):
+        yield compare_damaged, small, large, words, text
     for seed, path in zip(numbers(), examples):
         yield compare_text, small, large, path.read_bytes(), seed
     for text in near_limits():
@@ -176,15 +188,15 @@ def cases(small, large, count):
             yield small.compare, words, text
             yield large.compare, words, text
     for seed in range(count):
-        for text in (any_size.draw(seed), draw_loops(seed)):
+        for text in (random_programs.draw(seed), draw_loops(seed)):
             yield compare_text, small, large, text, seed
             rng = random.Random(text)
             for _ in range(3):
-                other = damaged(rng, text.encode())
+                other = damaged_once(rng, text.encode())
                 yield small.compare, rng.choice(("span", "show")), other
                 yield large.compare, rng.choice(("span", "show", "slack")), other
     for seed in range(2 * count):
-        yield compare_account, large, seed
+        yield compare_account, large, random_runs.draw_case(seed) + "\n" * (seed % 2)
 
 
 def build(folder):

@@ -2,9 +2,9 @@
 """Tries docs/TUNING.md letter by letter: all its commands, one after the other, in a fresh clone.
 
     checks/agree/tutorial.py [PROGRAM [LARGE]]
-A clone of what is committed, with a spanprof that is built already; the clang that the page names, and its runtime, are
-needed. Where spanprof_large is not built, spanprof-path, which needs it, is left out. Costs are measured anew, so of
-what a command prints only the words of the first line are compared; documents.py compares all of it where the texts
+A clone of what is committed, with a spanprof that is built already; gcc is needed. Where spanprof_large is not built,
+spanprof-path, which needs it, is left out. Costs are measured anew, so of what a command prints only the first line is
+compared, without numbers; documents.py compares all of it where the texts
 are kept. The clone must be as git left it afterwards, but for what git ignores.
 """
 import os
@@ -38,12 +38,6 @@ def named_programs(words):
     paths = [os.path.join(TOP, "crates", name, "out", name) for name in PROGRAMS]
     paths[:len(words)] = map(os.path.abspath, words)
     return {name: path for name, path in zip(PROGRAMS, paths) if name == "spanprof" or os.access(path, os.X_OK)}
-
-
-def compiler_of(document):
-    """The clang that its commands call."""
-    with open(document, encoding="utf-8") as file:
-        return re.search(r"(?m)^\$ .*\b(clang-\d+) ", file.read())[1]
 
 
 def commands_for(programs, document):
@@ -90,9 +84,8 @@ def main():
     programs = named_programs(sys.argv[1:])
     if not os.access(programs["spanprof"], os.X_OK):
         sys.exit("no program " + programs["spanprof"])
-    compiler = compiler_of(os.path.join(TOP, DOCUMENT))
-    if not shutil.which(compiler):
-        print("skipped: %s is missing (package %s)" % (compiler, compiler))
+    if not shutil.which("gcc"):
+        print("skipped: gcc is missing")
         return
     folder = fresh_clone(programs)
     pairs, wrong = list(commands_for(programs, os.path.join(folder, DOCUMENT))), 0

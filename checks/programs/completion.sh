@@ -61,7 +61,7 @@ spanprof-report mine.tasks --source so|sources
 spanprof-path mi|mine.tasks
 spanprof-path mine.tasks --cs|--csv
 spanprof-predict mi|mine.tasks
-spanprof-predict mine.tasks --ma|--machine
+spanprof-predict mine.tasks --ru|--runtime
 spanprof-whatif mi|mine.tasks
 spanprof-whatif mine.tasks --cut|--cutoff
 spanprof-whatif -o mi|mine.tasks

@@ -15,7 +15,7 @@ export LLVM=$llvm
 folder=$(mktemp -d)
 trap 'rm -rf "$folder"' EXIT
 mkdir "$folder/repository"
-git ls-files -z demo tools reference examples crates/spanprof/src | xargs -0 cp --parents -t "$folder/repository"
+git ls-files -z demo tools reference examples crates/spanprof/src | xargs -0 cp -P --parents -t "$folder/repository"
 cd "$folder/repository"
 wrong=0
 fail() { echo "  $1"; wrong=$((wrong + 1)); cat "$folder/told"; }

@@ -21,7 +21,7 @@ list() { (cd "$1" && find . | sort); }
 
 # A word where the program is not built, and where the prefix is none.
 make -s -C tools SPANPROF="$folder/none" install PREFIX="$prefix" 2> "$folder/told" && fail "no program is installed"
-grep -q 'none: no such program; README.md says how to build spanprof' "$folder/told" || fail "no word of the program"
+grep -q 'none: no such program; ./demo builds one' "$folder/told" || fail "no word of the program"
 make_in_tools install PREFIX=usr 2> "$folder/told" && fail "a prefix that is no whole path is taken"
 grep -q "PREFIX is a whole path" "$folder/told" || fail "no word of the prefix"
 [ ! -e "$folder/usr" ] || fail "something is installed"

@@ -1,12 +1,13 @@
 #!/usr/bin/env bash
 # Records real OpenMP programs: builds the recorder and examples/openmp, runs each program on 1, 2 and 4 threads, and
-# has spanprof accept every recorded run of a region whole. Segments are compared with counts by hand; a span and
+# has spanprof_large accept every recorded run of a region whole. Segments are compared with counts by hand; a span and
 # spanprof-convert on a large recording are tried too. Build spanprof first. Another program than crates/spanprof/out/spanprof may be named.
 set -euo pipefail
 cd "$(dirname "$0")/../.."
 # shellcheck source=checks/needs.sh
 . checks/needs.sh
 needs_spanprof "$@"
+SPANPROF_LARGE=${SPANPROF_LARGE:-crates/spanprof_large/out/spanprof_large}
 program=$SPANPROF
 needs_llvm
 
@@ -15,7 +16,7 @@ trap 'rm -rf "$folder"' EXIT
 make -s -C tools/openmp_recorder LLVM="$llvm"
 export OMP_TOOL_LIBRARIES=$PWD/tools/openmp_recorder/librecorder.so
 export OMP_NUM_THREADS SPANPROF_OUT=$folder/out
-export SPANPROF_PARTS=none  # the counts by hand are of tasks alone
+export SPANPROF_PARTS=none SPANPROF_TIMES=1  # the counts by hand are of tasks alone
 wrong=0
 fail() { # WHAT: tells it, with the last that the recorder said
     echo "  $1"
@@ -37,9 +38,8 @@ number() { # WORD: the number after it in what `span` prints
 }
 expect_whole() { # WHAT: the run has each segment's start and finish, and is legal
     local told expected
-    told=$("$program" replay < "$folder/out.replay" | sed -n '1,2p' | tr '\n' ' ')
-    expected="events $((2 * $(number segments))) finished $(number segments) "
-    [ "$told" = "$expected" ] || fail "$1: $told, and not $expected"
+    told=$("$SPANPROF_LARGE" account < "$folder/out.timed" | head -1)
+    [ "$told" = "threads $OMP_NUM_THREADS" ] || fail "$1: $told"
 }
 
 # Each program with its words, and by hand, for two threads or more: the tasks that it makes, and the waits and ends of

@@ -1,6 +1,6 @@
 #!/usr/bin/env bash
 # Records random OpenMP regions and compares each recording with the structure that the program must have; spanprof
-# replays each run. Build spanprof first. openmp_regions.sh [COUNT [WORD ..]]: 200 programs, or so many; words for
+# judges each run. Build spanprof first. openmp_regions.sh [COUNT [WORD ..]]: 200 programs, or so many; words for
 # checks/recorders/openmp_regions/regions.py. Ends with status 1 where a recording is wrong.
 set -euo pipefail
 cd "$(dirname "$0")/../.."

@@ -18,7 +18,7 @@ TOP = pathlib.Path(__file__).resolve().parents[2]
 PLAIN_ENGLISH = {"check", "run", "show", "span", "task", "work"}
 NO_PLACES = re.compile(r"(^|/)(must-fail|edits|out)/")
 NO_CODE = re.compile(r"\.(md|tasks|csv|log)$|(^|/)tests?/|_tests/|(^|/)test_|^examples/|^checks/recorders/openmp|"
-                     "/predictions/(unseen|programs/)")
+                     "/predictions/unseen")
 
 
 def commands(source):

@@ -67,7 +67,7 @@ class Places(unittest.TestCase):
 
     def test_what_is_code(self):
         for path in ("crates/large_text/src/place_tests.rt", "tools/openmp_recorder/converter/compose.cpp",
-                     "bench/segments.sh"):
+                     "bench/large.sh"):
             self.assertIsNone(NO_CODE.search(path), path)
         for path in ("docs/MODEL.md", "crates/text_tests/src/tests/a.rt", "tools/tests/a.py", "checks/agree/test_a.py",
                      "tools/openmp_recorder/tests/test_a.cpp", "examples/a.c", "checks/recorders/openmp_cases/a.c"):

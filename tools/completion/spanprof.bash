@@ -68,7 +68,7 @@ _spanprof_record_program() { # the place of the program among the words; none wh
     for ((i = 1; i < COMP_CWORD; i++)); do
         case ${COMP_WORDS[i]} in
             --) echo $((i + 1)); return ;;
-            --open | --all | --full | --force | --call-paths | --calibrate | --version | -h | --help) ;;
+            --all | --full | --force | --call-paths | --calibrate | --version | -h | --help) ;;
             -*) ((i++)) ;;
             *) echo "$i"; return ;;
         esac
@@ -136,7 +136,6 @@ _spanprof_predict() {
     local current=${COMP_WORDS[COMP_CWORD]} before=${COMP_WORDS[COMP_CWORD - 1]}
     case $before in
         -o | --output) _spanprof_files "$current" .tasks ;;
-        --machine) _spanprof_files "$current" .json ;;
         --runtime) _spanprof_among "$current" "llvm gnu" ;;
         --threads) ;;
         *) case $current in
@@ -177,7 +176,7 @@ _spanprof_conformance() {
 }
 
 _spanprof_commands() { # WORD: the commands that its --help lists
-    "$1" --help 2> /dev/null | sed -n 's/^ *{\(.*\)}.*/\1/p' | head -1 | tr ',' ' '
+    "$1" --help 2> /dev/null | sed -n '/^  COMMAND$/,/^$/s/^    \([a-z]\{1,\}\) .*/\1/p' | tr '\n' ' '
 }
 
 complete -F _spanprof spanprof

@@ -1,15 +1,18 @@
 """Where the time of a recorded run's threads went: the sums that spanprof_large tells of the timed document, and what
 the recording tells beside them. docs/MODEL.md has the words."""
+import io
 import os
+from array import array
 from dataclasses import dataclass, field
 from functools import cached_property
-from typing import List, NamedTuple
+from typing import List, NamedTuple, Optional
 
 from spanprof import client
 from spanprof.account_program import NoAccount, ask
 from spanprof.idle import idle_by_place
 from spanprof.recording import document, open_recording
 from spanprof.remarks import UNFINISHED
+from spanprof.text_file import PIECE
 
 NO_TIMES_KEPT = "several of the program's threads meet regions, or it has more tasks and chunks than times are kept of"
 
@@ -20,6 +23,18 @@ class Row(NamedTuple):
     ready: int
     begin: int
     end: int
+
+
+class Rows(NamedTuple):
+    """Of each segment the same, in columns."""
+    thread: array
+    ready: array
+    begin: array
+    end: array
+
+    @classmethod
+    def of(cls, rows):
+        return cls(*(array("q", column) for column in zip(*rows)))
 
 
 @dataclass
@@ -48,7 +63,7 @@ class Account:
     by_processor: bool = False      # costs are read on that clock: then it is among what was preempted
     of_whole: bool = False  # the program, and not of a region
     left_out: int = 0       # code of the region that has no times here, and is idle
-    rows: List[Row] = field(default_factory=list)
+    rows: Optional[Rows] = None
     places: List[str] = field(default_factory=list)     # of the segments
 
     @property
@@ -85,9 +100,13 @@ class Account:
 
 
 def read_rows(table):
-    heads, _, rest = table.partition("\n")
-    heads, cells = heads.split(","), rest.replace("\n", ",").split(",")
-    return list(map(Row, *(map(int, cells[heads.index(name):-1:len(heads)]) for name in Row._fields)))
+    lines = io.StringIO(table)
+    heads, rows = next(lines, "").rstrip("\n").split(","), Rows(*(array("q") for _ in Rows._fields))
+    while piece := lines.readlines(PIECE):
+        cells = "".join(piece).replace("\n", ",").split(",")
+        for name, column in zip(Rows._fields, rows):
+            column.extend(map(int, cells[heads.index(name):-1:len(heads)]))
+    return rows
 
 
 def at_locks(head):
@@ -105,15 +124,17 @@ def within(parts, whole):
 
 def divide_busy(found, head, work):
     """By the wall clock both clocks tell what held code up, and what segments lasted beyond their costs and their
-    waiting for locks is the recorder's. By the processor's clock it is held up for as long as it lasted beyond its
-    costs, the recorder's time included."""
-    unit, by = head.nanoseconds, head.clocks_differ.get("by", 0)
+    waiting for locks is the recorder's, but for what costs leave out. By the processor's clock it is held up for as
+    long as it lasted beyond its costs, the recorder's time included."""
+    unit, taken_off = head.nanoseconds, head.taken_off.get("by", 0)
+    by = head.clocks_differ.get("by", taken_off)
     beyond = min(max(found.busy - (work - head.untimed) * unit, 0), found.busy)
     waiting = at_locks(head) * unit
     if head.clock == "cpu":
         asleep, waiting = within((by * unit, waiting), beyond)
         return HeldUp(beyond - asleep - waiting, asleep, waiting), 0
-    *parts, recorder = within((by * unit, head.slept.get("by", 0) * unit, waiting, beyond - waiting), found.busy)
+    recorder = beyond - waiting - taken_off * unit
+    *parts, recorder = within((by * unit, head.slept.get("by", 0) * unit, waiting, recorder), found.busy)
     return HeldUp(*parts), recorder
 
 
@@ -123,8 +144,8 @@ def account_of(head, work, path, places=()):
     found = Account(**client.named_numbers(ask([], path)), places=list(places))
     if places:
         found.rows = read_rows(ask(["--rows"], path))
-        if len(found.rows) != len(places):
-            raise NoAccount("there are times of %d segments, and not of %d" % (len(found.rows), len(places)))
+        if len(found.rows.thread) != len(places):
+            raise NoAccount("there are times of %d segments, and not of %d" % (len(found.rows.thread), len(places)))
     # lines that are rounded to whole units may have less than the text covers
     found.held_up, found.recorder = divide_busy(found, head, max(work, head.covered or 0))
     found.by_processor = head.clock == "cpu"

@@ -4,13 +4,14 @@ from array import array
 from dataclasses import dataclass
 from functools import cached_property
 from itertools import compress
+from operator import add
 
 from spanprof import client
 from spanprof.c_calls import MOST_THREADS
 from spanprof.head import head_of
 from spanprof.limits import is_long
 from spanprof.recording import open_recording, shown_name
-from spanprof.segment_table import read_code
+from spanprof.segment_table import code_in, read_code
 from spanprof.text_file import TextFile
 
 THREADS_WITHOUT_RECORDING = 4
@@ -128,14 +129,25 @@ class Answers:
     @cached_property
     def code(self):
         """The segments; of a text with loops those of its canonical text, which has none."""
-        lines = client.ask(["show"], self.file).splitlines(True) if self.file.has_loops() else self.file.lines()
-        return read_code(lines, self.name)
+        if self.file.has_loops():
+            return read_code(client.ask(["show"], self.file).splitlines(True), self.name)
+        return code_in(self.path)
 
     @cached_property
     def rows(self):
         code, found = self.code, self.columns(["slack"], SLACK)
         assert (len(found[0]), self.numbers["work"]) == (len(code), sum(code.cost)), "the text was read otherwise"
         return Rows(code.cost, code.task, *found)
+
+    @cached_property
+    def least_slacks(self):
+        """Of each kind of segments."""
+        slack = self.rows.slack
+        out = [max(slack)] * len(self.code.kinds)
+        for kind, one in zip(self.code.of, slack):
+            if one < out[kind]:
+                out[kind] = one
+        return out
 
     @cached_property
     def path_segments(self):
@@ -178,7 +190,8 @@ class Answers:
     def greedy_on(self, threads):
         """None where there is too little memory for it."""
         try:
-            return Greedy(*self.columns(["greedy", "--threads", str(threads)], ("start", "end", "thread")))
+            starts, on = self.columns(["greedy", "--threads", str(threads)], ("start", "thread"))
+            return Greedy(starts, array("q", map(add, starts, self.code.cost)), on)
         except client.Refused as refused:
             if refused.is_of_memory:
                 return None

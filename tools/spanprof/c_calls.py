@@ -85,9 +85,9 @@ def shared():
     try:
         loaded = ctypes.CDLL(place)
     except OSError as error:
-        raise NoLibrary("%s: %s; tools/library.sh builds it, and SPANPROF_LIBRARY names it" % (place, error)) from None
+        raise NoLibrary("%s; tools/library.sh (with rt) builds it, and SPANPROF_LIBRARY names it" % error) from None
     if not hasattr(loaded, "spanprof_measure"):
-        raise NoLibrary("%s is no library of spanprof" % place)
+        raise NoLibrary("%s is not libspanprof" % place)
     return loaded
 
 

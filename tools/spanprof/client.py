@@ -13,7 +13,7 @@ from contextlib import contextmanager
 from spanprof.errors import Fault
 from spanprof.folders import found_at, other_places_of, places_of, words_in
 from spanprof.refusal import explained, of_whole
-from spanprof.text_file import PIECE, TextFile, opened
+from spanprof.text_file import PIECE, TextFile, opened, read_once
 
 LARGE, SMALL = "spanprof_large", "spanprof"
 PLACES = [(name, places(name)) for places in (places_of, other_places_of) for name in (LARGE, SMALL)]
@@ -59,7 +59,7 @@ def refused(words, text, answer, status):
 def words_to_start(words):
     start = program()
     if not start:
-        raise Fault("spanprof is neither on the PATH nor built here: %s; README.md says how to build it" %
+        raise Fault("spanprof_large is neither on the PATH nor built: %s; ./demo builds it" %
                     places_of(LARGE)[0])
     return start + list(words)
 
@@ -101,16 +101,16 @@ def ask(words, text):
 
 
 def pieces(words, text):
-    """The same as lists of lines of bytes, as they come: first the first line alone."""
+    """The same as bytes, as they come: first the first line alone, and then as many as there are."""
     start = words_to_start(words)
     with opened(text) as file:
         with starting(start):
             running = subprocess.Popen(start, stdin=file, stdout=subprocess.PIPE, stderr=subprocess.DEVNULL)
         with running:
             first = running.stdout.readline()
-            yield [first]
-            while lines := running.stdout.readlines(PIECE):
-                yield lines
+            yield first
+            while piece := running.stdout.read(PIECE):
+                yield piece + running.stdout.readline()
     if running.returncode:
         raise refused(words, text, first.decode(errors="replace"), running.returncode)
 
@@ -118,11 +118,11 @@ def pieces(words, text):
 def columns(words, text, wanted):
     """Of a table of whole numbers the columns of these names, as arrays; a cell without a number is -1."""
     told = pieces(words, text)
-    heads = next(told)[0].decode(errors="replace").rstrip("\n").split(",")
+    heads = next(told).decode(errors="replace").rstrip("\n").split(",")
     out = [array("q") for _ in wanted]
-    for lines in told:
-        cells = b"".join(lines).replace(b",\n", b",-1\n").replace(b"\n", b",").split(b",")
-        if not set(wanted) <= set(heads) or len(cells) != len(heads) * len(lines) + 1:
+    for piece in told:
+        cells = piece.replace(b",\n", b",-1\n").replace(b"\n", b",").split(b",")
+        if not set(wanted) <= set(heads) or len(cells) != len(heads) * piece.count(b"\n") + 1:
             raise Fault("spanprof %s: rows of another form" % words[0])
         for name, column in zip(wanted, out):
             column.extend(map(int, cells[heads.index(name):-1:len(heads)]))
@@ -132,11 +132,11 @@ def columns(words, text, wanted):
 def path(text):
     """The segments on the path that `slack` shows."""
     out, told = array("I"), pieces(["slack"], text)
-    is_table = next(told)[0].endswith(b",chain\n")
-    for lines in told:
+    is_table = next(told).endswith(b",chain\n")
+    for piece in told:
         if not is_table:
             raise Fault("spanprof slack: rows of another form")
-        out.extend(int(line.partition(b",")[0]) for line in lines if line.endswith(b",1\n"))
+        out.extend(int(line.partition(b",")[0]) for line in piece.split(b"\n") if line.endswith(b",1"))
     return out
 
 
@@ -157,10 +157,15 @@ def numbers(text):
     return found
 
 
+@read_once
+def numbers_of_file(path):
+    return numbers(TextFile(path))
+
+
 def measured(path):
-    """The same of a text in a file; its fault names the file and the line."""
+    """The same of a text in a file, which is asked once; its fault names the file and the line."""
     try:
-        return numbers(TextFile(path))
+        return numbers_of_file(path, *program())
     except Refused as wrong:
         raise Fault(wrong.of(path)) from wrong
 
@@ -176,8 +181,8 @@ def graph(text):
     """The kept predecessors of each segment, as `graph` prints them."""
     told = pieces(["graph"], text)
     next(told)
-    for lines in told:
-        yield from ([int(p) for p in line.rpartition(b",")[2].split()] for line in lines)
+    for piece in told:
+        yield from ([int(p) for p in line.rpartition(b",")[2].split()] for line in piece.splitlines())
 
 
 def predecessors(text, count):

@@ -1,5 +1,6 @@
 """What the commands share."""
 import argparse
+import atexit
 import errno
 import os
 import re
@@ -16,7 +17,7 @@ def count(least, most):
     """A type of options: whole numbers in these bounds."""
     def read(word):
         if not re.fullmatch(r"[0-9]{1,16}", word) or not least <= int(word) <= most:
-            raise argparse.ArgumentTypeError("%s is no whole number from %d to %d" % (word or "nothing", least, most))
+            raise argparse.ArgumentTypeError("%r is not a whole number from %d to %d" % (word, least, most))
         return int(word)
     return read
 
@@ -54,27 +55,27 @@ class Console:
 
 
 def refuse_folder(text):
-    """Of a log the fault says what takes it."""
+    """Of a log the fault says what reads it."""
     if os.path.isfile(os.path.join(text, "head")):
-        raise Fault("%s: the log of a recorded run, and no text; spanprof-convert writes its texts" % text)
+        raise Fault("%s: the log of a recording; spanprof-convert makes its text" % text)
     if os.path.isdir(text):
-        raise Fault("%s: a folder, and no text" % text)
+        raise Fault("%s: not a recording, which is a folder NAME.spanprof" % text)
 
 
 def percent(word):
     """`5%` or `5`."""
     if not re.fullmatch(r"[0-9]{1,4}(\.[0-9]+)?%?", word):
-        raise argparse.ArgumentTypeError("%s is no percentage, such as 5%%" % word)
+        raise argparse.ArgumentTypeError("%r is not a percentage, such as 5%%" % word)
     return float(word.rstrip("%"))
 
 
 def check_files(text, output=None, what="changed text"):
     """Whether the text is there, and is not what would be written."""
-    if not os.path.exists(text):
+    if text != "-" and not os.path.exists(text):
         raise Fault("%s: no such file" % (text or "''"))
     refuse_folder(text)
     if not os.path.isfile(text):
-        raise Fault("%s: no file, and the text is read more than once; write it into one" % text)
+        raise Fault("%s: write the text to a file first, as it is read more than once" % text)
     if output and os.path.exists(output) and os.path.samefile(text, output):
         raise Fault("%s: the %s would be written over the text" % (output, what))
 
@@ -88,9 +89,19 @@ def naming(path):
         raise Fault("%s: %s" % (path, wrong.strerror or wrong)) from wrong
 
 
-def end_at_a_closed_pipe():
-    """Has `| head` end this process without a word."""
-    signal.signal(signal.SIGPIPE, signal.SIG_DFL)
+def end_by(number, _):
+    """Ends this process by the signal, once the files that live as long as it are gone."""
+    atexit._run_exitfuncs()
+    signal.signal(number, signal.SIG_DFL)
+    os.kill(os.getpid(), number)
+
+
+def end_without_files():
+    """Of signals that end this process, as `| head` does; one that is ignored, as under nohup, stays so."""
+    signal.signal(signal.SIGPIPE, end_by)
+    for number in (signal.SIGTERM, signal.SIGHUP):
+        if signal.getsignal(number) == signal.SIG_DFL:
+            signal.signal(number, end_by)
 
 
 def words_of(wrong):
@@ -119,7 +130,7 @@ def answer_all(answer, words):
 
 def end_with(console, answer, *words, status=1):
     """Answers, and ends the process with this status and a word where that fails."""
-    end_at_a_closed_pipe()
+    end_without_files()
     open_closed_streams()
     try:
         answer_all(answer, words)

@@ -92,7 +92,7 @@ def convert_into(program, log, folder, variables):
 
 def of_region(variables, place):
     """Of the regions at a place the median one."""
-    return dict(variables, SPANPROF_WHOLE="0", SPANPROF_TIMES="1", SPANPROF_REGION=place, SPANPROF_REGIONS="1")
+    return dict(variables, SPANPROF_WHOLE="0", SPANPROF_TIMES="1", SPANPROF_REGION=place)
 
 
 def made_text(out):
@@ -107,8 +107,10 @@ def places_with_tasks(recording):
 
 def no_region(recording, place):
     there = places_with_tasks(recording)
-    return Fault("%s: there is no region with tasks at %s; %s" % (
-        recording.name, place or "any place", "those are at " + ", ".join(there) if there else "it has none at all"))
+    if not there:
+        return Fault("%s: it has no parallel region with tasks" % recording.name)
+    return Fault("%s: there is no region with tasks at %s; those are at %s" % (
+        recording.name, place or "any place", ", ".join(there)))
 
 
 def region_text(recording, place="", tell=lambda words: None):

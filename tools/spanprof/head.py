@@ -5,11 +5,14 @@ from dataclasses import dataclass, field
 from itertools import takewhile
 from typing import Dict, List, Optional, Tuple
 
+from spanprof.account_words import lasting
+from spanprof.errors import DAMAGE
 from spanprof.remarks import Remark, read_remark, seen
 from spanprof.text import CALLED_FROM, where
 
 NANOSECONDS = {"ns": 1, "us": 1000, "ms": 1000000}
 DIVISION = ("outside regions", "in other regions", "in serial code", "in loops", "in parts without tasks", "in tasks")
+CLOCKS = {"own": "wall time without preemption", "wall": "wall time", "cpu": "processor time"}
 COSTS = DIVISION[2:]  # of the text; the others are wall time of the program
 UNREAD = "line of the head that is not read, as it is damaged: "
 OLDER = "the head is that of an older version of the recorder, and is not read: convert the log again, or record again"
@@ -23,12 +26,19 @@ def counted(number, what):
     return "%d %s%s" % (number, what, "s" * (number != 1))
 
 
+def nanoseconds_of(unit):
+    """What a cost of 1 is; None of no unit."""
+    number = re.match(r"(\d+) ns$", unit)
+    return int(number[1]) if number else NANOSECONDS.get(unit)
+
+
 class Lock(str):
     """Words on a lock of OpenMP, or on several together. `waiting` is how long threads waited, in the text's unit."""
     def __new__(cls, name, times, inside, waiting, unit=""):
-        each = " x " + unit if unit[:1].isdigit() else " " + unit if unit else ""
-        out = super().__new__(cls, "%s: %s, %d%s inside, %d%s waiting" % (
-            name, counted(times, "time"), inside, each, waiting, each))
+        size = nanoseconds_of(unit)
+        told = [lasting(time * size) if size else "%d" % time for time in (inside, waiting)]
+        out = super().__new__(cls, "%s: %s time%s, %s inside, %s waiting" % (
+            name, grouped(times), "s" * (times != 1), *told))
         out.name, out.waiting, out.told = name, waiting, (name, times, inside, waiting, unit)
         return out
 
@@ -47,7 +57,7 @@ class Head:
     number: str = ""        # its place in time among the regions with tasks: `2 of 5`
     date: str = ""
     threads: Optional[int] = None
-    clock: str = ""         # wall or cpu
+    clock: str = ""         # own, wall or cpu
     unit: str = ""          # of the costs; empty where they are declared and not measured
     elapsed: Optional[int] = None
     division: Dict[str, int] = field(default_factory=dict)  # the whole program's time, by where it passed
@@ -55,10 +65,12 @@ class Head:
     thread_time: Optional[int] = None  # of the program, in code
     covers_at_most: bool = False       # recording ended before the program did
     not_covered: Dict[str, int] = field(default_factory=dict)  # the rest, by where it passed
+    chunks: Dict[str, List[int]] = field(default_factory=dict)  # by place of loops, those that came soon, their turns
     divided: List[str] = field(default_factory=list)  # loops and sections, among as many threads as the run had
     beside: Optional[int] = None       # what the region's parts cost, but for the longest of each phase
     clock_reading: Optional[int] = None  # in nanoseconds
     clocks_differ: Dict[str, int] = field(default_factory=dict)  # affected, work, by, times
+    taken_off: Dict[str, int] = field(default_factory=dict)      # the same of what others took, which costs leave out
     slept: Dict[str, int] = field(default_factory=dict)          # the same of code that slept, by the wall clock
     preempted: Dict[int, int] = field(default_factory=dict)      # by segment, what other programs took in it
     untimed: int = 0                   # of segments, before they were left in their midst
@@ -66,6 +78,7 @@ class Head:
     runs: Optional[int] = None         # where the program was recorded several times, of which this is one
     spread: Dict[str, Tuple[int, int, int]] = field(default_factory=dict)  # of work, span: least, median, most
     functions: Dict[str, str] = field(default_factory=dict)  # by a place: `in merge, inlined into sort at sort.c:9`
+    sources: Dict[str, str] = field(default_factory=dict)   # the paths of files, by their names
     remarks: List[Remark] = field(default_factory=list)
     locks: List[Lock] = field(default_factory=list)
 
@@ -76,14 +89,14 @@ class Head:
     @property
     def nanoseconds(self):
         """What a cost of 1 is; None where the text names no unit."""
-        number = re.match(r"(\d+) ns$", self.unit)
-        return int(number[1]) if number else NANOSECONDS.get(self.unit)
+        return nanoseconds_of(self.unit)
 
     @property
     def unit_of_costs(self):
         """For an axis or a table."""
-        clock = {"wall": " of wall time", "cpu": " of processor time"}.get(self.clock, "")
-        return self.unit + clock if self.unit else "units of the declared costs"
+        if not self.unit:
+            return "units of the declared costs"
+        return self.unit + (" of " + CLOCKS[self.clock] if self.clock in CLOCKS else "")
 
 
 def comments(text):
@@ -168,10 +181,20 @@ def read_divided(head, told):
         head.divided.append("%s, %s" % (told["what"], seen(told)))
 
 
+def read_chunks(head, told):
+    """Places may have several lines."""
+    chunks, turns = head.chunks.get(words(told["at"]), (0, 0))
+    head.chunks[told["at"]] = [chunks + number(told["times"]), turns + number(told["turns"])]
+
+
 def read_place(head, told):
     function = "in " + words(told["in"]) + "".join(", inlined into %s at %s" % (words(one["in"]), words(one["at"]))
                                                    for one in told.get("inlined", []))
     head.functions.setdefault(words(told["at"]), function)
+
+
+def read_source(head, told):
+    head.sources[words(told["file"])] = words(told["path"])
 
 
 def read_lock(head, told):
@@ -214,9 +237,10 @@ LINES = {
     "recorded": read_recorded, "region": read_region, "whole program": read_whole, "covers": read_coverage,
     "not covered": read_not_covered, "divided": read_divided, "clock reading": kept("clock_reading"),
     "clocks differ": kept_numbers("clocks_differ", DIFFER), "slept": kept_numbers("slept", DIFFER),
+    "taken off": kept_numbers("taken_off", DIFFER),
     "untimed": kept("untimed"), "preempted": read_preempted,
     "elapsed": kept("elapsed"), "most held lock": kept("most_held"),
-    "lock": read_lock, "place": read_place,
+    "lock": read_lock, "place": read_place, "short chunks": read_chunks, "source": read_source,
     **{name: part_of_time(name) for name in DIVISION},
 }
 
@@ -230,7 +254,7 @@ def read_line(head, line):
         return
     try:
         LINES[name](head, json.loads(value))
-    except (ValueError, KeyError, TypeError, AttributeError):
+    except DAMAGE:
         if name == "recorded" or head.is_measured:     # else it is somebody's own
             is_older = name == "recorded" and not value.startswith("{")
             head.remarks.append(read_remark(OLDER if is_older else UNREAD + name))

@@ -3,44 +3,41 @@ where none was, to the places of those that ran then, for which the others waite
 
 At each moment the idle threads are shared evenly among these segments. The parts add up to the sums of the account.
 """
-from bisect import bisect_right
-from collections import Counter
+from collections import defaultdict
 from fractions import Fraction
-
-READY, BEGIN, END = range(3)
 
 
 def changes(rows, kinds, count):
-    """Moments in their order, each with what changes then of which kind of so many, as one number."""
-    return sorted([3 * (row.ready * count + kind) + READY for row, kind in zip(rows, kinds)] +
-                  [3 * (row.begin * count + kind) + BEGIN for row, kind in zip(rows, kinds)] +
-                  [3 * (row.end * count + kind) + END for row, kind in zip(rows, kinds)])
+    """Moments in their order, each with what changes then of which kind of so many, as one number: first come those
+    that are ready, then those that begin, then those that end."""
+    width = 3 * count
+    return sorted([moment * width + kind for moment, kind in zip(rows.ready, kinds)] +
+                  [moment * width + count + kind for moment, kind in zip(rows.begin, kinds)] +
+                  [moment * width + 2 * count + kind for moment, kind in zip(rows.end, kinds)])
 
 
-def add(counts, place, more):
-    now = counts.get(place, 0) + more
-    if now:
-        counts[place] = now
+def less(counts, kind):
+    if counts[kind] == 1:
+        del counts[kind]
     else:
-        del counts[place]
+        counts[kind] -= 1
 
 
-class Shared:
-    """Idle time by place, kept as whole numbers over how many segments it was shared among."""
+def exact(parts, names):
+    """Of idle time by kind and by how many segments it was shared among."""
+    out = {}
+    for both, idle in parts.items():
+        among, kind = divmod(both, len(names))
+        out[names[kind]] = out.get(names[kind], 0) + Fraction(idle, among)
+    return out
 
-    def __init__(self):
-        self.parts = Counter()
 
-    def share(self, idle, counts):
-        among = sum(counts.values())
-        for place, count in counts.items():
-            self.parts[place, among] += idle * count
-
-    def exact(self, names):
-        out = {}
-        for (kind, among), idle in self.parts.items():
-            out[names[kind]] = out.get(names[kind], 0) + Fraction(idle, among)
-        return out
+def together(parts, name_of):
+    """The sums of those with one name."""
+    out = {}
+    for place, part in parts.items():
+        out[name_of(place)] = out.get(name_of(place), 0) + part
+    return out
 
 
 def rounded(parts):
@@ -53,27 +50,42 @@ def rounded(parts):
 
 
 def most_at_once(rows):
-    """How many segments ran at once."""
-    begins, ends = sorted(row.begin for row in rows), sorted(row.end for row in rows)
-    return max((begun - bisect_right(ends, moment) for begun, moment in enumerate(begins, 1)), default=0)
+    """How many segments ran at once. A thread runs one at a time."""
+    most, running = 0, 0
+    for change in sorted([2 * end for end in rows.end] + [2 * begin + 1 for begin in rows.begin]):
+        running += 1 if change % 2 else -1
+        most = max(most, running)
+    return most
+
+
+def exact_idle(rows, places, threads):
+    """Delayed and starved time by place, of rows with `ready`, `begin` and `end`."""
+    numbers, delayed, starved = {}, defaultdict(int), defaultdict(int)
+    ready, running, waiting, busy = {}, {}, 0, 0    # segments by kind, and all of them
+    kinds = [numbers.setdefault(place, len(numbers)) for place in places]
+    count, moment = len(numbers), min(rows.begin)
+    for change in changes(rows, kinds, count):
+        then, what = divmod(change, 3 * count)
+        if then > moment:
+            if busy < threads:
+                idle, parts, among = (threads - busy) * (then - moment), delayed if ready else starved, waiting or busy
+                for kind, times in (ready or running).items():
+                    parts[among * count + kind] += idle * times
+            moment = then
+        if what < count:
+            ready[what] = ready.get(what, 0) + 1
+            waiting += 1
+        elif what < 2 * count:
+            what -= count
+            less(ready, what)
+            running[what] = running.get(what, 0) + 1
+            waiting, busy = waiting - 1, busy + 1
+        else:
+            less(running, what - 2 * count)
+            busy -= 1
+    return tuple(exact(parts, list(numbers)) for parts in (delayed, starved))
 
 
 def idle_by_place(rows, places, threads):
-    """Delayed and starved time by place, of rows with `ready`, `begin` and `end`."""
-    delayed, starved, numbers = Shared(), Shared(), {}
-    kinds = [numbers.setdefault(place, len(numbers)) for place in places]
-    ready, running, busy = {}, {}, 0
-    begun = moment = min(row.begin for row in rows)
-    for change in changes(rows, kinds, len(numbers)):
-        change, what = divmod(change, 3)
-        then, kind = divmod(change, len(numbers))
-        idle = (threads - busy) * (then - moment) if then > begun else 0
-        if idle:
-            (delayed if ready else starved).share(idle, ready or running)
-        moment = max(then, begun)
-        if what != END:
-            add(ready, kind, 1 if what == READY else -1)
-        if what != READY:
-            add(running, kind, 1 if what == BEGIN else -1)
-            busy += 1 if what == BEGIN else -1
-    return tuple(rounded(shared.exact(list(numbers))) for shared in (delayed, starved))
+    """The same in whole numbers."""
+    return tuple(map(rounded, exact_idle(rows, places, threads)))

@@ -6,6 +6,7 @@ from typing import NamedTuple
 
 from spanprof.text import (BARRIER, BEGINNING, BLOCKS, DIVIDER, HEADER, OF_A_THREAD, Segment, Statement, construct,
                            words_of)
+from spanprof.text_file import TextFile, read_once
 
 CREATING = "creating a task"
 MOST_KNOWN = 100000     # lines that are kept
@@ -115,6 +116,12 @@ class Marks:
 
     def __iter__(self):
         return (Mark("work", str(number)) if number > 0 else self.known[-number] for number in self.numbers)
+
+
+@read_once
+def marks_of_file(path):
+    """Of a text in a file."""
+    return Marks(TextFile(path).lines())
 
 
 def statements(lines):

@@ -9,12 +9,13 @@ import shutil
 import tempfile
 from dataclasses import dataclass, field
 
-from spanprof.errors import Fault
+from spanprof.errors import DAMAGE, LONGEST, Fault
 from spanprof.head import head_text
 
 SCHEMA = 1
 ENDING = ".spanprof"
 META, TEXT, TIMES, LOG, REGIONS = "recording.json", "program.tasks", "times", "log", "regions"
+SCALE = "scale.json"    # of spanprof-record --scale: times of unrecorded runs
 CHECKED = (TEXT, TIMES, REGIONS, "off", "locks", "calls")    # the log is checked by its converter
 AGAIN = "spanprof-convert %s writes it anew"
 PIECE = 1 << 20
@@ -71,8 +72,8 @@ def read_meta(folder):
         raise Fault("%s: the recording is not complete, as it has no %s; %s" % (folder, META, again)) from wrong
     except OSError as wrong:
         raise Fault("%s: %s" % (os.path.join(folder, META), wrong.strerror)) from wrong
-    except (ValueError, KeyError, TypeError) as wrong:
-        raise Fault("%s: %s is damaged: %s; %s" % (folder, META, wrong, again)) from wrong
+    except DAMAGE as wrong:
+        raise Fault("%s: %s is damaged: %s; %s" % (folder, META, str(wrong)[:LONGEST], again)) from wrong
     if schema > SCHEMA:
         raise Fault("%s: a newer version of spanprof made this recording: its schema is %d, and this version reads %d" %
                     (folder, schema, SCHEMA))

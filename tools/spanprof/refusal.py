@@ -19,15 +19,15 @@ KINDS = {
     "TooLong": "the text has too many bytes: one of version 2 has 4,194,304 at most, and 4,000,000,000 lines where its "
                "loops are expanded",
     "BadHeader": "a text begins with `omptasks 1`, or `omptasks 2` where it has loops",
-    "BadByte": "this byte begins no word",
-    "BadWord": "this cannot stand here",
+    "BadByte": "unexpected byte",
+    "BadWord": "unexpected word",
     "BadNumber": "a cost is a whole number up to 1,000,000,000,000, an `if` or `final` 0 or 1, a bound at most "
                  "1,000,000",
-    "Unclosed": "this `{` is not closed",
-    "Unopened": "no `{` is open for this `}`",
-    "TooDeep": "at most 1,048,576 blocks are open at a time, and 64 in version 2",
-    "TooManyTasks": "spanprof takes at most 4,096 tasks, and spanprof_large, which is not found, any number",
-    "TooManySegments": "spanprof takes at most 16,384 segments, and spanprof_large, which is not found, any number",
+    "Unclosed": "missing `}` for this `{`",
+    "Unopened": "missing `{` for this `}`",
+    "TooDeep": "at most 1,048,576 blocks inside each other, 64 in version 2",
+    "TooManyTasks": "spanprof reads at most 4,096 tasks, and spanprof_large, which is not found, any number",
+    "TooManySegments": "spanprof reads at most 16,384 segments, and spanprof_large, which is not found, any number",
     "TooManyItems": "a task has at most 32 depend items, and a text 4,294,967,294",
     "WorkTooLarge": "all costs together are at most 1,000,000,000,000,000; a larger unit of time helps",
     "TooManyTurns": "all loops together have at most 4,000,000,000 turns"}
@@ -43,18 +43,18 @@ EVENTS = {
     "UnknownSegment": "the program has no such segment",
     "WorkerBusy": "this worker still runs another segment",
     "AlreadyStarted": "the segment was started before",
-    "NotReady": "segment %s, which has to come first, has not finished",
+    "NotReady": "its predecessor, segment %s, has not finished",
     "NotRunning": "this worker does not run that segment"}
 WHOLE = {
-    "input too long": "spanprof takes at most 8,388,608 bytes, and spanprof_large, which is not found, any number",
-    "BadForm": "behind the line `---` a replay has words `start WORKER SEGMENT` and `finish WORKER SEGMENT`, and a "
-               "certificate `end`, `start`s and a `chain`",
+    "input too long": "spanprof reads at most 8,388,608 bytes, and spanprof_large, which is not found, any number",
+    "BadForm": "after the line `---` a replay has `start WORKER SEGMENT` and `finish WORKER SEGMENT`, a certificate "
+               "`end`, `start`s and a `chain`",
     "ThreadCount": "a number of threads is 1 to 1,024",
     "WorkerCount": "a number of workers is 1 to 64",
     "CostTooLarge": "a cost is at most 1,000,000,000,000,000",
-    "WorkTooLarge": "with this cost all costs together pass 1,000,000,000,000,000",
+    "WorkTooLarge": "with this cost the sum of all costs is above 1,000,000,000,000,000",
     "wrong words": "this spanprof has no such command or option; it and these tools may be of different versions",
-    "out of memory": "more memory helps, or a smaller program; `ulimit -v` shows a limit"}
+    "out of memory": "use more memory or a smaller program; `ulimit -v` shows a limit"}
 
 
 def tokens(line):
@@ -114,9 +114,9 @@ def of_byte(line, place):
     """What is wrong with a character that begins no word."""
     sign, before = line[place], line[:place]
     if DIVIDER.fullmatch(line):
-        return "the text ends before `---`, and what follows is of a replay or a certificate: give the text alone"
+        return "the text ends before `---`; what follows belongs to a replay or a certificate"
     if re.search("[\0\ufffd]", line.partition("#")[0]):
-        return "this is no text: it has bytes that no text has"
+        return "not a program text: it has other bytes than a text"
     if sign == "\ufeff":
         return "a text begins without a byte order mark"
     if re.search(r"\bwork\s+[0-9]*$", before) and sign in ".-+":
@@ -124,20 +124,20 @@ def of_byte(line, place):
     if sign in OF_VERSION_2:
         return "`%s` belongs to version 2 of the texts, `omptasks 2`" % sign
     shown = "`%s`" % sign if sign.isascii() and sign.isprintable() else "U+%04X" % ord(sign)
-    return "%s begins no word; blanks are space, tab, CR and LF" % shown
+    return "unexpected %s; blanks are space, tab, CR and LF" % shown
 
 
 def of_number(line, token):
     """Which numbers there may be in this place; none where that is not known."""
     if not token.group().isdigit():
-        return "`%s` is no number, and no word begins with a digit" % token.group()
+        return "`%s` is not a number, and a word does not begin with a digit" % token.group()
     return next((range_allowed for before, range_allowed in NUMBERS if before.search(line[:token.start()])), None)
 
 
 def words_at(kind, line, token, general):
     """What is wrong at a token that was found."""
     if kind == "BadWord":
-        return "`%s` cannot stand here%s" % (token.group(), meant(token.group()))
+        return "unexpected `%s`%s" % (token.group(), meant(token.group()))
     if kind == "BadByte":
         return of_byte(line, token.start())
     if kind == "BadNumber":
@@ -152,12 +152,20 @@ def wrong_place(lines, number, answer, ask):
     return open_brace(lines, number) if is_open else wrong_token(lines, number, answer, ask)
 
 
+def is_begun(lines):
+    """Whether the first token is that of a text; a byte order mark may stand before it."""
+    first = next(filter(None, map(tokens, lines)), [])[:2]
+    return "omptasks" in (token.group() for token in first)
+
+
 def at_line(name, text, answer, ask, kinds):
     number, kind = AT_LINE.match(answer).groups()
     lines, number = text.split("\n"), int(number)
     words = kinds.get(kind, "")
     if kind == "BadHeader" and not any(tokens(line) for line in lines):
         return "%s: the text is empty; %s" % (name, words.replace("a text", "one", 1))
+    if kind == "BadByte" and not is_begun(lines):
+        return "%s: not a program text, which begins with `omptasks 1`; a recording is a folder, NAME.spanprof" % name
     if not 1 <= number <= len(lines):
         return "%s: %s" % (name, words or answer)
     token = wrong_place(lines, number, answer, ask) if len(text) <= MOST_ASKED else None
@@ -190,7 +198,7 @@ def unknown_segment(command, segments):
     """Which of the changes names a segment that there is not."""
     named = [word.partition("=")[0] for word in command[1:]]
     wrong = [word for word in named if word.isdigit() and int(word) >= segments]
-    return "there is no segment %s; they are 0 to %d, and `spanprof slack` lists them" % (
+    return "there is no segment %s; segments are 0 to %d, and `spanprof slack` lists them" % (
         wrong[0] if wrong else "of this number", segments - 1)
 
 

@@ -104,10 +104,13 @@ class Program:
         return sum(end - begin for begin, end, place in self.stretches if place is None)
 
 
-def row_of(heads, line):
+def rows_of(names, lines):
     """A table of an older version does not say how many threads were asked for."""
-    row = dict(zip(heads, line.split(",", len(heads) - 1)))
-    return Region(*(int(row[name]) for name in COLUMNS[:-1]), row["place"], int(row.get("asked", 0)))
+    *numbers, place = (names.index(name) for name in COLUMNS)
+    asked = names.index("asked") if "asked" in names else None
+    for line in filter(None, lines):
+        row = line.split(",", len(names) - 1)
+        yield Region(*(int(row[i]) for i in numbers), row[place], int(row[asked]) if asked is not None else 0)
 
 
 def read_regions(path):
@@ -115,12 +118,11 @@ def read_regions(path):
         with open(path, encoding="utf-8", errors="replace") as file:
             heads, *lines = file.read().split("\n")
         names = heads.split(",")
-        regions = [row_of(names, line) for line in lines if line]
-        whole, *rest = regions
-    except (OSError, KeyError, ValueError) as wrong:
-        raise Fault("%s is no table of regions: %s" % (path, wrong)) from wrong
+        whole, *rest = rows_of(names, lines)
+    except (OSError, IndexError, ValueError) as wrong:
+        raise Fault("%s is not a table of regions: %s" % (path, wrong)) from wrong
     if [name for name in names if name != "asked"] != list(COLUMNS) or whole.number != 0 or not whole.elapsed > 0:
-        raise Fault("%s is no table of regions" % path)
+        raise Fault("%s is not a table of regions" % path)
     return Program(whole.elapsed, rest)
 
 

@@ -5,13 +5,14 @@ span differs from the program's: `low`, `high` or `either`. What stands there in
 """
 import json
 
+from spanprof.errors import DAMAGE
+
 DIRECTIONS = {"low": "too low", "high": "too high", "either": "too low or too high"}
-OF_ROUNDING = ("rounding to whole units, more than a fiftieth of the work", "")
+OF_ROUNDING = ("rounding to whole units, more than 2 % of the work", "")
 # Of each name what was seen, and what is to be added to how it moves a number.
 WORDS = {
     "one thread": ("on one thread every task is undeferred (if(0))", ""),
-    "mutexinoutset": ("mutexinoutset", "and too high in the text .inout.tasks of spanprof-convert --region"),
-    "mutexinoutset as inout": ("mutexinoutset, written as inout", ""),
+    "mutexinoutset": ("mutexinoutset", ""),
     "all memory": ("dependence on all memory, left out", ""),
     "unknown item": ("depend item of an unknown type, written as inout", ""),
     "items left out": ("depend item beyond the 32nd of its task, left out", ""),
@@ -37,14 +38,14 @@ WORDS = {
     "equal turns": ("chunk of several iterations or sections, written as equal pieces", ""),
     "turns together": ("chunk with more iterations than pieces", ""),
     "other thread": ("thread that the program made itself, parallel to the first one from its beginning", ""),
-    "held lock": ("time inside locks, which exclude each other", ""),
+    "held lock": ("time inside locks, whose mutual exclusion is left out", ""),
     "line of another": ("construct at the line of another, since the compiler kept none of its own",
                         "work and span are right, places are not: compile with -g -Og, or by clang with "
                         "-fno-optimize-sibling-calls"),
     "lines of gcc": ("construct in code that gcc has optimised, whose line may be that of a statement before it",
                      "work and span are right, places may not be: compile with -g -Og"),
-    "preempted": ("preempted in code, which counts as wall time", ""),
-    "slept": ("blocked in code, which does not count as processor time", ""),
+    "preempted": ("preempted in code, counted as wall time", ""),
+    "slept": ("blocked in code, not counted as processor time", ""),
     "rounded down": OF_ROUNDING,
     "rounded up": OF_ROUNDING,
 }
@@ -91,7 +92,7 @@ def read_remark(value):
     if value.startswith("{"):
         try:
             return remark_of(json.loads(value))
-        except (ValueError, KeyError, TypeError):
+        except DAMAGE:
             pass
     out = Remark(value)
     out.work = out.span = "either"

@@ -1,11 +1,14 @@
 """The segments of a text of any size in columns: what stands of each in the source, and its task."""
 from array import array
 from collections import Counter
+from contextlib import contextmanager
+from itertools import compress
 from typing import NamedTuple
 
 from spanprof.errors import Fault
-from spanprof.marks import CREATING, Marks, after_words
-from spanprof.text import BARRIER, BLOCKS, OF_A_THREAD, Segment, named, where
+from spanprof.marks import CREATING, Marks, after_words, marks_of_file
+from spanprof.text import BARRIER, OF_A_THREAD, Segment, named, where
+from spanprof.text_file import read_once
 
 OF_REGIONS = (OF_A_THREAD, BARRIER)
 
@@ -74,13 +77,17 @@ class Code:
 
     @property
     def ends(self):
-        """Of each segment where the construct stands that ends it; nothing for the last of a task."""
-        return [self.kinds[number].end for number in self.of[1:]] + [""]
+        """Of each kind of segments how many end at which construct; nothing for the last of a task."""
+        found = [Counter() for _ in self.kinds]
+        for (number, following), count in Counter(zip(self.of, self.of[1:])).items():
+            found[number][self.kinds[following].end] += count
+        found[self.of[-1]][""] += 1
+        return found
 
     def firsts(self):
         """The first segment of each task, by their numbers."""
         is_first = [not kind.after for kind in self.kinds]
-        return array("I", (s for s, number in enumerate(self.of) if is_first[number]))
+        return array("I", compress(range(len(self.of)), map(is_first.__getitem__, self.of)))
 
     def parts(self):
         """How many of the tasks stand for a thread's own code between two barriers."""
@@ -113,18 +120,22 @@ class Task(dict):
     def __init__(self, code, groups, is_root, place, marks):
         super().__init__()
         self.code, self.groups, self.known = code, groups, marks.known
-        self.begins = is_root, place
+        self.begins, self.of_regions = (is_root, place), {}
 
     def __missing__(self, number):
-        mark = self.known[-number]
-        kind = Kind(*self.begins, *(after_words(mark), mark.comment) * bool(number))
-        if not kind.is_of_region:
-            self[number] = self.code.number(kind)
-            return self[number]
+        region = self.groups.region
+        found = self.of_regions.get((number, region))
+        if found is None:
+            mark = self.known[-number]
+            kind = Kind(*self.begins, *(after_words(mark), mark.comment) * bool(number))
+            if not kind.is_of_region:
+                self[number] = self.code.number(kind)
+                return self[number]
+            found = self.of_regions[number, region] = self.code.number(kind._replace(region=region))
         if not number:
-            self.code.own.append(len(self.code))
+            self.code.own.append(len(self.code.of))
             self.code.groups.append(self.groups.open[-1][0])
-        return self.code.number(kind._replace(region=self.groups.region))
+        return found
 
 
 def code_of(marks):
@@ -133,33 +144,33 @@ def code_of(marks):
     groups = Groups([where(named("taskgroup", mark.comment)) for mark in marks.known])
     inside = [Task(code, groups, False, mark.comment, marks) for mark in marks.known]
     here, running, tasks, blocks, cost = Task(code, groups, True, "", marks), 0, 0, [], 0
-    code.of.append(here[0])
-    code.task.append(0)
+    add_kind, add_task, add_cost = code.of.append, code.task.append, code.cost.append
+    add_kind(here[0])
+    add_task(0)
     for number in marks.numbers:
         if number > 0:
             cost += number
             continue
         word = words[-number]
-        if word in BLOCKS:
-            blocks.append((number, here, running))
         if word == "taskgroup":
+            blocks.append((number, here, running))
             groups.begin(number)
             continue
-        code.cost.append(cost)
+        add_cost(cost)
         cost = 0
-        if word == "}":
+        if word == "task":
+            blocks.append((number, here, running))
+            tasks += 1
+            here, running, number = inside[-number], tasks, 0
+        elif word == "}":
             number, here, running = blocks.pop()
             if words[-number] == "taskgroup":
                 groups.end()
-        elif word == "task":
-            tasks += 1
-            here, running = inside[-number], tasks
-            number = 0
         elif word != "taskwait":
             raise ValueError(word)
-        code.of.append(here[number])
-        code.task.append(running)
-    code.cost.append(cost)
+        add_kind(here[number])
+        add_task(running)
+    add_cost(cost)
     code.clauses = clauses_of(marks, inside)
     return code
 
@@ -171,9 +182,22 @@ def clauses_of(marks, inside):
     return [(inside[-number].get(0), marks.known[-number].code, count) for number, count in counts.items()]
 
 
+@contextmanager
+def of_version_1(name):
+    try:
+        yield
+    except (IndexError, ValueError, OverflowError) as wrong:
+        raise Fault("%s is not a text of version 1" % name) from wrong
+
+
 def read_code(lines, name):
     """Of the lines of a text of version 1 that the program has taken."""
-    try:
+    with of_version_1(name):
         return code_of(Marks(lines))
-    except (IndexError, ValueError) as wrong:
-        raise Fault("%s is no text of version 1" % name) from wrong
+
+
+@read_once
+def code_in(path):
+    """Of such a text in a file."""
+    with of_version_1(path):
+        return code_of(marks_of_file(path))

@@ -19,10 +19,11 @@ def files_below(folders):
 
 
 class Sources:
-    """The lines of the files below some folders. A name that two files have is not guessed at."""
+    """The lines of the files below some folders, or else of those that were compiled, by the paths that are known of
+    them. A name that two files have is not guessed at."""
 
-    def __init__(self, folders):
-        self.folders = folders
+    def __init__(self, folders, known=None):
+        self.folders, self.known = folders, known or {}
         self.files = None
         self.lines = {}
 
@@ -31,6 +32,8 @@ class Sources:
             self.files = files_below(self.folders)
         paths = self.files.get(name, set())
         if len(paths) != 1:
+            paths = {self.known[name]} if name in self.known else set()
+        if not paths:
             return []
         try:
             with open(next(iter(paths)), encoding="utf-8", errors="replace") as file:

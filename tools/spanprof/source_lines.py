@@ -83,14 +83,14 @@ def code_lines(place, line, lines):
     return first, first
 
 
-def stretch_of(place, segments, ends, lines=()):
-    """To the line at which most of its segments end that end below its first one."""
+def stretch_of(place, ends, lines=()):
+    """To the line at which most of its segments end that end below its first one. `ends` has how many end where."""
     begin = line_of(place)
     if not begin:
         return None
     first, last = code_lines(place, begin, lines)
     below = Counter()
-    for end, count in Counter(ends[s] for s in segments).items():
+    for end, count in ends.items():
         line = line_of(end)
         if line and line.file == begin.file and line.number >= first:
             below[line.number] += count
@@ -103,5 +103,6 @@ def stretches(answers, places, sources):
     for place in places:
         begin = line_of(place.name)
         if begin:
-            out[place.name] = stretch_of(place.name, place.segments, ends, sources.lines_of(begin.file))
+            out[place.name] = stretch_of(place.name, sum((ends[kind] for kind in place.kinds), Counter()),
+                                         sources.lines_of(begin.file))
     return out

@@ -1,8 +1,10 @@
 """A text in a file, which a program reads there: of any size, and never whole in memory."""
+import os
 import re
 import tempfile
 from contextlib import contextmanager
-from itertools import islice
+from functools import lru_cache, wraps
+from itertools import chain, islice
 
 from spanprof.command import naming
 from spanprof.text import DIVIDER, has_loops
@@ -32,13 +34,15 @@ class TextFile:
                 before = piece[-len(divider):]
         return False
 
+    def pieces(self):
+        """Lists of its lines."""
+        with open(self.path, "rb") as file:
+            while piece := file.read(PIECE // 4):
+                yield (piece + file.readline()).decode("utf-8", "replace").split("\n")
+
     def lines(self):
-        """Of the text with its ends of lines."""
-        if self.is_cut():
-            yield from str(self).splitlines(True)
-        else:
-            with open(self.path, encoding="utf-8", errors="replace", newline="\n") as file:
-                yield from file
+        """Of the text, and some that are empty."""
+        return iter(str(self).split("\n")) if self.is_cut() else chain.from_iterable(self.pieces())
 
     def has_loops(self):
         """By the header, which is looked for among the first lines."""
@@ -55,6 +59,20 @@ class TextFile:
         else:
             with open(self.path, "rb") as file:
                 yield file
+
+
+def read_once(read):
+    """Of a path; it is read again where the file has changed, or the words `by` are others."""
+    @lru_cache(maxsize=2)
+    def kept(path, *_):
+        return read(path)
+
+    @wraps(read)
+    def answer(path, *by):
+        with naming(path):
+            now = os.stat(path)
+        return kept(os.path.abspath(path), now.st_ino, now.st_size, now.st_mtime_ns, *by)
+    return answer
 
 
 @contextmanager

@@ -3,6 +3,7 @@ import contextlib
 import io
 import os
 import unittest
+from unittest import mock
 
 import install
 from spanprof.errors import Fault
@@ -45,6 +46,21 @@ class Plan(unittest.TestCase):
 
     def test_tests_and_the_installer_stay_behind(self):
         self.assertFalse([path for path in install.shared_files() if "tests/" in path or path.endswith("install.py")])
+
+
+class Programs(InFolder):
+    def test_named_proved_or_without_proofs(self):
+        proved = [self.write(name) for name in ("spanprof", "spanprof_large")]
+        self.assertEqual(install.programs({}, proved), tuple(proved))
+        self.assertEqual(install.programs({"SPANPROF": "mine"}, proved), ("mine", proved[1]))
+        missing = ("no such program", "nor this one")
+        self.assertEqual(install.programs({"SPANPROF_LARGE": "mine"}, missing), (missing[0], "mine"))
+        others = [self.write("reference/" + name) for name in ("spanprof", "spanprof_large")]
+        with mock.patch.object(install, "other_places_of", lambda name: (
+                "nowhere/" + name, os.path.join(self.folder, "reference", name))):
+            self.assertEqual(install.programs({}, missing), tuple(others))
+        with mock.patch.object(install, "other_places_of", lambda name: ("nowhere/" + name,)):
+            self.assertEqual(install.programs({}, missing), missing)
 
 
 class Library(InFolder):
@@ -111,7 +127,7 @@ class Prefix(InFolder):
 
     def test_a_file_that_is_missing(self):
         missing = os.path.join(self.folder, "none")
-        for path, words in (("libexec/spanprof/spanprof", "none: no such program; README.md says"),
+        for path, words in (("libexec/spanprof/spanprof", "none: no such program; ./demo builds one"),
                             ("lib/x.so", "none: no such file")):
             self.pairs[1] = (missing, path)
             with self.assertRaisesRegex(Fault, words):

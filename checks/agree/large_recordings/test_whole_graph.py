@@ -5,7 +5,7 @@ import unittest
 
 sys.path.insert(0, os.path.dirname(os.path.dirname(os.path.abspath(__file__))))
 
-from any_size import chain, draw, independent, nested, tree
+from random_programs import chain, draw, independent, nested, tree
 from whole_graph import SHARED, WORDS, read
 
 

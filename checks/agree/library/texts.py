@@ -4,8 +4,8 @@ import subprocess
 import sys
 
 TOP = pathlib.Path(__file__).resolve().parents[3]
-sys.path[:0] = [str(TOP / "checks" / folder) for folder in ("agree", "hostile")]
-from damaged_texts import LOOPS, PLAIN, damaged  # noqa: E402
+sys.path.insert(0, str(TOP / "checks" / "agree"))
+from damaged import LOOPS, PLAIN, damaged  # noqa: E402
 
 HOSTILE = (b"", b"\n", b"omptasks", b"omptasks 3\n", b"\0" * 64, b"omptasks 1\n" + b"{" * 100, b"omptasks 1 # \xff\xfe",
            b"omptasks 1\n" + b"task { " * 65, b"omptasks 1 work 1000000000001", b"omptasks 1\nwork " + b"9" * 4096,

@@ -16,8 +16,8 @@ from unseen import UNSEEN
 
 from spanprof.predict.estimate import estimate
 from spanprof.predict.machine import read_machine
+from spanprof.predict.predictions import undisturbed
 from spanprof.predict.recorded import lines_after_the_divider, recorded_as, take_times
-from spanprof.predict.scaled import SLOW
 
 COVERED, WORST = 0.9, 0.20
 FEWEST = 5      # quiet turns, of which alone the times are taken
@@ -111,13 +111,6 @@ def runs_of(measured, turns, program):
     return dict(found)
 
 
-def without_slow(several, unrecorded):
-    """Of several recordings on one number of threads those that spanprof-predict takes, where it knows how long the
-    unrecorded runs took."""
-    fast = [one for one in several if one.elapsed <= SLOW * statistics.median(unrecorded)]
-    return fast if len(several) > 1 and fast else several
-
-
 def in_groups(case, recordings, together):
     """Lists of recordings by threads: the first ones of a program, the next ones, and so on. What is left over at the
     end does not count, nor turns in which it was not recorded on all threads of the case."""
@@ -131,11 +124,11 @@ def judged(task, recordings, kind, together):
     """Predictions by so many recordings on each number of threads."""
     case, true = kind.case, statistics.median(task.runs[kind.version, kind.case.threads])
     for number, found in enumerate(in_groups(case, recordings, together), 1):
-        of = {threads: without_slow(several, task.runs[BEFORE, threads]) for threads, several in found.items()}
+        found = {threads: undisturbed(several) for threads, several in found.items()}
         if case.is_changed:
-            of = {threads: [changed(task.made, one) for one in several] for threads, several in of.items()}
-        one = estimate(of, task.machine, case.threads)
-        yield of_estimate(one, task.made.name, number, case, true, min(map(len, of.values())))
+            found = {threads: [changed(task.made, one) for one in several] for threads, several in found.items()}
+        one = estimate(found, task.machine, case.threads)
+        yield of_estimate(one, task.made.name, number, case, true, min(map(len, found.values())))
 
 
 def judge_program(task):

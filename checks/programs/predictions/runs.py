@@ -16,17 +16,17 @@ OPTIONS = ("-O2", "-g", "-fopenmp", "-fno-optimize-sibling-calls")
 def compiled(words, one, version, path, linked=()):
     """The path of a program, before or after its change, which is compiled. A program is known by its source's name, in
     places too."""
-    source = one.rewritten if version == "after" and one.rewritten else one.source
-    flags = ["-DREWRITTEN"] if version == "after" and not one.rewritten else []
+    flags = ["-DREWRITTEN"] if version == "after" else []
     path.parent.mkdir(parents=True, exist_ok=True)
-    subprocess.run([*words, *OPTIONS, *flags, str(TOP / (source + ".c")), "-o", str(path), *linked], check=True)
+    source = HERE / "unseen" / (one.name + ".c")
+    subprocess.run([*words, *OPTIONS, *flags, str(source), "-o", str(path), *linked], check=True)
     return path
 
 
 def build_clock(folder):
     """Of regions, in a folder that is made."""
     folder.mkdir(parents=True, exist_ok=True)
-    subprocess.run(["gcc", "-O2", "-shared", "-fPIC", str(HERE / "programs" / "region_clock.c"), "-o",
+    subprocess.run(["gcc", "-O2", "-shared", "-fPIC", str(HERE / "region_clock.c"), "-o",
                     str(folder / "region_clock.so"), "-ldl"], check=True)
 
 

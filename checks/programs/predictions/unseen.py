@@ -1,16 +1,10 @@
-"""Programs that nothing was fitted to, each with a change that was made to it, and those that were of this kind before.
-The model may not be changed by what is measured on UNSEEN: whoever does so puts them to FORMERLY, and writes others."""
-from changes import GRAIN, LONG, Made
-
-FOLDER = "checks/programs/predictions/unseen/"
+"""Programs that nothing was fitted to, each with a change that was made to it. Whoever changes the model by what is
+measured on them writes others."""
+from changes import GRAIN, Made
 
 
 def unseen(name, *changes):
-    return Made(name, FOLDER + name, changes)
-
-
-def formerly(name, *changes):
-    return Made(name, LONG + name, changes)
+    return Made(name, changes)
 
 
 UNSEEN = (
@@ -29,20 +23,4 @@ UNSEEN = (
     unseen("hash_join", (GRAIN, "task at hash_join.c:75=4")),
     unseen("rays", ("factor", "task at rays.c=0.5")),
     unseen("tally", ("split", "task at tally.c=5")),
-)
-FORMERLY = (
-    formerly("quadrature", ("cutoff", "6")),
-    formerly("quicksort", ("drop-wait", "taskwait at quicksort.c")),
-    formerly("pipeline", ("drop-name", "a2")),      # as recordings call the address of `filter`
-    formerly("kmeans", ("split", "task at kmeans.c=4")),
-    formerly("histogram", ("join", "task at histogram.c=4")),
-    formerly("levels", ("join", "task at levels.c=4")),
-    formerly("words", ("task", "after taskwait at words.c")),
-    formerly("paths", ("drop-wait", "taskwait at paths.c")),
-    formerly("gradient", ("join", "task at gradient.c:45=4"), ("join", "task at gradient.c:51=4")),
-    formerly("tour", ("cutoff", "2")),
-    formerly("fourier", (GRAIN, "after taskwait at fourier.c:53=8")),
-    formerly("rounds", ("factor", "task at rounds.c:35=0.5")),
-    formerly("stock", ("task", "after creating a task at stock.c:34")),
-    formerly("collatz", ("split", "task at collatz.c:20=6")),
 )

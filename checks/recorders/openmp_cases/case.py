@@ -16,7 +16,7 @@
     // in FILE: PATTERN           in this file, of which each line has its own beginning and end
     // file: NAME ..              which must lie there, or by `no file:` after the first run must not
     // expect: WHAT OP NUMBER     work, span, tasks, parallelism of out.tasks; covers (percent), `most held lock`,
-    //                            affected and `off the processor` of its head; or `inout span` of out.inout.tasks
+    //                            affected and `off the processor` of its head
 """
 import fnmatch
 import operator
@@ -137,5 +137,5 @@ def numbers_of_head(text):
     head = read_head(text)
     found = {"covers": 100 * head.covered / head.thread_time if head.thread_time else None,
              "most held lock": head.most_held, "affected": head.clocks_differ.get("affected"),
-             "off the processor": head.clocks_differ.get("by")}
+             "off the processor": head.clocks_differ.get("by", head.taken_off.get("by"))}
     return {name: number for name, number in found.items() if number is not None}

@@ -24,7 +24,7 @@ from versions import asked  # noqa: E402
 
 SPANPROF = os.environ.get("SPANPROF", os.path.join(TOP, "crates/spanprof/out/spanprof"))
 SPANPROF_LARGE = os.environ.get("SPANPROF_LARGE", os.path.join(TOP, "crates/spanprof_large/out/spanprof_large"))
-JUDGES = {".replay": [SPANPROF_LARGE, "replay"], ".timed": [SPANPROF_LARGE, "account"]}
+JUDGES = {".timed": [SPANPROF_LARGE, "account"]}
 SPAN = [SPANPROF_LARGE] if os.access(SPANPROF_LARGE, os.X_OK) else [SPANPROF, "span"]
 SECONDS = 120  # for one run
 TRIES, OF_MEASURED = 2, 3
@@ -50,13 +50,11 @@ def judged(words, text):
 def numbers_of(files):
     """Work, span and more of the texts, as spanprof tells them."""
     out = numbers_of_head(files.get("out.tasks", ""))
-    for name, prefix in (("out.tasks", ""), ("out.inout.tasks", "inout ")):
-        if name not in files:
-            continue
-        told = dict(line.split() for line in judged(SPAN, files[name]).stdout.split("\n") if line)
-        out.update({prefix + what: int(number) for what, number in told.items()})
-        out[prefix + "tasks"] = count_tasks(files[name])
-        out[prefix + "parallelism"] = out[prefix + "work"] / max(out[prefix + "span"], 1)
+    if "out.tasks" in files:
+        told = dict(line.split() for line in judged(SPAN, files["out.tasks"]).stdout.split("\n") if line)
+        out.update({what: int(number) for what, number in told.items()})
+        out["tasks"] = count_tasks(files["out.tasks"])
+        out["parallelism"] = out["work"] / max(out["span"], 1)
     return out
 
 
@@ -70,7 +68,8 @@ def refused_runs(files):
 
 
 def run(words, folder, settings):
-    ours = {"OMP_NUM_THREADS": "4", "OMP_TOOL_LIBRARIES": RECORDER, "SPANPROF_OUT": os.path.join(folder, "out")}
+    ours = {"OMP_NUM_THREADS": "4", "OMP_TOOL_LIBRARIES": RECORDER, "SPANPROF_OUT": os.path.join(folder, "out"),
+            "SPANPROF_TIMES": "1"}
     environment = {**os.environ, **ours, **settings}
     done = subprocess.run(words, env=environment, capture_output=True, text=True, timeout=SECONDS)
     said = done.stderr + converted(folder, environment)

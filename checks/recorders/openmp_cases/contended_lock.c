@@ -4,7 +4,7 @@
 // expect: work <= 90000000
 // text: # lock: \{"kind": "critical", "at": "contended_lock.c:\d+", "times": 32, "inside": (3[2-9]|4\d)\d{6},
 // expect: most held lock >= 32000000
-// text: # remark: time inside locks, which exclude each other, 32 times at contended_lock.c:\d+: span too low
+// text: # remark: time inside locks, whose mutual exclusion is left out, 32 times at contended_lock.c:\d+: span too low
 #include "spend.h"
 
 int main(void) {

@@ -1,6 +1,6 @@
 // A child that met no construct has nothing to write, so its end by a signal is no news; the parent's files are whole.
-// says: ^spanprof recorder: recording to \S+\n(\S+: [a-z].*\n)*\S+out.tasks: \d+ tasks, \d+ segments
-// file: out.tasks out.replay
+// says: ^spanprof recorder: recording to \S+\n(\S+: [a-z].*\n)*\S+out.tasks and \S+out.timed: \d+ tasks, \d+ segments
+// file: out.tasks out.timed
 // no file: out.child[0-9]*.tasks
 #include <signal.h>
 #include <sys/wait.h>

@@ -1,11 +1,9 @@
-// More regions at a place than are written: the median one is, and the one next to it; the others are told with their
-// work.
-// env: SPANPROF_REGIONS=2
+// Of several regions the median one is written where one is asked for.
+// env: SPANPROF_REGION=
 // clock: counted
-// says: 3 more regions with tasks are not written, work \d+ ns: of each place those next to its median are
-// text: # region: \{"at": "many_regions.c:16", "number": 1, "of": 5\}
-// file: out.tasks out.2.tasks out.regions
-// no file: out.3.tasks
+// text: # region: \{"at": "many_regions.c:14", "number": 1, "of": 5\}
+// file: out.tasks out.regions
+// no file: out.2.tasks
 // expect: work >= 6000000
 // expect: work <= 11000000
 #include "spend.h"

@@ -1,5 +1,6 @@
 // Four threads on one processor: by the wall clock the tasks take longer than they need, and the head says how much.
 // measured: how the threads share the processor
+// env: SPANPROF_CLOCK=wall
 // expect: work >= 54000000
 // expect: off the processor >= 20000000
 // text: # remark: preempted in code.*: work and span too high

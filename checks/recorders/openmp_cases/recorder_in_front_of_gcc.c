@@ -5,26 +5,4 @@
 // in out.locks: "kind": "omp_lock", "times": 8, "inside_ns"
 // in out.locks: "kind": "critical", "times": 8, "inside_ns"
 // in out.regions: ^1,0,\d+,\d+,4,4,8,
-#include <omp.h>
-
-#include "spend.h"
-
-static int count;
-
-int main(void) {
-    omp_lock_t lock;
-    omp_init_lock(&lock);
-#pragma omp parallel
-#pragma omp single
-    for (int i = 0; i < 8; i++) {
-#pragma omp task
-        {
-            omp_set_lock(&lock);
-            spend(1);
-            omp_unset_lock(&lock);
-#pragma omp critical
-            count++;
-        }
-    }
-    return 0;
-}
+#include "recorder_in_front.c"

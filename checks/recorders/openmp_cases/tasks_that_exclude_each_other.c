@@ -1,10 +1,8 @@
-// `mutexinoutset` as a bracket: one text with a span too low, one with a span too high.
-// text: # remark: mutexinoutset, 12 times at tasks_that_exclude_each_other.c:\d+: span too low, and too high in
+// `mutexinoutset` is written as `inoutset`, so the span is too low.
+// text: # remark: mutexinoutset, 12 times at tasks_that_exclude_each_other.c:\d+: span too low
 // text: depend\(inoutset: a0\)
-// file: out.inout.tasks
 // clock: counted
 // expect: span <= 8000000
-// expect: inout span >= 12000000
 #include "spend.h"
 
 int main(void) {

@@ -3,7 +3,7 @@
 
     regions.py [COUNT] [--from SEED] [--with FEATURE,..] [--keep FOLDER]
 
-COUNT programs are drawn from the seeds from SEED on, compiled, run with the recorder and replayed by spanprof. A
+COUNT programs are drawn from the seeds from SEED on, compiled, run with the recorder and judged by spanprof. A
 program that fails is made smaller and kept in FOLDER with what is wrong. The times of its regions and of the whole
 program have to be legal too, where spanprof_large is there. SPANPROF names the program
 (crates/spanprof/out/spanprof), SPANPROF_LARGE that one, RECORDER the recorder's library, LLVM its version. Status 1:

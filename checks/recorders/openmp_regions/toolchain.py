@@ -1,4 +1,4 @@
-"""Compiles a program, runs it with the recorder, and has spanprof replay its run."""
+"""Compiles a program, runs it with the recorder, and has spanprof judge its run."""
 import glob
 import os
 import shutil
@@ -77,8 +77,6 @@ def environment(tools, drawn, threads, folder, is_recorded):
 def read_texts(folder):
     texts = {}
     for path in glob.glob(os.path.join(folder, "out*.tasks")):
-        if path.endswith(".inout.tasks"):
-            continue  # the other bound of a region with mutexinoutset
         with open(path, encoding="utf-8") as file:
             texts[os.path.basename(path)[:-6]] = file.read()
     return texts
@@ -100,24 +98,7 @@ def run(tools, drawn, threads, program, folder, is_recorded=True):
 
 def converted(folder):
     """What is said of the run's log when it is made texts."""
-    return texts(os.path.join(folder, "out"), {"SPANPROF_REGIONS": "1000", "SPANPROF_TIMES": "1"})[0]
-
-
-def replay(tools, folder, name):
-    """What spanprof says of the recorded run: words where it is not whole or not legal, else nothing."""
-    path = os.path.join(folder, name + ".replay")
-    if not os.path.exists(path):
-        return "no replay document"
-    with open(path, "rb") as file:
-        done = subprocess.run(tools.spanprof + ["replay"], stdin=file, capture_output=True, text=True)
-    if done.returncode:
-        return done.stdout.strip()
-    with open(path, encoding="utf-8") as file:
-        span = subprocess.run(tools.spanprof + ["span"], input=file.read().split("\n---\n")[0] + "\n",
-                              capture_output=True, text=True)
-    segments = int(span.stdout.split()[1])
-    events, finished = [int(line.split()[1]) for line in done.stdout.split("\n")[:2]]
-    return "" if (events, finished) == (2 * segments, segments) else "%d of %d segments finished" % (finished, segments)
+    return texts(os.path.join(folder, "out"), {"SPANPROF_TIMES": "1"})[0]
 
 
 def refusal(document):

@@ -89,9 +89,6 @@ def judge_run(tools, drawn, threads, program, folder):
     if told:
         return "wrong", told
     for name in sorted(run.texts):
-        told = toolchain.replay(tools, folder, name)
-        if told:
-            return "refused", "%s.replay: %s" % (name, told)
         told = toolchain.account(folder, name)
         if told:
             return "refused", "%s.timed: %s" % (name, told)

@@ -1,5 +1,5 @@
 #!/usr/bin/env python3
-"""Records programs that are slow for a known cause, by both clocks, and holds the account of each run against it.
+"""Records programs that are slow for a known cause, by each clock, and holds the account of each run against it.
 
     judge.py CAUSES [shares]       the program of checks/recorders/recorded_accounts/causes.c
 `shares` judges on a quiet machine which cause is the largest. Then each is recorded again, three times at most, where
@@ -20,8 +20,9 @@ TRIES = 3
 
 def recorded(program, name, clock, folder):
     out = os.path.join(folder, name)
-    options = ["--force", "--out", out, "--unit", "us", "--threads", "4", "--clock", clock, "--json", out + ".json"]
-    words = [RECORD, *options, "--", program, name]
+    options = ["--force", "--out", out, "--unit", "us", "--threads", "4", "--json", out + ".json"]
+    asked = ["--clock", clock] if clock != "own" else []
+    words = [RECORD, *options, *asked, "--", program, name]
     done = subprocess.run(words, capture_output=True, text=True, errors="replace", check=False)
     if done.returncode:
         sys.exit("%s: status %d\n%s" % (name, done.returncode, done.stderr))
@@ -50,7 +51,7 @@ def judge(program, name, clock, folder, is_quiet):
 def main(words):
     program, is_quiet = os.path.abspath(words[0]), words[1:] == ["shares"]
     with tempfile.TemporaryDirectory() as folder:
-        wrong = [judge(program, name, clock, folder, is_quiet) for name in EXPECTED for clock in ("wall", "cpu")]
+        wrong = [judge(program, name, clock, folder, is_quiet) for name in EXPECTED for clock in ("own", "wall", "cpu")]
     print("%d accounts, %d wrong" % (len(wrong), sum(wrong)))
     sys.exit(any(wrong))
 

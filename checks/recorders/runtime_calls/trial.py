@@ -50,7 +50,7 @@ def run(words, folder, seconds, **more):
     """Its exit status and what it wrote to standard error and output; no status where it did not end."""
     try:
         done = subprocess.run(words, cwd=folder, capture_output=True, timeout=seconds, stdin=subprocess.DEVNULL,
-                              env=dict(os.environ, OMP_NUM_THREADS="4", SPANPROF_REGIONS="1000", **more))
+                              env=dict(os.environ, OMP_NUM_THREADS="4", **more))
     except subprocess.TimeoutExpired:
         return None, "", b""
     return done.returncode, done.stderr.decode("utf-8", "replace"), done.stdout
@@ -81,8 +81,8 @@ def calls_of(setting, folder):
 
 
 def paths(folder):
-    """Of the recorded texts, but for the other bound of a region with mutexinoutset."""
-    return [it for it in glob.glob(os.path.join(folder, "out*.tasks")) if not it.endswith(".inout.tasks")]
+    """Of the recorded texts."""
+    return glob.glob(os.path.join(folder, "out*.tasks"))
 
 
 def texts(folder):
@@ -111,7 +111,7 @@ def recorded(setting, folder):
         shutil.rmtree(path) if os.path.isdir(path) else os.remove(path)
     options = ["--out", "out"] + (["--runtime", setting.library] if setting.library else [])
     status, said, printed = run([setting.recorder, *options, "--", "./program"], folder, setting.seconds)
-    more, _ = recording.texts(os.path.join(folder, "out"), {"SPANPROF_REGIONS": "1000"})
+    more, _ = recording.texts(os.path.join(folder, "out"))
     return texts(folder) + (status, said + more, printed)
 
 

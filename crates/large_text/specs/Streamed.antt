@@ -3,7 +3,7 @@ use Rattle.std.specs.Prelude.{◌≡◌, ℕ, ◌<◌, ◌≤◌, true, false, L
 use Rattle.program_text.specs.declared.limits.TheConstants.{MOST_TEXT_BYTES}
 use Rattle.large_text.specs.declared.plain_stream.PlainMeter.{PlainMeter}
 use Rattle.large_text.specs.declared.stream.Stage.{Stage}
-use Rattle.large_text.specs.declared.stream.Stage.TheVariants.{Kept, Plain, TooLong}
+use Rattle.large_text.specs.declared.stream.Stage.TheVariants.{Kept, Plain, TooLong, Spent}
 use Rattle.large_text.specs.declared.stream.TextMeter.{TextMeter}
 use Rattle.large_text.specs.LargeTexts.{FitsText, is_large_two}
 use Rattle.large_text.specs.PlainStreamed.{HasTakenPlain}
@@ -33,11 +33,16 @@ abbrev pub HasTakenIn : Stage → (bytes head : List ℕ) → PlainMeter → Typ
 HasTakenIn Kept bytes head plain = HasKept bytes head plain
 HasTakenIn Plain bytes head plain = IsPlain bytes plain
 HasTakenIn TooLong bytes head plain = IsTooLongTwo bytes
+HasTakenIn Spent bytes head plain = Unit {0}
 
 -- the meter has taken these bytes, with which a text begins
 pub record HasTaken (bytes : List ℕ) (text_meter : TextMeter) : Type 0 where
   pub fits : FitsText bytes
   pub taken : HasTakenIn text_meter.stage bytes text_meter.head.items text_meter.plain
+
+-- memory ran out in an earlier call
+abbrev pub IsSpent : TextMeter → Type 0
+IsSpent text_meter = text_meter.stage ≡ Spent
 
 -- it keeps the rows of the table beside
 abbrev pub KeepsRows : TextMeter → Type 0
@@ -58,3 +63,7 @@ abbrev pub TakesBytes : List ℕ → (before after : TextMeter) → Type 0
 TakesBytes more before after =
     (taken : List ℕ) → FitsText (taken ++ more)
     → HasTaken taken before → HasTaken (taken ++ more) after
+
+-- what was taken before is taken after
+abbrev pub KeepsBytes : (before after : TextMeter) → Type 0
+KeepsBytes before after = (taken : List ℕ) → HasTaken taken before → HasTaken taken after

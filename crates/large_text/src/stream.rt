@@ -1,6 +1,6 @@
 //! Work and span of a text that comes in pieces, in either version.
 ghost use Rattle.std.specs.Prelude.{◌≡◌, ◌≢◌, ◌≤◌, ◌<◌, ◌-◌, [], List, ℕ, IfOk, IfErr, IsTrue, OnOk};
-ghost use Rattle.std.specs.Prelude.{length};
+ghost use Rattle.std.specs.Prelude.{length, Err, OnErr, is_ok, false};
 ghost use Rattle.std.specs.Option.{IfSome, is_some};
 ghost use Rattle.program_text.specs.declared.fault.ReadKind.TheVariants.{OutOfMemory};
 ghost use Rattle.program_text.specs.declared.limits.TheConstants.{MOST_TEXT_BYTES};
@@ -9,6 +9,7 @@ ghost use Rattle.large_text.specs.LargeTexts.{IsLargeFault};
 ghost use Rattle.large_text.specs.Measured.{FitsTable, IsCanonicalOf, IsTableOfText, MeasuresText, TalliesText};
 ghost use Rattle.large_text.specs.PlainStreamed.{HasTakenPlain};
 ghost use Rattle.large_text.specs.Streamed.{CanTakeBytes, HasTaken, IsNeverTwo, KeepsRows, KeepsText, TakesBytes};
+ghost use Rattle.large_text.specs.Streamed.{IsSpent, KeepsBytes};
 ghost use Rattle.large_text.specs.Tallied.{IsBegun, keeps_rows, keeps_text};
 ghost use Rattle.large_text.specs.declared.stream.Stage.TheVariants.{Kept};
 
@@ -35,6 +36,8 @@ enum Stage {
     Plain,
     /// It is of version 2, and too long.
     TooLong,
+    /// Memory ran out.
+    Spent,
 }
 
 /// Takes the bytes of a text piece by piece, however it is cut, and measures what it says. A text of
@@ -98,12 +101,33 @@ impl TextMeter {
         }
     }
 
-    /// Takes the next bytes of the text, at most `LARGEST_PIECE`. After an `Err` the meter can take no
-    /// more.
+    /// Takes the next bytes of the text, at most `LARGEST_PIECE`. After an `Err` the meter is spent: it
+    /// answers every later call with out of memory.
     pub fn take(&mut self, bytes: &[u8]) -> Result<(), AllocFault>
         requires room { CanTakeBytes bytes.now self.old }
         requires piece { length bytes.now ≤ LARGEST_PIECE }
         ensures takes { OnOk result (TakesBytes bytes.now self.old self.new) }
+        ensures refused { OnErr result (IsSpent self.new) }
+        ensures kept { OnErr result (KeepsBytes self.old self.new) }
+        ensures spent { IsSpent self.old → is_ok result ≡ false }
+        ensures rows { KeepsRows self.old → KeepsRows self.new }
+        ensures text { KeepsText self.old → KeepsText self.new }
+    {
+        match self.take_next(bytes) {
+            Ok(()) => Ok(()),
+            Err(fault) => {
+                self.stage = Stage::Spent;
+                Err(fault)
+            }
+        }
+    }
+
+    // What `take` does while there is memory.
+    fn take_next(&mut self, bytes: &[u8]) -> Result<(), AllocFault>
+        requires room { CanTakeBytes bytes.now self.old }
+        requires piece { length bytes.now ≤ LARGEST_PIECE }
+        ensures takes { OnOk result (TakesBytes bytes.now self.old self.new) }
+        ensures spent { IsSpent self.old → is_ok result ≡ false }
         ensures rows { KeepsRows self.old → KeepsRows self.new }
         ensures text { KeepsText self.old → KeepsText self.new }
     {
@@ -111,6 +135,7 @@ impl TextMeter {
             Stage::Kept => self.take_first(bytes),
             Stage::Plain => self.plain.take(bytes),
             Stage::TooLong => Ok(()),
+            Stage::Spent => Err(AllocFault),
         }
     }
 
@@ -195,6 +220,7 @@ impl TextMeter {
         ensures refused { IfErr result (λ fault. fault.kind ≢ OutOfMemory
             → (text : List ℕ) → HasTaken text self → IsLargeFault text fault) }
         ensures memory { IfErr result (λ fault. fault.kind ≡ OutOfMemory → fault.line ≡ 0) }
+        ensures spent { IsSpent self → result ≡ Err (record { kind = OutOfMemory; line = 0 }) }
     {
         Ok(self.whole()?.into_meter())
     }
@@ -209,6 +235,7 @@ impl TextMeter {
         ensures refused { IfErr result (λ fault. fault.kind ≢ OutOfMemory
             → (text : List ℕ) → HasTaken text self → IsLargeFault text fault) }
         ensures memory { IfErr result (λ fault. fault.kind ≡ OutOfMemory → fault.line ≡ 0) }
+        ensures spent { IsSpent self → result ≡ Err (record { kind = OutOfMemory; line = 0 }) }
     {
         Ok(self.whole()?.into_table())
     }
@@ -226,6 +253,7 @@ impl TextMeter {
         ensures refused { IfErr result (λ fault. fault.kind ≢ OutOfMemory
             → (text : List ℕ) → HasTaken text self → IsLargeFault text fault) }
         ensures memory { IfErr result (λ fault. fault.kind ≡ OutOfMemory → fault.line ≡ 0) }
+        ensures spent { IsSpent self → result ≡ Err (record { kind = OutOfMemory; line = 0 }) }
     {
         Ok(self.whole()?.into_text())
     }
@@ -240,6 +268,7 @@ impl TextMeter {
         ensures refused { IfErr result (λ fault. fault.kind ≢ OutOfMemory
             → (text : List ℕ) → HasTaken text self → IsLargeFault text fault) }
         ensures memory { IfErr result (λ fault. fault.kind ≡ OutOfMemory → fault.line ≡ 0) }
+        ensures spent { IsSpent self → result ≡ Err (record { kind = OutOfMemory; line = 0 }) }
     {
         let TextMeter {
             alloc,
@@ -254,6 +283,10 @@ impl TextMeter {
             Stage::TooLong => Err(LargeFault {
                 kind: ReadKind::TooLong,
                 line: 1,
+            }),
+            Stage::Spent => Err(LargeFault {
+                kind: ReadKind::OutOfMemory,
+                line: 0,
             }),
         }
     }

@@ -14,14 +14,10 @@ int main(void) {
 #pragma omp task
         {
           if (i % 8 == 0) linger();
-#pragma omp atomic
-          ended++;
+          count(&ended);
         }
       }
-      long seen;
-#pragma omp atomic read
-      seen = ended;
-      expect("tasks that have ended behind the loop", seen, 40);
+      expect("tasks that have ended behind the loop", now(&ended), 40);
     }
   }
   return wrong;

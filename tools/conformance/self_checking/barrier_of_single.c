@@ -12,16 +12,9 @@ int main(void) {
 #pragma omp single
       for (int i = 0; i < 16; i++) {
 #pragma omp task
-        {
-          linger();
-#pragma omp atomic
-          ended++;
-        }
+        count_late(&ended);
       }
-      long seen;
-#pragma omp atomic read
-      seen = ended;
-      expect("tasks that have ended behind single", seen, 16);
+      expect("tasks that have ended behind single", now(&ended), 16);
     }
   }
   return wrong;

@@ -8,14 +8,8 @@ static void one_task(void) {
 #pragma omp task
   {
 #pragma omp task
-    {
-      linger();
-#pragma omp atomic
-      ended++;
-    }
-    linger();
-#pragma omp atomic
-    ended++;
+    count_late(&ended);
+    count_late(&ended);
   }
 }
 
@@ -26,10 +20,7 @@ int main(void) {
     {
       for (int i = 0; i < 4; i++) one_task();
 #pragma omp barrier
-      long seen;
-#pragma omp atomic read
-      seen = ended;
-      expect("tasks that have ended behind the barrier", seen, 8L * omp_get_num_threads());
+      expect("tasks that have ended behind the barrier", now(&ended), 8L * omp_get_num_threads());
     }
   }
   return wrong;

@@ -6,19 +6,12 @@
 
 #define LONG_AFTER 200
 
-static int cancelling;
-
-static int seen(int *flag) {
-  int value;
-#pragma omp atomic read
-  value = *flag;
-  return value;
-}
+static long cancelling;
 
 int main(void) {
   expect_so("cancellation counts", omp_get_cancellation());
   for (int round = 0; round < 10; round++) {
-    int behind_point = 0, behind_cancel = 0;
+    long behind_point = 0, behind_cancel = 0;
     cancelling = 0;
 #pragma omp parallel
 #pragma omp single
@@ -27,20 +20,17 @@ int main(void) {
 #pragma omp task shared(behind_point, behind_cancel)
       {
         if (i == 3) {
-#pragma omp atomic write
-          cancelling = 1;
+          set(&cancelling);
 #pragma omp cancel taskgroup
-#pragma omp atomic
-          behind_cancel++;
+          count(&behind_cancel);
         }
         int after = 0;
-        for (int turn = 0; turn < 20 || (seen(&cancelling) && after < LONG_AFTER); turn++) {
+        for (int turn = 0; turn < 20 || (now(&cancelling) && after < LONG_AFTER); turn++) {
 #pragma omp cancellation point taskgroup
-          after += seen(&cancelling);
+          after += now(&cancelling);
           usleep(50);
         }
-#pragma omp atomic
-        behind_point += after == LONG_AFTER;
+        if (after == LONG_AFTER) count(&behind_point);
       }
     }
     expect("tasks that went on behind cancel", behind_cancel, 0);

@@ -5,21 +5,19 @@
 
 int main(void) {
   for (int round = 0; round < 20; round++) {
-    int went_on = 0, threads = 0, behind = 0;
+    long went_on = 0, threads = 0, behind = 0;
 #pragma omp parallel
     {
 #pragma omp for schedule(dynamic, 1)
       for (int i = 0; i < 1000; i++) {
         if (i == 5) {
 #pragma omp cancel for
-#pragma omp atomic
-          went_on++;
+          count(&went_on);
         }
 #pragma omp cancellation point for
         usleep(10);
       }
-#pragma omp atomic
-      behind++;
+      count(&behind);
 #pragma omp single
       threads = omp_get_num_threads();
     }

@@ -5,23 +5,18 @@
 
 int main(void) {
   for (int round = 0; round < 20; round++) {
-    int behind = 0, after = 0;
+    long behind = 0, after = 0;
 #pragma omp parallel
     {
       if (omp_get_thread_num() == 0) {
 #pragma omp cancel parallel
-#pragma omp atomic
-        behind++;
+        count(&behind);
       }
 #pragma omp barrier
-#pragma omp atomic
-      behind++;
+      count(&behind);
     }
 #pragma omp parallel
-    {
-#pragma omp atomic
-      after++;
-    }
+    count(&after);
     expect("threads behind the cancel or the barrier", behind, 0);
     expect_so("the next region runs", after > 0);
   }

@@ -4,35 +4,24 @@
 
 int main(void) {
   for (int round = 0; round < 20; round++) {
-    int a = 0, b = 0, before = 0, seen;
+    int a = 0, b = 0;
+    long before = 0, ended = 0;
     (void)a, (void)b;
 #pragma omp parallel
 #pragma omp single
     {
       for (int i = 0; i < 4; i++) {
 #pragma omp task depend(in : a) shared(before)
-        {
-          linger();
-#pragma omp atomic
-          before++;
-        }
+        count_late(&before);
       }
-#pragma omp task depend(out : omp_all_memory) shared(before)
+#pragma omp task depend(out : omp_all_memory) shared(before, ended)
       {
-#pragma omp atomic read
-        seen = before;
-        expect("siblings that have ended before the task", seen, 4);
+        expect("siblings that have ended before the task", now(&before), 4);
         linger();
-#pragma omp atomic write
-        before = 100;
+        set(&ended);
       }
-#pragma omp task depend(in : b) shared(before)
-      {
-        int later;
-#pragma omp atomic read
-        later = before;
-        expect_so("the task has ended before a later sibling", later == 100);
-      }
+#pragma omp task depend(in : b) shared(ended)
+      expect_so("the task has ended before a later sibling", now(&ended));
     }
   }
   return wrong;

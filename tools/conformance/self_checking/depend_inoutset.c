@@ -4,7 +4,8 @@
 
 int main(void) {
   for (int round = 0; round < 20; round++) {
-    int item = 0, members = 0, seen;
+    int item = 0;
+    long members = 0;
 #pragma omp parallel
 #pragma omp single
     {
@@ -17,17 +18,11 @@ int main(void) {
 #pragma omp task depend(inoutset : item) shared(members)
         {
           expect("what the writer before left", item, 1);
-          linger();
-#pragma omp atomic
-          members++;
+          count_late(&members);
         }
       }
 #pragma omp task depend(in : item) shared(members)
-      {
-#pragma omp atomic read
-        seen = members;
-        expect("members that have ended before the reader", seen, 6);
-      }
+      expect("members that have ended before the reader", now(&members), 6);
     }
   }
   return wrong;

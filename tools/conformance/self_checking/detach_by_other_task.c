@@ -4,7 +4,7 @@
 
 int main(void) {
   for (int round = 0; round < 20; round++) {
-    int fulfilled = 0, seen;
+    long fulfilled = 0;
 #pragma omp parallel
 #pragma omp single
     {
@@ -14,14 +14,11 @@ int main(void) {
 #pragma omp task firstprivate(event) shared(fulfilled)
       {
         linger();
-#pragma omp atomic write
-        fulfilled = 1;
+        set(&fulfilled);
         omp_fulfill_event(event);
       }
 #pragma omp taskwait
-#pragma omp atomic read
-      seen = fulfilled;
-      expect_so("the event was fulfilled before taskwait ended", seen);
+      expect_so("the event was fulfilled before taskwait ended", now(&fulfilled));
     }
   }
   return wrong;

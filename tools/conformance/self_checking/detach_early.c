@@ -2,7 +2,7 @@
 // openmp: 12.5.2 detach clause, 18.11 event routine
 #include "expect.h"
 
-static int ended;
+static long ended;
 
 static void before_it_begins(void) {
   omp_event_handle_t event = (omp_event_handle_t)0;
@@ -11,19 +11,10 @@ static void before_it_begins(void) {
 #pragma omp task depend(out : gate)
   linger();
 #pragma omp task detach(event) depend(in : gate) depend(out : item)
-  {
-    linger();
-#pragma omp atomic
-    ended++;
-  }
+  count_late(&ended);
   omp_fulfill_event(event);
 #pragma omp task depend(in : item)
-  {
-    int seen;
-#pragma omp atomic read
-    seen = ended;
-    expect_so("the code has ended before the dependent task", seen);
-  }
+  expect_so("the code has ended before the dependent task", now(&ended));
 #pragma omp taskwait
 }
 
@@ -32,15 +23,10 @@ static void in_itself(void) {
 #pragma omp task detach(event)
   {
     omp_fulfill_event(event);
-    linger();
-#pragma omp atomic
-    ended++;
+    count_late(&ended);
   }
 #pragma omp taskwait
-  int seen;
-#pragma omp atomic read
-  seen = ended;
-  expect("codes that have ended behind taskwait", seen, 2);
+  expect("codes that have ended behind taskwait", now(&ended), 2);
 }
 
 int main(void) {

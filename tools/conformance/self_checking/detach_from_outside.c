@@ -5,17 +5,12 @@
 #include "expect.h"
 
 static omp_event_handle_t handed_over;
-static int created, fulfilled;
+static long created, fulfilled;
 
 static void *outside(void *unused) {
-  int go;
-  do {
-#pragma omp atomic read
-    go = created;
-  } while (!go);
+  await(&created);
   linger();
-#pragma omp atomic write
-  fulfilled = 1;
+  set(&fulfilled);
   omp_fulfill_event(handed_over);
   return unused;
 }
@@ -27,15 +22,9 @@ static void detached_then_dependent(void) {
 #pragma omp task detach(event) depend(out : item)
   linger();
   handed_over = event;
-#pragma omp atomic write
-  created = 1;
+  set(&created);
 #pragma omp task depend(in : item)
-  {
-    int seen;
-#pragma omp atomic read
-    seen = fulfilled;
-    expect_so("the event was fulfilled before the dependent task", seen);
-  }
+  expect_so("the event was fulfilled before the dependent task", now(&fulfilled));
 }
 
 int main(void) {

@@ -5,14 +5,10 @@
 #include "expect.h"
 
 static omp_event_handle_t handed_over;
-static int created;
+static long created;
 
 static void *outside(void *unused) {
-  int go;
-  do {
-#pragma omp atomic read
-    go = created;
-  } while (!go);
+  await(&created);
   usleep(20000);  // the team waits at its barrier by now
   omp_fulfill_event(handed_over);
   return unused;
@@ -30,8 +26,7 @@ int main(void) {
 #pragma omp task detach(event)
       linger();
       handed_over = event;
-#pragma omp atomic write
-      created = 1;
+      set(&created);
     }
     pthread_join(thread, NULL);
   }

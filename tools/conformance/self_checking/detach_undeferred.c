@@ -5,17 +5,12 @@
 #include "expect.h"
 
 static omp_event_handle_t handed_over;
-static int created, fulfilled;
+static long created, fulfilled;
 
 static void *outside(void *unused) {
-  int go;
-  do {
-#pragma omp atomic read
-    go = created;
-  } while (!go);
+  await(&created);
   usleep(2000);
-#pragma omp atomic write
-  fulfilled = 1;
+  set(&fulfilled);
   omp_fulfill_event(handed_over);
   return unused;
 }
@@ -28,17 +23,11 @@ static void undeferred_then_dependent(void) {
   {
     ran = 1;
     handed_over = event;
-#pragma omp atomic write
-    created = 1;
+    set(&created);
   }
   expect_so("the undeferred task has run", ran);
 #pragma omp task depend(in : item)
-  {
-    int seen;
-#pragma omp atomic read
-    seen = fulfilled;
-    expect_so("the event was fulfilled before the dependent task", seen);
-  }
+  expect_so("the event was fulfilled before the dependent task", now(&fulfilled));
 }
 
 int main(void) {

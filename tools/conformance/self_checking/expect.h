@@ -25,3 +25,30 @@ static inline void expect_so(const char *what, int is_so) {
 
 // So long that other threads get ahead where nothing holds them back.
 static inline void linger(void) { usleep(200); }
+
+// What several threads read and write.
+static inline long now(const long *it) {
+  long seen;
+#pragma omp atomic read
+  seen = *it;
+  return seen;
+}
+
+static inline void set(long *it) {
+#pragma omp atomic write
+  *it = 1;
+}
+
+static inline void count(long *it) {
+#pragma omp atomic
+  ++*it;
+}
+
+static inline void count_late(long *it) {
+  linger();
+  count(it);
+}
+
+static inline void await(const long *it) {
+  while (!now(it)) continue;
+}

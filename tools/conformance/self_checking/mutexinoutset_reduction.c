@@ -4,28 +4,23 @@
 
 int main(void) {
   for (int round = 0; round < 20; round++) {
-    int item = 0, readers = 0, inside = 0;
+    int item = 0;
+    long readers = 0, inside = 0;
 #pragma omp parallel
 #pragma omp single
     {
       for (int i = 0; i < 4; i++) {
 #pragma omp task depend(in : item) shared(readers)
-        {
-          linger();
-#pragma omp atomic
-          readers++;
-        }
+        count_late(&readers);
       }
       for (int i = 0; i < 12; i++) {
 #pragma omp task depend(mutexinoutset : item) shared(item, readers, inside)
         {
-          int others, seen;
+          long others;
 #pragma omp atomic capture
           others = inside++;
-#pragma omp atomic read
-          seen = readers;
           expect("other tasks inside", others, 0);
-          expect("readers that have ended", seen, 4);
+          expect("readers that have ended", now(&readers), 4);
           item++;
 #pragma omp atomic
           inside--;

@@ -4,13 +4,13 @@
 
 int main(void) {
   for (int round = 0; round < 10; round++) {
-    int next = 0, ended = 0;
+    int next = 0;
+    long ended = 0;
 #pragma omp parallel
 #pragma omp for ordered schedule(dynamic, 1)
     for (int i = 0; i < 40; i++) {
 #pragma omp task shared(ended)
-#pragma omp atomic
-      ended++;
+      count(&ended);
 #pragma omp ordered
       {
         expect("the turn in the ordered region", i, next);

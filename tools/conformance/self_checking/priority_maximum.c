@@ -6,15 +6,14 @@
 int main(void) {
   expect("the greatest priority", omp_get_max_task_priority(), 7);
   for (int round = 0; round < 20; round++) {
-    int ran = 0;
+    long ran = 0;
 #pragma omp parallel
 #pragma omp single
     for (int i = 0; i < 40; i++) {
 #pragma omp task priority(i % 12) shared(ran)
       {
         if (i % 5 == 0) linger();
-#pragma omp atomic
-        ran++;
+        count(&ran);
       }
     }
     expect("tasks that ran", ran, 40);

@@ -13,8 +13,7 @@ static void tree(int depth) {
   } else {
     linger();
   }
-#pragma omp atomic
-  ended++;
+  count(&ended);
 }
 
 int main(void) {

@@ -5,7 +5,8 @@
 
 int main(void) {
   for (int round = 0; round < 10; round++) {
-    int sum = 0, tasks = 0;
+    int sum = 0;
+    long tasks = 0;
 #pragma omp parallel num_threads(2)
 #pragma omp single
     for (int i = 0; i < 4; i++) {
@@ -17,8 +18,7 @@ int main(void) {
 #pragma omp for reduction(+ : team)
           for (int k = 0; k < 10; k++) team += k;
 #pragma omp task shared(tasks)
-#pragma omp atomic
-          tasks++;
+          count(&tasks);
         }
         expect("the sum of a region in a task", team, 45);
 #pragma omp atomic

@@ -5,34 +5,23 @@
 int main(void) {
   if (omp_get_max_threads() < 2) return 0;
   for (int round = 0; round < 20; round++) {
-    int let_go = 0, began = 0, in_group = 0;
+    long let_go = 0, began = 0, in_group = 0;
 #pragma omp parallel num_threads(2)
 #pragma omp single
     {
 #pragma omp task shared(let_go, began)
       {
-        int go;
-#pragma omp atomic write
-        began = 1;
-        do {
-#pragma omp atomic read
-          go = let_go;
-        } while (!go);
+        set(&began);
+        await(&let_go);
       }
-      int begun;
-      do {
-#pragma omp atomic read
-        begun = began;
-      } while (!begun);
+      await(&began);
 #pragma omp taskgroup
       {
 #pragma omp task shared(in_group)
-#pragma omp atomic
-        in_group++;
+        count(&in_group);
       }
       expect("tasks of the group that have ended", in_group, 1);
-#pragma omp atomic write
-      let_go = 1;
+      set(&let_go);
     }
   }
   return wrong;

@@ -3,20 +3,15 @@
 #include "expect.h"
 
 #define TURNS 100
-static int turns_of[TURNS + 1], tasks;
+static long turns_of[TURNS + 1];
+static int tasks;
 
-static int number_of_task(int *number) {
+static void count_turn(int *number) {
   if (*number < 0) {
 #pragma omp atomic capture
     *number = tasks++;
   }
-  return *number;
-}
-
-static void count(int *number) {
-  int task = number_of_task(number);
-#pragma omp atomic
-  turns_of[task]++;
+  count(&turns_of[*number]);
 }
 
 static void forget(void) {
@@ -27,7 +22,7 @@ static void forget(void) {
 static void by_grain(int turns, int grain) {
   int number = -1, sum = 0;
 #pragma omp taskloop grainsize(grain) firstprivate(number)
-  for (int i = 0; i < turns; i++) count(&number);
+  for (int i = 0; i < turns; i++) count_turn(&number);
   for (int i = 0; i < tasks; i++) {
     sum += turns_of[i];
     if (turns_of[i] < grain && turns >= grain) expect("turns of a task, at least the grain size", turns_of[i], grain);
@@ -40,7 +35,7 @@ static void by_grain(int turns, int grain) {
 static void by_number(int turns, int wanted) {
   int number = -1;
 #pragma omp taskloop num_tasks(wanted) firstprivate(number)
-  for (int i = 0; i < turns; i++) count(&number);
+  for (int i = 0; i < turns; i++) count_turn(&number);
   expect("tasks by num_tasks", tasks, wanted < turns ? wanted : turns);
   forget();
 }

@@ -4,32 +4,20 @@
 
 int main(void) {
   for (int round = 0; round < 20; round++) {
-    long ended = 0, seen;
+    long ended = 0;
 #pragma omp parallel
 #pragma omp single
     {
 #pragma omp taskloop grainsize(1) shared(ended)
       for (int i = 0; i < 8; i++) {
 #pragma omp task shared(ended)
-        {
-          linger();
-#pragma omp atomic
-          ended++;
-        }
+        count_late(&ended);
       }
-#pragma omp atomic read
-      seen = ended;
-      expect("tasks below the taskloop that have ended", seen, 8);
+      expect("tasks below the taskloop that have ended", now(&ended), 8);
 #pragma omp taskloop nogroup grainsize(1) shared(ended)
-      for (int i = 0; i < 8; i++) {
-        linger();
-#pragma omp atomic
-        ended++;
-      }
+      for (int i = 0; i < 8; i++) count_late(&ended);
 #pragma omp taskwait
-#pragma omp atomic read
-      seen = ended;
-      expect("turns that have ended behind taskwait", seen, 16);
+      expect("turns that have ended behind taskwait", now(&ended), 16);
     }
   }
   return wrong;

@@ -5,15 +5,14 @@
 #include "expect.h"
 
 #define TURNS 200
-static int seen[TURNS];
+static long seen[TURNS];
 
 static void once(long turn) {
   if (turn < 0 || turn >= TURNS) {
     expect("the number of a turn, of which 0 to 199 are right", turn, turn < 0 ? 0 : TURNS - 1);
     return;
   }
-#pragma omp atomic
-  seen[turn]++;
+  count(&seen[turn]);
 }
 
 static void look(const char *loop, int turns) {
@@ -48,10 +47,7 @@ static void wide(void) {
   for (uint64_t i = 90; i > 40; i -= 9) once((90 - i) / 9);
   look("runs of a turn, 64 bits downwards", 6);
 #pragma omp taskloop
-  for (int *p = seen; p < seen + 90; p += 10) {
-#pragma omp atomic
-    p[0]++;
-  }
+  for (long *p = seen; p < seen + 90; p += 10) count(p);
   for (int i = 0; i < TURNS; i++) expect("runs of a turn over pointers", seen[i], i < 90 && i % 10 == 0);
   for (int i = 0; i < TURNS; i++) seen[i] = 0;
 }

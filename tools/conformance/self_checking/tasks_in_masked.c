@@ -14,11 +14,7 @@ int main(void) {
         for (int i = 0; i < 12; i++) {
           created++;
 #pragma omp task
-          {
-            linger();
-#pragma omp atomic
-            ended++;
-          }
+          count_late(&ended);
         }
       }
     }

@@ -13,17 +13,10 @@ int main(void) {
       {
         for (int i = 0; i < 3; i++) {
 #pragma omp task
-          {
-            linger();
-#pragma omp atomic
-            ended++;
-          }
+          count_late(&ended);
         }
       }
-      long seen;
-#pragma omp atomic read
-      seen = ended;
-      expect("tasks that have ended behind the scope", seen, 3L * omp_get_num_threads());
+      expect("tasks that have ended behind the scope", now(&ended), 3L * omp_get_num_threads());
     }
   }
   return wrong;

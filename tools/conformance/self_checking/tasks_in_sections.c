@@ -28,12 +28,7 @@ int main(void) {
 #pragma omp section
         add(2);
       }
-      for (int s = 0; s < 3; s++) {
-        long seen;
-#pragma omp atomic read
-        seen = sums[s];
-        expect("sum of a section's tasks", seen, 55L * round);
-      }
+      for (int s = 0; s < 3; s++) expect("sum of a section's tasks", now(&sums[s]), 55L * round);
 #pragma omp barrier
     }
   }

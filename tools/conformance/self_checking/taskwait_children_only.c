@@ -12,33 +12,19 @@ int main(void) {
 #pragma omp task shared(children, below)
         {
 #pragma omp task shared(below)
-          {
-            linger();
-#pragma omp atomic
-            below++;
-          }
-#pragma omp atomic
-          children++;
+          count_late(&below);
+          count(&children);
         }
       }
 #pragma omp taskwait
-      long seen;
-#pragma omp atomic read
-      seen = children;
-      expect("children that have ended behind taskwait", seen, 4);
+      expect("children that have ended behind taskwait", now(&children), 4);
 #pragma omp taskgroup
       for (int i = 0; i < 4; i++) {
 #pragma omp task shared(all)
 #pragma omp task shared(all)
-        {
-          linger();
-#pragma omp atomic
-          all++;
-        }
+        count_late(&all);
       }
-#pragma omp atomic read
-      seen = all;
-      expect("grandchildren that have ended behind taskgroup", seen, 4);
+      expect("grandchildren that have ended behind taskgroup", now(&all), 4);
     }
     expect("grandchildren behind the region", below, 4);
   }

@@ -4,7 +4,8 @@
 
 int main(void) {
   for (int round = 0; round < 20; round++) {
-    int a = 0, b = 0;
+    long a = 0;
+    int b = 0;
     (void)b;
 #pragma omp parallel
 #pragma omp single
@@ -12,16 +13,12 @@ int main(void) {
 #pragma omp task depend(out : a)
       {
         linger();
-#pragma omp atomic write
-        a = 1;
+        set(&a);
       }
 #pragma omp task depend(out : b)
       linger();
 #pragma omp taskwait depend(in : a)
-      int seen;
-#pragma omp atomic read
-      seen = a;
-      expect_so("the task has ended behind taskwait", seen);
+      expect_so("the task has ended behind taskwait", now(&a));
     }
   }
   return wrong;

@@ -4,7 +4,8 @@
 
 int main(void) {
   for (int round = 0; round < 20; round++) {
-    int a = 0, b = 0, ended = 0;
+    int a = 0, b = 0;
+    long ended = 0;
     (void)a, (void)b;
 #pragma omp parallel
 #pragma omp single
@@ -12,17 +13,11 @@ int main(void) {
 #pragma omp task depend(out : a) shared(ended)
       {
         linger();
-#pragma omp atomic write
-        ended = 1;
+        set(&ended);
       }
 #pragma omp taskwait depend(in : a) depend(out : b) nowait
 #pragma omp task depend(in : b) shared(ended)
-      {
-        int seen;
-#pragma omp atomic read
-        seen = ended;
-        expect_so("the first task has ended before the last", seen);
-      }
+      expect_so("the first task has ended before the last", now(&ended));
     }
   }
   return wrong;

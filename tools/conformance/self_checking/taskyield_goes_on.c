@@ -4,7 +4,7 @@
 
 int main(void) {
   for (int round = 0; round < 10; round++) {
-    int ended = 0;
+    long ended = 0;
 #pragma omp parallel
 #pragma omp single
     for (int i = 0; i < 30; i++) {
@@ -13,8 +13,7 @@ int main(void) {
         int thread = omp_get_thread_num();
 #pragma omp taskyield
         expect("the thread behind taskyield", omp_get_thread_num(), thread);
-#pragma omp atomic
-        ended++;
+        count(&ended);
       }
     }
     expect("tasks that have ended", ended, 30);

@@ -4,7 +4,8 @@
 
 int main(void) {
   for (int round = 0; round < 20; round++) {
-    int first = 0, second = 0, item = 0;
+    long first = 0;
+    int second = 0, item = 0;
     (void)item;
 #pragma omp parallel
 #pragma omp single
@@ -12,15 +13,11 @@ int main(void) {
 #pragma omp task depend(out : item) shared(first)
       {
         linger();
-#pragma omp atomic write
-        first = 1;
+        set(&first);
       }
 #pragma omp task if(0) depend(in : item) shared(first, second)
       {
-        int seen;
-#pragma omp atomic read
-        seen = first;
-        expect_so("the task before has ended", seen);
+        expect_so("the task before has ended", now(&first));
         second = 1;
       }
       expect_so("the undeferred task has run", second);

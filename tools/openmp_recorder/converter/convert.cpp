@@ -47,7 +47,7 @@ Ending ending_of(const LogFolder &log) {
   ending.killed = head.how_ended == HowEnded::Not && !ending.full;
   if (ending.full) ending.wall = log.wall(head.stop);
   else if (head.how_ended == HowEnded::InsideARegion) ending.wall = log.wall(head.end);
-  if (!head.by_processor) ending.clock = ending.wall;
+  if (head.costs != log_form::Costs::Processor) ending.clock = ending.wall;
   return ending;
 }
 
@@ -83,8 +83,8 @@ void convert(const std::string &folder, const std::string &out) {
   Options options = read_options();
   LogFolder log(folder);
   const Head &head = log.head;
-  options.processor_clock = head.by_processor;
-  set_record_clock({options.processor_clock, head.in_a_record});
+  options.processor_clock = head.costs == log_form::Costs::Processor;
+  set_record_clock({options.processor_clock, head.in_a_record, head.costs == log_form::Costs::Own});
   std::unique_ptr<LogFolder> second;
   std::vector<Records *> threads = threads_of(log);
   bool is_known = head.how_ended != HowEnded::Not && head.end_thread < threads.size();

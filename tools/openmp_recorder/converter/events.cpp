@@ -23,9 +23,9 @@ size_t divide_among_pieces(const Task &chunk, uint32_t first, std::vector<Segmen
   return 2 * static_cast<size_t>(pieces) - 1;
 }
 
-std::string row(uint64_t segment, const SegmentTime &time, const char *between) {
-  return std::to_string(segment) + between + std::to_string(time.worker) + between + std::to_string(time.begin) +
-         between + std::to_string(time.end) + "\n";
+std::string row(uint64_t segment, const SegmentTime &time) {
+  return std::to_string(segment) + " " + std::to_string(time.worker) + " " + std::to_string(time.begin) + " " +
+         std::to_string(time.end) + "\n";
 }
 }  // namespace
 
@@ -39,7 +39,6 @@ Events event_lines(const Region &region) {
     if (number == none) continue;
     unsigned worker = workers.emplace(event.worker, workers.size()).first->second;
     SegmentTime &time = out.times[number];
-    out.words += (event.start ? "start " : "finish ") + std::to_string(worker) + " " + std::to_string(number) + "\n";
     time.worker = worker;
     (event.start ? time.begin : time.end) = event.at - region.time.begin;
     if (event.start) continue;
@@ -50,17 +49,11 @@ Events event_lines(const Region &region) {
   return out;
 }
 
-std::string times_table(const Events &events) {
-  std::string out = "segment,thread,start_ns,end_ns\n";
-  for (size_t s = 0; s < events.times.size(); s++) out += row(s, events.times[s], ",");
-  return out;
-}
-
 std::string timed_lines(const Region &region, const Events &events) {
   int64_t last = region.time.end - region.time.begin;
   for (const SegmentTime &time : events.times) last = std::max(last, time.end);
   size_t threads = std::max<size_t>(region.threads, events.workers);
   std::string out = "times " + std::to_string(threads) + " 0 " + std::to_string(last) + "\n";
-  for (size_t s = 0; s < events.times.size(); s++) out += row(s, events.times[s], " ");
+  for (size_t s = 0; s < events.times.size(); s++) out += row(s, events.times[s]);
   return out;
 }

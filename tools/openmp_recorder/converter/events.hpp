@@ -12,14 +12,12 @@ struct SegmentTime {
 };
 
 struct Events {
-  std::string words;  // as a replay document has them
   std::vector<SegmentTime> times;  // by the number of a segment
   size_t workers = 0;
   bool whole = false;  // every segment of the text began and ended
 };
 
 Events event_lines(const Region &region);
-std::string times_table(const Events &events);
 // What follows the text in a timed document: the times of all segments, on the threads of the region and those that
 // ran its tasks beside them.
 std::string timed_lines(const Region &region, const Events &events);

@@ -29,6 +29,7 @@ class Head {
   void preempted(const Region &region);
   void times(const Region &region, const Recording &recording);
   void locks(const Region &region);
+  void short_chunks(const WholeProgram &program);
   void remarks(const Region &region);
   void functions(const Region &region);
 
@@ -46,12 +47,17 @@ class Head {
   void lock(Object &told, const LockUse &use);
 };
 
+const char *clock_name() {
+  if (record_clock().leaves_out) return "own";
+  return record_clock().of_processor ? "cpu" : "wall";
+}
+
 void Head::first_lines(const Region &region, const Recording &recording) {
   line("recorded", Object()
                        .put("program", recording.program)
                        .put("date", recording.date)
                        .put("threads", region.threads)
-                       .put("clock", options.processor_clock ? "cpu" : "wall")
+                       .put("clock", clock_name())
                        .put("unit", options.unit_name));
   if (recording.whole) return whole(*recording.whole);
   Object told;
@@ -121,7 +127,7 @@ void Head::divided(const Region &region) {
 
 void Head::clocks(const Region &region) {
   line("clock reading", record_clock().reading);
-  differing("clocks differ", region.differing, region.cost);
+  differing(record_clock().leaves_out ? "taken off" : "clocks differ", region.differing, region.cost);
   differing("slept", region.asleep, region.cost);
   if (region.untimed >= least_difference) line("untimed", in_units(region.untimed));
 }
@@ -212,15 +218,23 @@ std::string place_in_json(const std::string &at, const std::vector<Frame> &frame
 
 // Of each place; a place that stands in several functions has a line for each.
 void Head::functions(const Region &region) {
-  std::set<std::string> lines;
+  std::set<std::string> lines, files;
   for (const void *code : codes_of(region)) {
     const void *call = places.call_at(code);
     std::vector<Frame> frames = places.frames(call);
     if (frames.empty()) continue;
     if (places.at(code) != places.at(call)) frames.resize(1);  // the place has its callers already
     lines.insert(place_in_json(places.at(code), frames));
+    files.insert(places.at(code).substr(0, places.at(code).rfind(':')));
   }
   for (const std::string &one : lines) words += "# place: " + one + "\n";
+  for (const std::string &one : files)
+    if (!places.path(one).empty()) line("source", Object().put("file", one).put("path", places.path(one)));
+}
+
+void Head::short_chunks(const WholeProgram &program) {
+  for (auto &[code, found] : program.short_chunks)
+    line("short chunks", Object().put("at", places.at(code)).put("times", found.times).put("turns", found.turns));
 }
 
 void Head::remarks(const Region &region) {
@@ -252,6 +266,7 @@ std::string head_of(const Region &region, const Recording &recording, const Opti
   head.preempted(region);
   head.times(region, recording);
   head.locks(region);
+  if (recording.whole) head.short_chunks(*recording.whole);
   head.remarks(region);
   head.functions(region);
   return head.words;
@@ -271,6 +286,7 @@ void remark_locks(Region &region) {
 
 // All that was off the processor may lie on one chain.
 void remark_clocks(Region &region) {
+  if (record_clock().leaves_out) return;
   const Differing &differing = region.differing;
   int64_t off = differing.off + differing.slightly;
   bool moves_span = off >= least_difference && off * 20 > region.span;

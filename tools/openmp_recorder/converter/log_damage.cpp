@@ -32,9 +32,11 @@ bool is_tick(const Pair &later, const Pair &first) {
 }
 
 bool has_known_words(const Head &head) {
-  uint32_t bytes = head.by_processor ? log_form::bytes_by_processor : log_form::bytes_by_wall;
-  return head.by_processor <= 1 && head.record_bytes == bytes && head.counter <= log_form::Counter::TimeStamp &&
-         head.how_ended <= log_form::HowEnded::InsideARegion && head.stopped <= log_form::Stopped::End;
+  bool by_processor = head.costs == log_form::Costs::Processor;
+  uint32_t bytes = by_processor ? log_form::bytes_by_processor : log_form::bytes_by_wall;
+  return head.costs <= log_form::Costs::Own && head.record_bytes == bytes &&
+         head.counter <= log_form::Counter::TimeStamp && head.how_ended <= log_form::HowEnded::InsideARegion &&
+         head.stopped <= log_form::Stopped::End;
 }
 
 bool has_times(const Head &head) {
@@ -54,7 +56,7 @@ void look_at_head(const Head &head) {
 }
 
 RecordsLookedAt::RecordsLookedAt(const Head &head)
-    : first(head.first.ticks), last(first), by_processor(head.by_processor) {
+    : first(head.first.ticks), last(first), by_processor(head.costs == log_form::Costs::Processor) {
   double tick = head.counter == log_form::Counter::TimeStamp ? tick_of(head.second, head.first) : 1;
   back = static_cast<uint64_t>(may_go_back / tick);
   most = std::min(most_ticks, static_cast<uint64_t>(static_cast<double>(longest_time) / tick));

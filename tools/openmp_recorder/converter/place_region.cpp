@@ -30,20 +30,49 @@ std::vector<Part> in_order(const Region &region) {
 }
 }  // namespace
 
-std::vector<Part> place_region(Region &region) {
-  if (!region.owner) return {};
-  Task &owner = *std::exchange(region.owner, nullptr);
-  std::vector<Part> parts = in_order(region);
+void place_parts(const std::vector<Part> &parts, Task &owner, const void *code) {
   for (size_t i = 0; i < parts.size();) {
     unsigned phase = parts[i].phase;
-    add_step(owner, Step::at(Kind::GroupBegin, region.code));
+    add_step(owner, Step::at(Kind::GroupBegin, code));
     for (; i < parts.size() && parts[i].phase == phase; i++) {
       add_step(owner, Step::create(parts[i].task));
       parts[i].task->parent = &owner;
     }
     add_step(owner, Step::at(Kind::GroupEnd, nullptr));
   }
+}
+
+std::vector<Part> place_region(Region &region) {
+  if (!region.owner) return {};
+  Task &owner = *std::exchange(region.owner, nullptr);
+  std::vector<Part> parts = in_order(region);
+  place_parts(parts, owner, region.code);
   return parts;
+}
+
+Moment begin_of_phase(const std::vector<Part> &parts, size_t one, const std::vector<Event> &events, Moment otherwise) {
+  const Event *first = nullptr;
+  for (size_t i = one; i < parts.size() && parts[i].phase == parts[one].phase; i++) {
+    if (parts[i].first >= events.size()) continue;
+    const Event &event = events[parts[i].first];
+    if (!first || event.at < first->at) first = &event;
+  }
+  return first ? Moment{first->at, first->worker} : otherwise;
+}
+
+void put_empty_segment(std::vector<Event> &events, Task &t, unsigned segment, Moment when) {
+  for (bool start : {true, false}) events.push_back({&t, when.at, segment, when.worker, start});
+}
+
+void time_placed(const std::vector<Part> &parts, Task &owner, unsigned segment, Moment first,
+                 std::vector<Event> &events) {
+  for (size_t i = 0; i < parts.size(); i++) {
+    if (i && parts[i].phase != parts[i - 1].phase) {
+      first = begin_of_phase(parts, i, events, first);
+      put_empty_segment(events, owner, ++segment, first);
+    }
+    put_empty_segment(events, owner, ++segment, first);
+  }
 }
 
 void take_over_steps(Task &into, Task &from) {

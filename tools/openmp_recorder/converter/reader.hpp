@@ -44,6 +44,7 @@ struct ImplicitTask {
   Loop *loop = nullptr;  // that it is in
   Task *chunk = nullptr;  // of it, that runs
   Chunk *last = nullptr;  // that began
+  uint64_t last_turns = 1;  // its own
   size_t left = 0;  // the event with which the part was left for it
   size_t off = 0;  // times off the processor, up to where it began
   bool in_group = false;  // of the chunks
@@ -59,7 +60,7 @@ class Reader {
   Run run;
   void read(const Record &record, const Log &log);
   void stop(const Log &log, int64_t at);
-  void close(int64_t end);  // of the program, on the clock of costs
+  void close(int64_t end, int64_t wall);  // of the program, on the clock of costs and on the wall clock
 
  private:
   HowToRead how;
@@ -118,7 +119,7 @@ class Reader {
   void compare_clocks();
   void count_off(Task &t);
   void close_tasks(Region &region);
-  void close_whole(int64_t end);
+  void close_whole(int64_t end, int64_t wall);
 
   // over.cpp: regions that are over
   uint64_t held = 0;  // their tasks
@@ -174,7 +175,6 @@ class Reader {
   void meet_region(Region &region);
   void parallel_end();
   void put_in_its_place(Region &region);
-  void time_placed(const std::vector<Part> &parts, const Region &region, Task &owner, unsigned segment);
   void join_with_before(Task &t, size_t end, int64_t since);
   void give_up_times();
   bool is_to_divide(const Region &region) const;
@@ -191,7 +191,7 @@ class Reader {
   void keep_divided();
   void put_chunk_back(ImplicitTask &own);
   void take_chunk_out(ImplicitTask &own, Task &t);
-  void end_outside(Task *t, int64_t end);
+  void end_outside(Task *t, int64_t end, int64_t wall);
   void put_hosts_beside();
 
   // turns.cpp: turns of loops that wait for each other

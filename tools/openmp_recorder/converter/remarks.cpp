@@ -11,7 +11,6 @@ constexpr bool uncounted = false;
 constexpr RemarkLine lines[] = {
     {Remark::OneThread, "one thread", Not, High},
     {Remark::MutexInOutSet, "mutexinoutset", Not, Low},
-    {Remark::MutexAsInOut, "mutexinoutset as inout", Not, High},
     {Remark::AllMemory, "all memory", Not, Low},
     {Remark::UnknownItem, "unknown item", Not, High},
     {Remark::ItemsLeftOut, "items left out", Not, Low},

@@ -10,7 +10,6 @@
 enum class Remark : uint8_t {
   OneThread,
   MutexInOutSet,
-  MutexAsInOut,
   AllMemory,
   UnknownItem,
   ItemsLeftOut,

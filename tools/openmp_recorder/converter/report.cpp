@@ -19,8 +19,6 @@
 #include "whole_program.hpp"
 
 namespace {
-constexpr size_t most_workers = 64;
-
 void tell_excess(const std::string &file, const Excess &over) {
   Line line("too large");
   line.put("file", file).put("what", over.what).put("has", over.has).put("takes", over.takes);
@@ -34,7 +32,7 @@ class Reporter {
   void write(Region &region, const std::string &name);
   void tell_outside(const Seen &outside);
   void write_regions(const Run &run, const WholeTime &time, const std::string &name);
-  std::vector<Region *> at_place(const Run &run, std::vector<Region *> regions);
+  std::vector<Region *> chosen(const Run &run, std::vector<Region *> regions);
   void write_locks(const std::vector<Records *> &threads, const std::string &name);
   void write_off(const WholeProgram &whole, const Stacks &stacks, const std::string &name);
 
@@ -46,11 +44,9 @@ class Reporter {
   Size measure(Region &region);
   std::string head(Region &region, int64_t work);
   void tell_remarks(const Region &region, const std::string &name);
-  bool has_run(const Region &region, Object &line);
-  void write_run(Region &region, const std::string &name, const std::string &head, Style style, Object &line);
+  void write_times(Region &region, const std::string &name, const std::string &head, Style style, Object &line);
   bool write_text(Region &region, const std::string &file, const std::string &head, const Style &style,
                   const std::string &behind = "");
-  void write_exclusion_as_order(Region &region, const std::string &name, Style style, int64_t work);
   Object &put_size(Object &line, const std::string &file, const Size &size, int64_t work);
 };
 
@@ -101,48 +97,19 @@ void Reporter::tell_remarks(const Region &region, const std::string &name) {
     Line("remark").put("name", name).put_bare("remark", remark_in_json(what, seen, places));
 }
 
-// Whether the run can stand behind the text; where it cannot, the line tells why. Of the whole program no events are
-// replayed, and of a large region they are kept where times are wanted.
-bool Reporter::has_run(const Region &region, Object &line) {
-  if (!recording.whole) return region.has_events;
-  if (options.times && !region.has_events) line.put("no times", "whole");
-  return options.times && region.has_events;
-}
-
-// Whether a replay document can have these; where it cannot, the line tells why.
-bool can_be_replayed(const Events &events, Object &line) {
-  if (events.workers > most_workers) line.put("no replay", "workers").put("workers", events.workers);
-  else if (!events.whole) line.put("no replay", "unfinished");
-  else return true;
-  return false;
-}
-
-// The text is written once more in front of the events of a region, and of its times. Those of the whole program stand
-// alone.
-void Reporter::write_run(Region &region, const std::string &name, const std::string &head, Style style, Object &line) {
-  if (!has_run(region, line)) return;
-  Events events = event_lines(region);
-  style.numbered = false;
-  auto write = [&](const char *what, const std::string &file, const std::string &behind) {
-    if (write_text(region, file, head, style, "---\n" + behind)) line.put(what, file);
-  };
-  if (!recording.whole && can_be_replayed(events, line)) {
-    if (!options.processor_clock) write_file(name + ".times", times_table(events));
-    write("replay", name + ".replay", events.words);
-  }
+// Those of a region stand behind its text once more, and those of the whole program alone.
+void Reporter::write_times(Region &region, const std::string &name, const std::string &head, Style style,
+                           Object &line) {
   if (!options.times) return;
-  if (!events.whole) line.put("no times", "unfinished");
-  else if (!recording.whole) write("times", name + ".timed", timed_lines(region, events));
-  else if (write_file(name + ".times", timed_lines(region, events))) line.put("times", name + ".times");
-}
-
-// The same run with what excludes each other in the order of creation: its span is too high where that of the first is
-// too low.
-bool let_exclusion_be_order(Region &region) {
-  auto seen = region.remarks.extract(Remark::MutexInOutSet);
-  if (seen.empty()) return false;
-  region.remarks[Remark::MutexAsInOut] = seen.mapped();
-  return true;
+  Events events = event_lines(region);
+  if (!region.has_events || !events.whole) {
+    line.put("no times", region.has_events ? "unfinished" : "whole");
+    return;
+  }
+  std::string times = timed_lines(region, events), file = name + (recording.whole ? ".times" : ".timed");
+  style.numbered = false;
+  bool is_written = recording.whole ? write_file(file, times) : write_text(region, file, head, style, "---\n" + times);
+  if (is_written) line.put("times", file);
 }
 
 bool Reporter::write_text(Region &region, const std::string &file, const std::string &head, const Style &style,
@@ -162,13 +129,6 @@ Object &Reporter::put_size(Object &line, const std::string &file, const Size &si
       .put("unit", options.unit_name);
 }
 
-void Reporter::write_exclusion_as_order(Region &region, const std::string &name, Style style, int64_t work) {
-  if (recording.whole || !let_exclusion_be_order(region)) return;
-  style.exclusion_as_order = true;
-  style.numbered = false;
-  write_text(region, name + ".inout.tasks", head(region, work), style);
-}
-
 void Reporter::write(Region &region, const std::string &name) {
   Size size = measure(region);
   std::string file = name + ".tasks";
@@ -176,14 +136,11 @@ void Reporter::write(Region &region, const std::string &name) {
   if (options.lines) places.look_up(codes_of(region));
   int64_t work = work_in_units(region, options.unit);
   std::string words = head(region, work);
-  Style style{options.unit, false, size.tasks > most_tasks, region.has_events};
+  Style style{options.unit, size.tasks > most_tasks, region.has_events};
   if (!write_text(region, file, words, style)) return;
   tell_remarks(region, name);
-  {
-    Line line("text");
-    write_run(region, name, words, style, put_size(line, file, size, work));
-  }
-  write_exclusion_as_order(region, name, style, work);
+  Line line("text");
+  write_times(region, name, words, style, put_size(line, file, size, work));
 }
 
 void Reporter::tell_outside(const Seen &outside) {
@@ -193,20 +150,6 @@ void Reporter::tell_outside(const Seen &outside) {
   put_seen(line, outside, places);
 }
 
-// The chosen ones, in the order of time; the others are told with their work.
-std::vector<Region *> choose(const std::vector<Region *> &regions, const Options &options) {
-  int64_t all = 0, kept = 0;
-  for (const Region *region : regions) all += work_of(*region);
-  std::vector<Region *> few = chosen(regions, options.regions);
-  for (const Region *region : few) kept += work_of(*region);
-  if (few.size() < regions.size())
-    Line("more regions")
-        .put("regions", uint64_t{regions.size() - few.size()})
-        .put("work", (all - kept) / options.unit)
-        .put("unit", options.unit_name);
-  return few;
-}
-
 // Of a run without regions there is no table.
 void Reporter::write_regions(const Run &run, const WholeTime &time, const std::string &name) {
   if (run.regions.empty()) return;
@@ -214,13 +157,17 @@ void Reporter::write_regions(const Run &run, const WholeTime &time, const std::s
   write_file(name + ".regions", region_table(run, time, places));
 }
 
-// Those at the place that is asked for.
-std::vector<Region *> Reporter::at_place(const Run &run, std::vector<Region *> regions) {
-  if (options.region.empty()) return regions;
-  if (options.lines) places.look_up(codes_of_regions(run));
-  auto is_elsewhere = [&](const Region *region) { return places.at(region->code) != options.region; };
-  regions.erase(std::remove_if(regions.begin(), regions.end(), is_elsewhere), regions.end());
-  return regions;
+// All, or where one is asked for that of median work at its place, so that one that a busy machine held up stands for
+// none.
+std::vector<Region *> Reporter::chosen(const Run &run, std::vector<Region *> regions) {
+  if (!options.one_region) return regions;
+  if (!options.region.empty()) {
+    if (options.lines) places.look_up(codes_of_regions(run));
+    auto is_elsewhere = [&](const Region *region) { return places.at(region->code) != options.region; };
+    regions.erase(std::remove_if(regions.begin(), regions.end(), is_elsewhere), regions.end());
+  }
+  Region *median = median_of_heaviest(regions);
+  return median ? std::vector<Region *>{median} : std::vector<Region *>();
 }
 
 void Reporter::write_locks(const std::vector<Records *> &threads, const std::string &name) {
@@ -240,10 +187,10 @@ void Reporter::write_off(const WholeProgram &whole, const Stacks &stacks, const 
 constexpr uint64_t most_held = 1 << 18;  // tasks of regions that are over, while it is not known which are written
 constexpr uint64_t most_timed = 1 << 18;  // tasks and chunks of loops, of which many are written together
 
-// The most tasks of a region of which the run is kept, or of the whole program.
-uint64_t most_to_replay(const Options &options) {
+// The most tasks of a region of which the events are kept, or of the whole program.
+uint64_t most_to_time(const Options &options) {
   if (options.whole) return most_timed;
-  return options.times ? UINT64_MAX : most_tasks;
+  return options.times ? UINT64_MAX : 0;
 }
 
 // Thread-time outside of regions: by the processor's clock of all threads that meet regions, each as far as its time is
@@ -273,7 +220,7 @@ std::vector<Region *> compose_all(Run &run, const Options &options) {
 
 HowToRead how_to_read(const Job &job) {
   bool by_processor = job.options.processor_clock;
-  return {most_to_replay(job.options),
+  return {most_to_time(job.options),
           job.options.whole,
           by_processor ? 0 : job.start,
           by_processor ? job.end_processor : job.end,
@@ -331,7 +278,7 @@ void report_whole(const Job &job, Run &run, Recording recording, int64_t end) {
 void report(const Job &job, Ending &ending) {
   const Ending unread = ending;
   Run &run = *read_all(job, ending);
-  int64_t end = ending.killed ? ending.last : job.end;
+  int64_t end = std::max(job.end, ending.last);  // of a program that was killed the head has none
   ProgramTime time = divide_time(job.threads, job.start, end);
   ThreadTime threads{outside_regions(job, run, time, end), in_code(run), !ending.full && !ending.killed};
   if (run.whole) return report_whole(job, run, {job.program, job.date, 0, time, threads}, end);
@@ -339,7 +286,7 @@ void report(const Job &job, Ending &ending) {
   Recording recording{job.program, job.date, with_tasks.size(), time, threads};
   Reporter reporter(job, std::move(recording));
   if (with_tasks.empty() && !job.may_be_empty) Line("no tasks").put("inside", ending.wall != 0);
-  std::vector<Region *> written = held(choose(reporter.at_place(run, with_tasks), job.options), job, unread, run);
+  std::vector<Region *> written = held(reporter.chosen(run, with_tasks), job, unread, run);
   for (size_t i = 0; i < written.size(); i++) {
     written[i]->text = i + 1;
     for (Remark remark : job.unseen) written[i]->remarks[remark];

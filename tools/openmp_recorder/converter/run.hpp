@@ -13,14 +13,15 @@
 #include "remarks.hpp"
 #include "task_list.hpp"
 
-// Code of a region in which the wall clock and the processor's differ, as the clock that costs are read on must not.
+// Code of a region in which the wall clock and the processor's differ, as the clock that costs are read on must not, or
+// which it leaves out.
 struct Differing {
   int64_t cost = 0, off = 0;  // of the code where they do by more than a twentieth; off the processor there
   Seen at;
   int64_t slightly = 0;  // off the processor in other code
   Seen slightly_at;
-  void add(const Passed &passed, int64_t code_cost, int64_t off_there, const void *code) {
-    if (!passed.differ()) {
+  void add(bool is_much, int64_t code_cost, int64_t off_there, const void *code) {
+    if (!is_much) {
       slightly += off_there;
       if (off_there) slightly_at.add(code);
       return;
@@ -114,7 +115,7 @@ struct Region {
   std::vector<Part> parts;
   std::vector<Part> left_in_groups;  // parts at a barrier inside a group, until it is over
   std::vector<Event> events;
-  bool has_events = true;  // else they are given up, since it has more tasks than a replay document holds
+  bool has_events = true;  // else they are given up, since no times are wanted of so many tasks
   uint64_t created = 0;  // tasks
   uint64_t chunks = 0;  // of these, chunks of loops
   bool has_auxiliary = false;  // tasks
@@ -153,6 +154,10 @@ inline uint32_t number_in_text(const Task &t, unsigned segment, const Region &re
 inline Region &home(Region &region) { return region.whole ? *region.whole : region; }
 
 // The whole program, where that is asked for.
+struct ShortChunks {
+  uint64_t times = 0, turns = 0;
+};
+
 struct WholeProgram : Region {
   const Log *first = nullptr;  // the thread that meets the runtime first, whose code the root is
   uint64_t regions = 0, loops = 0, sections = 0, pieces = 0;  // `sections` by the construct
@@ -160,6 +165,7 @@ struct WholeProgram : Region {
   int64_t recorder = 0;  // its own time outside of regions, on the first thread
   OffTimes off;  // of its segments
   int64_t serial = 0, in_loops = 0;  // of the cost: outside of regions; in chunks of loops
+  std::map<const void *, ShortChunks> short_chunks;  // by the loop's code: those that began soon after others
   std::deque<Loop> loop_list;
   std::deque<Chunk> chunk_list;  // in the order in which they began
 };
@@ -179,7 +185,7 @@ struct Ending {
 };
 
 struct HowToRead {
-  uint64_t most_replayed = UINT64_MAX;  // of a region with more tasks no events are kept
+  uint64_t most_timed = UINT64_MAX;  // of a region with more tasks no events are kept
   bool whole = false;  // the whole program is to be one text
   int64_t start = 0, end = 0;  // of the program, on the clock of costs; an end that is not known is 0
   const Log *last = nullptr;  // of the thread that ended it, whose clock that is by the processor's

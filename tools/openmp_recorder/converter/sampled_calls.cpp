@@ -12,6 +12,7 @@ using Names = std::vector<std::string>;  // innermost first
 
 constexpr const char *of_system = "@";  // before its library
 constexpr const char *headers = "@headers";  // in place of a library's name: the code stands in the program
+constexpr const char *the_runtime = "runtime@OpenMP";  // whatever it does for the program, or calls the system for
 
 bool begins_with_one(const std::string &name, const std::vector<const char *> &starts) {
   return std::any_of(starts.begin(), starts.end(), [&](auto *start) { return !name.rfind(start, 0); });
@@ -72,7 +73,8 @@ bool is_of_ranks(const std::string &name) { return begins_with_one(name, {"MPI_"
 
 void add_names(Names &all, const Names &more) {
   for (const std::string &name : more) {
-    if (!all.empty() && is_of_system(all.back()) && is_of_system(name)) all.back() = name;  // what the program called
+    bool is_called = !all.empty() && is_of_system(all.back()) && all.back() != the_runtime;
+    if (is_called && is_of_system(name)) all.back() = name;  // what the program called
     else if (all.empty() || all.back() != name) all.push_back(name);
   }
 }
@@ -89,23 +91,38 @@ struct Sum {
   std::map<Sampled, uint64_t> by_calls;  // microseconds
 };
 
-std::vector<std::string> all_named(const Stacks &stacks, Places &places) {
+// Up to where the runtime called the program. What the runtime calls the recorder for is not its own.
+Names names_from(const Calls &calls, const Places &places) {
+  Names all;
+  bool of_recorder = false;
+  for (const void *code : calls) {
+    bool is_runtime = places.modules() && places.modules()->in_runtime(code);
+    of_recorder |= is_recorder(code, places);
+    if (is_runtime && !all.empty() && (of_recorder || !is_of_system(all.back()))) break;
+    if (is_runtime && !of_recorder) all = {the_runtime};
+    if (!is_runtime && !is_recorder(code, places)) add_names(all, names_of(code, places));
+  }
+  return all;
+}
+
+struct Named {
+  std::string calls;
+  bool in_recorder;  // its own code was running, which is none of the program's
+};
+
+std::vector<Named> all_named(const Stacks &stacks, Places &places) {
   std::set<const void *> codes;
   for (const Calls &calls : stacks.all()) codes.insert(calls.begin(), calls.end());
   places.look_up({codes.begin(), codes.end()});
-  std::vector<std::string> out;
-  for (const Calls &calls : stacks.all()) out.push_back(named_calls(calls, places));
+  std::vector<Named> out;
+  for (const Calls &calls : stacks.all())
+    out.push_back({named_calls(calls, places), !calls.empty() && is_recorder(calls.front(), places)});
   return out;
 }
 }  // namespace
 
 std::string named_calls(const Calls &calls, const Places &places) {
-  Names all;
-  for (const void *code : calls) {
-    bool is_runtime = places.modules() && places.modules()->in_runtime(code);
-    if (is_runtime && !all.empty()) break;
-    if (!is_runtime && !is_recorder(code, places)) add_names(all, names_of(code, places));
-  }
+  Names all = names_from(calls, places);
   auto ranks = std::find_if(all.rbegin(), all.rend(), is_of_ranks);
   if (ranks != all.rend()) all.erase(all.begin(), ranks.base() - 1);
   auto start = std::find_if(all.begin(), all.end(), calls_main);
@@ -116,12 +133,14 @@ std::string named_calls(const Calls &calls, const Places &places) {
 }
 
 std::string sampled_lines(const Region &region, const OffTimes &times, const Stacks &stacks, Places &places) {
-  std::vector<std::string> names = all_named(stacks, places);
+  std::vector<Named> names = all_named(stacks, places);
   std::map<uint64_t, Sum> found;
   for (const OffTime &one : times.all) {
-    if (!one.stands_for || one.stack >= names.size() || names[one.stack].empty()) continue;
+    if (!one.stands_for || one.stack >= names.size()) continue;
+    const Named &named = names[one.stack];
+    if (named.calls.empty() || (named.in_recorder && !one.asleep)) continue;
     uint32_t number = number_in_text(*one.task, one.segment, region);
-    if (number != none) found[number].by_calls[{one.asleep, names[one.stack]}] += one.stands_for;
+    if (number != none) found[number].by_calls[{one.asleep, named.calls}] += one.stands_for;
   }
   std::string out;
   for (auto &[number, sum] : found)

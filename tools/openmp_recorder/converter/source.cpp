@@ -83,6 +83,19 @@ bool is_of_system(const std::string &source) {
   return false;
 }
 
+void Places::take_path(const std::string &at) {
+  std::string path = at.substr(0, at.rfind(':'));
+  if (path[0] != '/' || is_of_system(path)) return;
+  std::string &one = paths.emplace(base_name(path), path).first->second;
+  if (one != path) one.clear();
+}
+
+const std::string &Places::path(const std::string &file) const {
+  static const std::string unknown;
+  auto found = paths.find(file);
+  return found == paths.end() ? unknown : found->second;
+}
+
 void Places::take(const void *code, std::vector<Frame> frames) {
   leave_headers(frames);
   bool has_line = !frames.empty() && is_known(frames[0].at);
@@ -110,8 +123,10 @@ void Places::ask(const ModuleOfRun &module, const std::vector<const void *> &cod
   bool more = next_line(answers, line);
   for (size_t i = 0; i < codes.size() && more && is_address(line); i++) {
     std::vector<Frame> frames;
-    while ((more = next_line(answers, line)) && !is_address(line) && next_line(answers, at))
+    while ((more = next_line(answers, line)) && !is_address(line) && next_line(answers, at)) {
       frames.push_back(frame_of(line, place_of(at)));
+      take_path(at);
+    }
     take(codes[i], std::move(frames));
   }
   pclose(answers);

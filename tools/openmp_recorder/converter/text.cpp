@@ -68,11 +68,11 @@ class Writer {
   void part(Region &part);
 };
 
-std::string_view type_of(uint64_t type, bool exclusion_as_order) {
+std::string_view type_of(uint64_t type) {
   switch (type) {
     case ompt_dependence_type_in: return "in";
     case ompt_dependence_type_out: return "out";
-    case ompt_dependence_type_mutexinoutset: return exclusion_as_order ? "inout" : "inoutset";
+    case ompt_dependence_type_mutexinoutset:
     case ompt_dependence_type_inoutset: return "inoutset";
     default: return "inout";
   }
@@ -112,7 +112,7 @@ uint32_t Writer::name_of(const Item &item) {
 void Writer::items(const Task &t) {
   std::string_view last;
   for (const Item &item : t.items) {
-    std::string_view type = type_of(item.type, style.exclusion_as_order);
+    std::string_view type = type_of(item.type);
     if (type == last) {
       piece.put(", a");
     } else {

@@ -10,7 +10,6 @@
 
 struct Style {
   int64_t unit = 1;  // nanoseconds
-  bool exclusion_as_order = false;  // `mutexinoutset` as `inout`, and not as `inoutset`
   bool large = false;  // lines are not indented
   bool numbered = true;  // segments get the numbers that the text gives them
 };

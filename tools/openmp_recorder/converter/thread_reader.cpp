@@ -29,7 +29,8 @@ ThreadReader::ThreadReader(const std::string &path, unsigned worker, const log_f
     : Records(worker),
       file(fopen(path.c_str(), "re")),
       last(fopen((path + log_form::last_block).c_str(), "re")),
-      by_processor(head.by_processor),
+      by_processor(head.costs == log_form::Costs::Processor),
+      leaves_out(head.costs == log_form::Costs::Own),
       in_a_record(head.in_a_record),
       time(head),
       paths(listed),
@@ -168,6 +169,16 @@ void ThreadReader::use_lock() {
   log.stood_still += in_a_record;
 }
 
+Passed ThreadReader::passed() const {
+  return {(raw.detail() & log_form::slept) != 0, static_cast<int64_t>(raw.code()), static_cast<int64_t>(raw.wide()),
+          (raw.detail() & log_form::taken) != 0};
+}
+
+// What others took of the thread's processor is no time of its code.
+void ThreadReader::leave_out(const Passed &passed) {
+  if (leaves_out && passed.preempted()) log.stood_still += passed.off();
+}
+
 // Whether the record is one for the reader of runs.
 bool ThreadReader::take() {
   switch (raw.told()) {
@@ -175,6 +186,7 @@ bool ThreadReader::take() {
     case Told::StoodStill:
       log.stood_still += by_processor ? static_cast<int64_t>(raw.wide()) : time.nanoseconds(raw.wide());
       return false;
+    case Told::Passed: leave_out(passed()); return true;
     case Told::LockAsked: use_lock(); return false;
     case Told::LockGot:
     case Told::LockLeft: use_lock(); return raw.detail() == order_of_turns;
@@ -217,11 +229,7 @@ const Record &ThreadReader::tell_plain() {
 
 const Record &ThreadReader::tell() {
   fill_record();
-  if (raw.told() == Told::Passed) {
-    record.passed = {(raw.detail() & log_form::slept) != 0, static_cast<int64_t>(raw.code()),
-                     static_cast<int64_t>(raw.wide()), (raw.detail() & log_form::taken) != 0};
-    return record;
-  }
+  if (raw.told() == Told::Passed) return record.passed = passed(), record;
   if (is_of_a_lock(raw.told())) return record;
   log.stood_still += in_a_record;
   told += !divides(raw.told());

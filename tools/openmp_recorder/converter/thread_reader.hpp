@@ -34,7 +34,7 @@ class ThreadReader : public Records {
     void operator()(FILE *open) const { fclose(open); }
   };
   std::unique_ptr<FILE, Close> file, last;  // of whole blocks; of the block that was not full
-  bool by_processor;
+  bool by_processor, leaves_out;
   int64_t in_a_record;
   TickTime time;
   const LoggedPaths *paths;  // that are listed
@@ -70,6 +70,8 @@ class ThreadReader : public Records {
   void keep_long();
   void read_items(uint64_t count);
   int64_t cost_clock() const { return by_processor ? raw.processor : time.wall(raw.record.at); }
+  Passed passed() const;
+  void leave_out(const Passed &passed);
   bool take();
   bool is_in_a_region() const;
   void begin_region();

@@ -4,6 +4,7 @@
 #include <algorithm>
 
 #include "log_damage.hpp"
+#include "place_region.hpp"
 #include "reader.hpp"
 #include "runtime_ways.hpp"
 #include "size.hpp"
@@ -37,9 +38,7 @@ void Reader::tell_empty_segment(Task *t) {
 }
 
 void Reader::put_empty_segment(Task *t, unsigned segment, int64_t at, uint16_t worker) {
-  Region &to = home(*t->region);
-  if (!to.has_events) return;
-  for (bool start : {true, false}) to.events.push_back({t, at, segment, worker, start});
+  if (Region &to = home(*t->region); to.has_events) ::put_empty_segment(to.events, *t, segment, {at, worker});
 }
 
 // `ordered depend` tells of the turn that the thread's code is in, and of no task.

@@ -81,26 +81,6 @@ void Reader::give_up_times() {
   run.whole->off = {};
 }
 
-// What a task that met a region does between its groups, and between the parts that it makes there, takes no time:
-// where it met the region, and on the thread that is first in a later phase, as that runs nothing then.
-void Reader::time_placed(const std::vector<Part> &parts, const Region &region, Task &owner, unsigned segment) {
-  if (!run.whole->has_events) return;
-  const std::vector<Event> &events = run.whole->events;
-  int64_t at = region.met_at;
-  uint16_t worker = events[region.left].worker;
-  for (size_t i = 0; i < parts.size(); i++) {
-    if (i && parts[i].phase != parts[i - 1].phase) {
-      const Event *first = &events[parts[i].first];
-      for (const Part &part : parts)
-        if (part.phase == parts[i].phase && events[part.first].at < first->at) first = &events[part.first];
-      at = first->at;
-      worker = first->worker;
-      put_empty_segment(&owner, ++segment, at, worker);
-    }
-    put_empty_segment(&owner, ++segment, at, worker);
-  }
-}
-
 // A task that runs now goes on with the segment that it was left in, or has begun with it before.
 void Reader::join_with_before(Task &t, size_t end, int64_t since) {
   if (!run.whole->has_events) return;
@@ -123,7 +103,8 @@ void Reader::put_in_its_place(Region &region) {
   Task *owner = region.owner;
   unsigned segment = owner->segment;
   std::vector<Part> parts = place_region(region);
-  time_placed(parts, region, *owner, segment);
+  if (std::vector<Event> &events = run.whole->events; run.whole->has_events)
+    time_placed(parts, *owner, segment, {region.met_at, events[region.left].worker}, events);
   if (owner == run.whole->root && !parts.empty()) note_placed();
   if (!region.resumes) return;
   begin(owner);
@@ -169,6 +150,9 @@ void Reader::join_turns(const ImplicitTask &own) {
   if (!r->code || !own.chunk) return;
   own.last->turns += r->code;
   own.loop->told += r->code;
+  ShortChunks &found = run.whole->short_chunks[own.loop->code];
+  found.times += (r->code + own.last_turns - 1) / own.last_turns;
+  found.turns += r->code;
 }
 
 void Reader::chunk_begin() {
@@ -210,6 +194,7 @@ void Reader::begin_chunk(ImplicitTask &own, uint64_t turns) {
   own.last = &run.whole->chunk_list.emplace_back();
   own.last->loop = own.loop;
   own.last->turns = turns;
+  own.last_turns = std::max<uint64_t>(turns, 1);
   own.last->task = chunk;
   begin(chunk);
 }
@@ -277,7 +262,7 @@ void Reader::take_chunk_out(ImplicitTask &own, Task &t) {
 }
 
 // Code outside of regions ends with the program on the thread that ends it, or nobody knows when.
-void Reader::end_outside(Task *t, int64_t end) {
+void Reader::end_outside(Task *t, int64_t end, int64_t wall) {
   if (!t->running) return;
   turn_to(*t->on);
   now = end - worker().stood_still - (log->stood_still - log->told_still);
@@ -286,7 +271,7 @@ void Reader::end_outside(Task *t, int64_t end) {
   if (is_known) charge(t);
   else give_up_times();
   if (run.whole->has_events)
-    run.whole->events.push_back({t, how.end_wall, t->segment, static_cast<uint16_t>(log->worker), false});
+    run.whole->events.push_back({t, wall, t->segment, static_cast<uint16_t>(log->worker), false});
   t->running = false;
 }
 

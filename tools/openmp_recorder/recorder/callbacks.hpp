@@ -30,6 +30,7 @@ void on_cancel(ompt_data_t *task, int flags, const void *code);
 void on_lock_asked(ompt_mutex_t kind, unsigned, unsigned, ompt_wait_id_t name, const void *code);
 void on_lock_got(ompt_mutex_t kind, ompt_wait_id_t name, const void *);
 void on_lock_left(ompt_mutex_t kind, ompt_wait_id_t name, const void *);
+void on_leaving_lock(ompt_mutex_t kind, ompt_wait_id_t name);  // it is held until then, and no clocks are looked at
 
 // As OpenMP 5.2 has them, and LLVM 16: the header of 14 has fewer.
 constexpr int dispatched_section = 2, dispatched_chunk = 3;

@@ -2,10 +2,13 @@
 
 #include <pthread.h>
 #include <stdlib.h>
+#include <sys/mman.h>
 #include <unistd.h>
+#include <unwind.h>
 
 #include <atomic>
 
+#include "callers.hpp"
 #include "log_head.hpp"
 #include "options.hpp"
 #include "program_start.hpp"
@@ -21,6 +24,7 @@ struct Life {
   // That of the log: exit functions are inherited by the child of a fork, and must not end the parent's log there.
   pid_t process = 0;
   std::atomic<bool> ended{false};
+  bool ended_by_exit = false;  // with threads in a region: nothing comes after that
   int64_t at_end = 0;  // the processor's clock of the thread that ended it
 };
 
@@ -56,7 +60,7 @@ void in_child_of_fork() {
   forget_log();
   life->log.is_child = true;
   life->log.program_start = wall_time();
-  life->ended = false;
+  life->ended = life->ended_by_exit = false;
   name_log();
   begin_log(life->log, life->call);
 }
@@ -78,7 +82,19 @@ void end_of_process() {
 // calls the tool's end. What runs after `exit` where no thread is in a region is still recorded. Where several threads
 // call `exit`, each takes one of the functions that are to be called there: so there is one of these for each thread.
 void on_end_by_exit(int, void *) {
-  if (life->process == getpid() && inside_a_region()) end_recording();
+  if (life->process != getpid() || !inside_a_region()) return;
+  life->ended_by_exit = true;
+  end_recording();
+}
+
+// Into a program of C the recorder alone loads libgcc, which ends after LLVM's runtime has freed what its threads need.
+// They crash if they meet that before the process is gone, so no page of libgcc may be left to be met then.
+void use_unwinder() {
+  _Unwind_Backtrace([](_Unwind_Context *, void *) { return _URC_END_OF_STACK; }, nullptr);  // writes to its data
+#ifdef MADV_POPULATE_READ
+  CodeRange code = code_around(reinterpret_cast<const void *>(_Unwind_Backtrace));
+  madvise(reinterpret_cast<void *>(code.first), code.end - code.first, MADV_POPULATE_READ);
+#endif
 }
 
 // Whether the program shut its runtime down, as `omp_pause_resource_all` does, and went on without it.
@@ -88,8 +104,10 @@ bool went_on() {
 }
 
 // The runtime does not call the tool's end where the program ends inside a region.
-// Other threads may still run and record; nothing may be freed here.
+// Other threads may still run and record; nothing may be freed here. Where the end is written, LLVM's runtime may have
+// ended (`use_unwinder`): no call of the system then.
 __attribute__((destructor)) void end_of_library() {
+  if (life && life->ended_by_exit) return;
   if (went_on()) take_end_back();
   end_of_process();
 }
@@ -101,6 +119,7 @@ void runtime_begins() {
   life->options = read_recording_options();
   // Before the first `moment_now`, which reads the chosen clock.
   choose_clocks(life->options.time_stamp, life->options.processor_clock);
+  look_for_switches(life->options.switches && by_time_stamp);
   life->runtime_begins = moment_now();
 }
 
@@ -115,6 +134,7 @@ void begin_recording(void (*call)(), uint32_t unseen) {
   life->process = getpid();
   name_log();
   begin_log(life->log, life->call);
+  use_unwinder();
   if (!life->options.quiet) say("recording to " + life->log.folder);
   say_unseen(life->log.unseen);
   // Handlers of a child run in the order of registration: those that are registered when the library is loaded

@@ -47,6 +47,7 @@ __thread ThreadLog *left_log = nullptr;
 log_form::Pair first{}, second{};
 double tick = 1;  // nanoseconds
 int64_t in_a_record = 0;
+std::atomic<log_form::Costs> costs{log_form::Costs::Wall};
 uint64_t beginning_took = 0;  // and is not told yet
 
 // The file stays open and locked as long as the process lives: who converts the log sees by that whether it is whole.
@@ -76,7 +77,7 @@ void fill_head() {
   head->version = log_form::version;
   head->record_bytes = costs_by_processor ? log_form::bytes_by_processor : log_form::bytes_by_wall;
   head->counter = by_time_stamp ? log_form::Counter::TimeStamp : log_form::Counter::ClockGettime;
-  head->by_processor = costs_by_processor;
+  head->costs = costs;
   head->first = first;
   head->second = second;
   head->time_of_day = time_of_day() - (wall_time() - first.wall);
@@ -103,6 +104,11 @@ bool make_log() {
   tell_modules(beginning.folder);
   if (beginning.call_paths) begin_paths(beginning.folder);
   return true;
+}
+
+log_form::Costs costs_asked() {
+  if (costs_by_processor) return log_form::Costs::Processor;
+  return switches_are_known ? log_form::Costs::Own : log_form::Costs::Wall;
 }
 
 // Ticks of a millisecond: less than a ten-thousandth is wrong, where the program ends before it can say more.
@@ -140,6 +146,7 @@ int64_t wall_time_at(uint64_t ticks) {
 void begin_log(const Beginning &how, void (*call)()) {
   beginning = how;
   only_records = by_time_stamp && !costs_by_processor;
+  costs = costs_asked();
   // The counter goes on through a fork at the same pace, so the parent's measurement holds.
   if (first.wall) return;  // it is known from before a fork
   measure_ticks();
@@ -150,6 +157,11 @@ void mark_unseen(uint32_t more) {
   std::lock_guard<std::mutex> guard(making);
   beginning.unseen |= more;
   if (head) head->unseen |= more;
+}
+
+void lose_switches() {
+  costs = log_form::Costs::Wall;
+  if (head) head->costs = costs;
 }
 
 void set_time_of_beginning(uint64_t took) { beginning_took = took; }

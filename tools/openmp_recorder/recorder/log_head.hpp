@@ -17,6 +17,7 @@ struct Beginning {
 // Before any record, with one thread running. In the child of a fork it keeps the clocks of the parent.
 void begin_log(const Beginning &how, void (*call)());  // which makes a record, and nothing else
 void mark_unseen(uint32_t more);
+void lose_switches();  // what threads lose their processors to is estimated from now on: any thread
 void set_time_of_beginning(uint64_t took);  // which is no code of the program
 // Other threads may be in a callback meanwhile: what they still write lies in blocks of their own.
 void end_log(log_form::HowEnded how);

@@ -17,8 +17,11 @@ uint64_t length_of_first_stack() {
 
 frames::Stack own_stack() {
   if (is_first_thread()) {
+    // As at the first call, while the library is loaded: the kernel left so much free below the stack. Where a program
+    // raises the limit later, its coroutines may have their stacks there, and memory ends above them.
+    static const uint64_t length = length_of_first_stack();
     auto end = reinterpret_cast<uint64_t>(__libc_stack_end);
-    return {end - length_of_first_stack(), end};
+    return {end - length, end};
   }
   pthread_attr_t attributes;
   if (pthread_getattr_np(pthread_self(), &attributes)) return {};

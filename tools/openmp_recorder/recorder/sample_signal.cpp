@@ -10,11 +10,12 @@
 namespace {
 std::atomic<int> taken{0};
 
-// A program may call these three in its own handlers, where the loader's lookup is unsafe: so where samples are asked
-// for, `take_sample_signal` has found them all.
 Systems<decltype(&sigaction)> set_action("sigaction");
 Systems<decltype(&signal)> set_handler("signal");
 Systems<decltype(&sigfillset)> fill_set("sigfillset");
+FIND_AT_LOAD(set_action)
+FIND_AT_LOAD(set_handler)
+FIND_AT_LOAD(fill_set)
 
 int systems_action(int number, const struct sigaction *action, struct sigaction *before) {
   return set_action.get()(number, action, before);
@@ -51,8 +52,6 @@ int sample_signal() { return taken.load(std::memory_order_relaxed); }
 
 bool take_sample_signal(OnSignal handler) {
   if (!is_asked() || !stands_before_the_system()) return false;
-  set_handler.get();
-  fill_set.get();
   for (int number = SIGRTMAX - 1; number > SIGRTMIN; number--) {
     struct sigaction now {};
     // A signal that has a handler, or is ignored, has its use for somebody.

@@ -150,7 +150,9 @@ void Samples::keep_half() {
   each *= 2;
 }
 
+// Asked once `is_busy` stands: a handler may have ended the samples after `may_write` saw a window.
 bool Samples::make_room() {
+  if (!window) return false;
   if (used + largest <= window_bytes) return true;
   // Full windows stay in the file; only the last one is mapped, so memory does not grow with the run.
   if (!has_file()) return keep_half(), true;

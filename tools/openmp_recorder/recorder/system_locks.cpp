@@ -14,15 +14,17 @@
 #include "told.hpp"
 
 namespace {
-#define SYSTEMS(name) Systems<decltype(&name)> own_##name(#name)
-SYSTEMS(pthread_mutex_lock);
-SYSTEMS(pthread_mutex_trylock);
-SYSTEMS(pthread_mutex_unlock);
-SYSTEMS(pthread_rwlock_rdlock);
-SYSTEMS(pthread_rwlock_tryrdlock);
-SYSTEMS(pthread_rwlock_wrlock);
-SYSTEMS(pthread_rwlock_trywrlock);
-SYSTEMS(pthread_rwlock_unlock);
+#define SYSTEMS(name)                         \
+  Systems<decltype(&name)> own_##name(#name); \
+  FIND_AT_LOAD(own_##name)
+SYSTEMS(pthread_mutex_lock)
+SYSTEMS(pthread_mutex_trylock)
+SYSTEMS(pthread_mutex_unlock)
+SYSTEMS(pthread_rwlock_rdlock)
+SYSTEMS(pthread_rwlock_tryrdlock)
+SYSTEMS(pthread_rwlock_wrlock)
+SYSTEMS(pthread_rwlock_trywrlock)
+SYSTEMS(pthread_rwlock_unlock)
 
 // Those that the thread waited for and holds, so that their end is told; beyond these it is not.
 // Room that is there when the thread begins: without this model of storage the first access may allocate, inside a
@@ -63,14 +65,13 @@ __attribute__((noinline)) int wait_for(Lock *lock, int (*systems)(Lock *), unsig
   return status;
 }
 
-// Before the lock is let go, so that the record of the next holder has a later time.
-__attribute__((noinline)) void tell_left(const void *lock, const void *place, unsigned kind) {
-  if (let_go(lock) && thread_log) on_lock_left(static_cast<ompt_mutex_t>(kind), name_of(lock), place);
+__attribute__((noinline)) void tell_left(const void *lock, unsigned kind) {
+  if (let_go(lock) && thread_log) on_leaving_lock(static_cast<ompt_mutex_t>(kind), name_of(lock));
 }
 }  // namespace
 
-void leave_for_wait(const void *lock, const void *place) {
-  if (held.count) tell_left(lock, place, system_mutex);
+void leave_for_wait(const void *lock) {
+  if (held.count) tell_left(lock, system_mutex);
 }
 
 // A free lock is only tried: neither the clock is read nor a record made. PLACE must stand in the entry itself.
@@ -81,10 +82,10 @@ void leave_for_wait(const void *lock, const void *place) {
     if (__builtin_expect(status != EBUSY, true)) return status; \
     return wait_for(lock, own_##name.get(), kind, PLACE);       \
   }
-#define UNLOCK(name, type, kind)                                       \
-  ENTRY int name(type *lock) {                                         \
-    if (__builtin_expect(held.count, 0)) tell_left(lock, PLACE, kind); \
-    return own_##name.get()(lock);                                     \
+#define UNLOCK(name, type, kind)                                \
+  ENTRY int name(type *lock) {                                  \
+    if (__builtin_expect(held.count, 0)) tell_left(lock, kind); \
+    return own_##name.get()(lock);                              \
   }
 LOCK(pthread_mutex_lock, pthread_mutex_trylock, pthread_mutex_t, system_mutex)
 UNLOCK(pthread_mutex_unlock, pthread_mutex_t, system_mutex)

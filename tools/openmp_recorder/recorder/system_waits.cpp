@@ -49,11 +49,9 @@ class Waiting {
 };
 }  // namespace
 
-// Programs call them in their handlers too, where the loader's lookup is unsafe: so each is found while this library is
-// loaded. The static is constant before that, for calls that come sooner.
 #define WAITS_BY(version, before, result, name, parameters, ...)                            \
   static Systems<result(*) parameters> systems_##name(#name, version);                      \
-  __attribute__((constructor)) static void find_##name() { systems_##name.get(); }          \
+  FIND_AT_LOAD(systems_##name)                                                              \
   ENTRY result name parameters {                                                            \
     before;                                                                                 \
     auto function = systems_##name.get();                                                   \
@@ -88,7 +86,7 @@ WAITS(int, sem_wait, (sem_t * semaphore), semaphore)
 
 // The system has older functions of these names, for programs of before 2003.
 #define WAITS_WITH_LOCK(name, parameters, ...) \
-  WAITS_BY("GLIBC_2.3.2", leave_for_wait(mutex, __builtin_return_address(0)), int, name, parameters, __VA_ARGS__)
+  WAITS_BY("GLIBC_2.3.2", leave_for_wait(mutex), int, name, parameters, __VA_ARGS__)
 WAITS_WITH_LOCK(pthread_cond_wait, (pthread_cond_t * condition, pthread_mutex_t *mutex), condition, mutex)
 WAITS_WITH_LOCK(pthread_cond_timedwait, (pthread_cond_t * condition, pthread_mutex_t *mutex, const timespec *until),
                 condition, mutex, until)

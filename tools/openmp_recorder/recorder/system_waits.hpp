@@ -5,4 +5,4 @@
 constexpr long long least_wait = 50000;  // nanoseconds
 
 // Before the call of the system, while the thread still holds the mutex.
-void leave_for_wait(const void *lock, const void *place);  // a mutex that a wait for a condition gives back meanwhile
+void leave_for_wait(const void *lock);  // a mutex that a wait for a condition gives back meanwhile

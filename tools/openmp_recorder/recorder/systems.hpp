@@ -6,7 +6,12 @@
 
 #define ENTRY extern "C" __attribute__((visibility("default")))
 
-// Found at the first call, which takes no lock of this library's; dlsym takes the loader's.
+// Programs call them in their handlers too, where the loader's lookup is unsafe: so each is found while this library is
+// loaded. The object is constant before that, for calls that come sooner.
+#define FIND_AT_LOAD(systems) \
+  __attribute__((constructor)) static void find_##systems() { systems.get(); }
+
+// To find it takes no lock of this library's; dlsym takes the loader's.
 template <class Function>
 class Systems {
  public:

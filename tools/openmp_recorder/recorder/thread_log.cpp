@@ -15,6 +15,7 @@
 
 namespace {
 constexpr int64_t chunks_together = 10000;  // nanoseconds: what begins sooner after a chunk is part of it
+constexpr int64_t longest_unlooked = 1000000;  // nanoseconds: what a hypervisor takes shows at the next look
 
 // Its room is taken from the disk here, so no record can fail.
 // Without this allocation a write to the mapping on a full disk would kill the program by SIGBUS.
@@ -86,15 +87,23 @@ class Scratch : public ThreadLog {
 }  // namespace
 
 ThreadLog::ThreadLog(unsigned of)
-    : number(of),
-      far_ticks(static_cast<uint64_t>(far_apart / nanoseconds_of_tick())),
-      near_ticks(static_cast<uint64_t>(chunks_together / nanoseconds_of_tick())),
-      both(costs_by_processor) {}
+    : number(of), near_ticks(static_cast<uint64_t>(chunks_together / nanoseconds_of_tick())), both(costs_by_processor) {
+  kept.begin_thread();
+  begin_clocks();
+}
+
+void ThreadLog::begin_clocks() {
+  if (switches_are_known && !kept.is_known()) lose_switches();
+  auto apart = kept.is_known() ? longest_unlooked : far_apart;
+  far_ticks = static_cast<uint64_t>(static_cast<double>(apart) / nanoseconds_of_tick());
+  both = BothClocks(costs_by_processor, kept.is_known() ? 0 : far_apart);
+  looked = left = held_since = 0;
+}
 
 void ThreadLog::begin_thread() {
   // The counts of context switches and the processor's clock of the thread before mean nothing here.
-  both = BothClocks(costs_by_processor);
-  looked = left = 0;
+  kept.begin_thread();
+  begin_clocks();
   is_slow = true;
   begin_chunk(0);
 }
@@ -155,13 +164,37 @@ void ThreadLog::follow(const log_form::RawRecord &told) {
   if (has_slot(kind)) current = told.task;
 }
 
-Times ThreadLog::times(const Moment &now) const { return {wall_time_at(now.at), now.processor}; }
+Times ThreadLog::times(const Moment &now) const {
+  return {kept.is_known() ? wall_time() : wall_time_at(now.at), now.processor};
+}
 
-void ThreadLog::compare_clocks(const Moment &now) {
+// The word is set before the counter is read, so that no switch between them and the next look is missed.
+void ThreadLog::read_anew(Moment &now) {
+  if (!kept.is_known()) return;
+  if (kept.is_of_others()) {
+    kept.give_up();
+    return begin_clocks();
+  }
+  kept.set();
+  now.at = read_ticks();
+}
+
+// Of what passed since the clocks were read before the wait, no more than passed since its end.
+std::optional<Passed> ThreadLog::passed_since_lock(const Moment &now, bool has_stood) {
+  int64_t lasted = wall_time_at(now.at) - wall_time_at(std::exchange(held_since, 0));
+  std::optional<Passed> passed = both.at_record(times(now));
+  if (!passed || has_stood) return {};
+  return Passed{passed->slept, lasted, lasted - std::min(lasted, passed->off()), passed->taken};
+}
+
+// Where switches are known, clocks that agree say nothing.
+void ThreadLog::compare_clocks(Moment &now) {
+  bool has_stood = kept.stands();
+  read_anew(now);
   look(now.at);
   is_slow = is_slow || !costs_by_processor;
-  std::optional<Passed> passed = both.at_record(times(now));
-  if (passed) tell_passed(now, *passed);
+  std::optional<Passed> passed = held_since ? passed_since_lock(now, has_stood) : both.at_record(times(now));
+  if (passed && (passed->is_off() || !kept.is_known())) tell_passed(now, *passed);
 }
 
 void ThreadLog::tell_passed(const Moment &now, const Passed &passed) {
@@ -173,18 +206,30 @@ void ThreadLog::tell_passed(const Moment &now, const Passed &passed) {
 }
 
 void ThreadLog::look_back(const Look &from, const Look &until, const Moment &now) {
+  kept.set();
   look(now.at);
   both.begin_at(look_now());
   if (Passed passed = passed_between(from, until); passed.wall >= far_apart) tell_passed(now, passed);
 }
 
-void ThreadLog::wait_begins(const Moment &now) {
+void ThreadLog::wait_begins(Moment &now) {
+  if (kept.is_known()) return look_at_clocks(now);
   if (!costs_by_processor && now.at - looked < far_ticks) return;
   look(now.at);
   both.wait_begins(times(now));
 }
 
-void ThreadLog::wait_ends(const Moment &now) {
+// Others wait for the lock, so where switches are known the clocks are read with the thread's next record: until then
+// the word says whether it was switched out since.
+void ThreadLog::wait_ends(Moment &now) {
+  if (kept.is_known()) {
+    if (kept.stands()) return;
+    both.forget_switches();
+    kept.set();
+    now.at = held_since = read_ticks();
+    looked = now.at - far_ticks;
+    return;
+  }
   if (!costs_by_processor && now.at - looked < far_ticks) return;
   look(now.at);
   both.wait_ends(times(now));
@@ -200,6 +245,11 @@ uint64_t time_since(const Moment &began) {
 uint64_t ThreadLog::own_time_since(const Moment &began) const {
   constexpr int64_t around_a_look = 1000;  // nanoseconds: what the call takes before its clock is read
   uint64_t took = time_since(began);
+  if (kept.is_known()) {
+    if (kept.stands()) return took;
+    double off = static_cast<double>(both.off_since_look()) / nanoseconds_of_tick();
+    return took - std::min(took, static_cast<uint64_t>(off));
+  }
   if (costs_by_processor || looked != began.at || took < near_ticks) return took;
   int64_t worked = processor_time() - both.processor_at_look() + around_a_look;
   return std::min(took, static_cast<uint64_t>(static_cast<double>(worked) / nanoseconds_of_tick()));

@@ -8,6 +8,7 @@
 
 #include "clocks.hpp"
 #include "log_form.hpp"
+#include "switches.hpp"
 #include "ticks.hpp"
 #include "told.hpp"
 
@@ -84,7 +85,8 @@ class alignas(64) ThreadLog {
 
  public:
   OwnNumbers numbers;
-  uint64_t own = 0;  // the innermost of `implicit`; up to here in one line of the cache
+  uint64_t own = 0;  // the innermost of `implicit`
+  Kept kept;  // its processor; up to here in one line of the cache
   LikeRecords like;
 
   explicit ThreadLog(unsigned of);
@@ -146,9 +148,11 @@ class alignas(64) ThreadLog {
   }
   // Only where `like.has` said so in the same call: the converter knows nothing but the slot.
   void put_like(uint64_t ticks, unsigned slot, uint32_t other) { put_short(ticks, log_form::slots + slot, other); }
-  bool is_far(uint64_t at) const { return at - looked >= far_ticks; }
-  void look_at_clocks(const Moment &now) {
-    if (costs_by_processor || is_far(now.at)) compare_clocks(now);
+  // Whether both clocks are to be looked at, `at` the time of the call.
+  bool is_to_look(uint64_t at) const { return at - looked >= far_ticks || !kept.stands(); }
+  // Where the thread was switched out the call's time is read anew.
+  void look_at_clocks(Moment &now) {
+    if (costs_by_processor || is_to_look(now.at)) compare_clocks(now);
   }
   // What passed between two looks at both clocks of the thread, before its first record.
   // Only at the log's beginning: it sets the base of both clocks anew.
@@ -167,8 +171,8 @@ class alignas(64) ThreadLog {
   // Called by the new thread itself, with the lock of `make_thread_log` held.
   void begin_thread();  // another one goes on with it
   // Around a wait for a lock, in place of `look_at_clocks`, so that the wait is no code's on either clock.
-  void wait_begins(const Moment &now);
-  void wait_ends(const Moment &now);
+  void wait_begins(Moment &now);
+  void wait_ends(Moment &now);
   // The last record of a call: whatever the recorder does after it counts as the program's code.
   void tell_slow(const Moment &began);  // how long until now
   void tell_stood_still(uint64_t took);
@@ -191,8 +195,12 @@ class alignas(64) ThreadLog {
   char *block = nullptr;
   uint64_t written = 0;  // bytes of full blocks
   BothClocks both;
+  uint64_t held_since = 0;  // ticks: a lock, for which the thread was switched out; 0 where clocks were read since
 
-  void compare_clocks(const Moment &now);
+  void begin_clocks();
+  void read_anew(Moment &now);
+  void compare_clocks(Moment &now);
+  std::optional<Passed> passed_since_lock(const Moment &now, bool has_stood);
   void tell_passed(const Moment &now, const Passed &passed);
   uint64_t own_time_since(const Moment &began) const;
   // False where the log has stopped, and then the record is dropped. It allocates and calls the system.

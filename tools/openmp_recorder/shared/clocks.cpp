@@ -33,10 +33,14 @@ void BothClocks::begin_at(const Look &first) {
 // from there is far by itself.
 bool BothClocks::is_far(const Times &now) {
   Times before = std::exchange(at, now);
-  if (at.wall - last.wall < far_apart) return false;
+  if (at.wall - last.wall < apart) return false;
   if (!by_processor) at.processor = processor_time();
-  else if (at.wall - before.wall >= far_apart) last = before;
+  else if (at.wall - before.wall >= apart) last = before;
   return true;
+}
+
+int64_t BothClocks::off_since_look() const {
+  return Passed{false, wall_time() - last.wall, processor_time() - last.processor}.off();
 }
 
 // Counted at each look where there may have been one, so that a switch before the last one is none since.
@@ -66,9 +70,13 @@ void BothClocks::wait_begins(const Times &now) {
   last = at;
 }
 
+void BothClocks::forget_switches() {
+  Passed before;
+  count_switches(before);
+}
+
 void BothClocks::wait_ends(const Times &now) {
   if (!is_far(now)) return;
-  Passed in_the_wait;
-  count_switches(in_the_wait);
+  forget_switches();
   last = at;
 }

@@ -9,7 +9,7 @@
 
 namespace log_form {
 constexpr char magic[8] = {'S', 'P', 'A', 'N', 'P', 'L', 'O', 'G'};
-constexpr uint32_t version = 4;
+constexpr uint32_t version = 5;
 constexpr const char *log_folder = "/log";  // of a recording
 constexpr const char *head_file = "/head", *modules_file = "/modules", *thread_file = "/thread.", *last_block = ".last";
 constexpr const char *paths_file = "/paths";  // of creations, where call paths were asked for
@@ -74,6 +74,8 @@ static_assert(sizeof(RawSample) == 24, "as LOG.md has it");
 constexpr Told told_by(uint64_t word) { return static_cast<Told>(word >> code_bits & 255); }
 
 enum class Counter : uint32_t { ClockGettime, TimeStamp };
+// Own: by the counter, and each switch of a thread stands in a record. Then costs can leave out what others took.
+enum class Costs : uint32_t { Wall, Processor, Own };
 enum class HowEnded : uint32_t { Not, ByRuntime, InsideARegion };  // Not: killed, or it goes on
 enum class Stopped : uint32_t { Not, Full, Unwritable, Numbers, End };  // Full: the disk is
 
@@ -89,7 +91,7 @@ struct Head {
   char magic[8];
   uint32_t version, record_bytes;
   Counter counter;
-  uint32_t by_processor;  // whether costs are read on the processor's clock
+  Costs costs;
   Pair first, second;  // when recording began, and a millisecond or more later
   int64_t time_of_day;  // of `first`, in nanoseconds since 1970
   int64_t program_start;  // on CLOCK_MONOTONIC

@@ -19,11 +19,6 @@ bool read_number(const char *value, uint64_t &into) {
   return true;
 }
 
-void number(const char *name, uint64_t &into) {
-  const char *value = getenv(name);
-  if (value && !read_number(value, into)) wrong(name, value, "a whole number up to 10^15");
-}
-
 void unit(Options &chosen) {
   const char *value = getenv("SPANPROF_UNIT");
   if (!value) return;
@@ -48,6 +43,7 @@ RecordingOptions read_recording_options() {
   RecordingOptions chosen;
   if (const char *out = getenv("SPANPROF_OUT")) chosen.out = out;
   flag("SPANPROF_CLOCK", "wall", "cpu", chosen.processor_clock);
+  chosen.switches = !getenv("SPANPROF_CLOCK");
   flag("SPANPROF_QUIET", "0", "1", chosen.quiet);
   flag("SPANPROF_TIME_STAMP", "0", "1", chosen.time_stamp);
   flag("SPANPROF_CALL_PATHS", "0", "1", chosen.call_paths);
@@ -58,8 +54,7 @@ Options read_options() {
   Options chosen;
   unit(chosen);
   flag("SPANPROF_LINES", "0", "1", chosen.lines);
-  number("SPANPROF_REGIONS", chosen.regions);
-  if (const char *region = getenv("SPANPROF_REGION")) chosen.region = region;
+  if (const char *region = getenv("SPANPROF_REGION")) chosen.one_region = true, chosen.region = region;
   flag("SPANPROF_PARTS", "none", "heavy", chosen.bare_parts);
   flag("SPANPROF_WHOLE", "0", "1", chosen.whole);
   flag("SPANPROF_TIMES", "0", "1", chosen.times);

@@ -1,5 +1,7 @@
 #include "made.hpp"
 
+#include <algorithm>
+#include <map>
 #include <utility>
 
 #include "compose.hpp"
@@ -118,5 +120,17 @@ std::string text_of(Region &region, const Style &style) {
 
 std::string events_of(Region &region) {
   text_of(region);
-  return event_lines(region).words;
+  std::vector<Event> events = region.events;
+  bool has_parts = !region.root->part;  // below a root that is made for them
+  auto rank = [&](const Event &event) { return std::pair(event.at, !has_parts || event.task != region.root); };
+  std::stable_sort(events.begin(), events.end(), [&](auto &a, auto &b) { return rank(a) < rank(b); });
+  std::map<unsigned, unsigned> workers;
+  std::string words;
+  for (const Event &event : events) {
+    uint32_t number = event.taken_back ? none : number_in_text(*event.task, event.segment, region);
+    if (number == none) continue;
+    unsigned worker = workers.emplace(event.worker, workers.size()).first->second;
+    words += (event.start ? "start " : "finish ") + std::to_string(worker) + " " + std::to_string(number) + "\n";
+  }
+  return words;
 }

@@ -139,7 +139,7 @@ TEST(a_region_without_tasks_is_none) {
   EXPECT(compose(*run.regions.begin()->second), false);
 }
 
-TEST(events_of_more_tasks_than_a_replay_document_holds_are_given_up) {
+TEST(events_of_too_many_tasks_are_given_up) {
   Made made(2);
   made.create(0, 1, 3).create(1, 2, 4).create(1, 2, 5).barrier(0, 1).barrier(1, 2);
   made.run(1, 2, 3, 5).run(0, 1, 4, 6).run(0, 1, 5, 7);

@@ -59,7 +59,7 @@ void expect_same(Run &few, Run &all) {
   EXPECT(some.work, every.work);
   EXPECT(some.segments, every.segments);
   EXPECT(some.tasks, every.tasks);
-  EXPECT(text_of(*few.whole, {1, false, true, false}), text_of(*all.whole, {1, false, true, false}));
+  EXPECT(text_of(*few.whole, {1, true, false}), text_of(*all.whole, {1, true, false}));
 }
 }  // namespace
 

@@ -225,7 +225,6 @@ TEST(what_only_a_remark_can_tell) {
   for (Remark remark : {Remark::MutexInOutSet, Remark::AllMemory, Remark::Target, Remark::Cancel, Remark::Detach})
     EXPECT(region.remarks.count(remark), 1u);
   EXPECT(text_of(region), "task depend(inoutset: a0) {\n}\n");
-  EXPECT(text_of(region, {1, true}), "task depend(inout: a0) {\n}\n");
 }
 
 TEST(tasks_that_only_make_those_of_a_loop_are_left_out) {

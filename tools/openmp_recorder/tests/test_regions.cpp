@@ -19,26 +19,22 @@ std::deque<Region> regions_of(const std::vector<int64_t> &first, const std::vect
   return out;
 }
 
-std::string works_of(std::deque<Region> regions, size_t most) {
+int64_t chosen_of(std::deque<Region> regions) {
   std::vector<Region *> all;
   for (Region &region : regions) all.push_back(&region);
-  std::string out;
-  for (const Region *region : chosen(all, most)) out += std::to_string(work_of(*region)) + " ";
-  return out;
+  return work_of(*median_of_heaviest(all));
 }
 }  // namespace
 
-TEST(all_regions_are_written_where_there_is_room) { EXPECT(works_of(regions_of({5, 9}, {1}), 3), "5 9 1 "); }
-
-TEST(of_a_place_those_next_to_the_median_are_written) {
-  EXPECT(works_of(regions_of({50, 10, 30, 900, 20}, {}), 1), "30 ");
-  EXPECT(works_of(regions_of({50, 10, 30, 900, 20}, {}), 3), "50 30 20 ");
-  EXPECT(works_of(regions_of({50, 10, 900, 20}, {}), 1), "20 ");
+TEST(of_a_place_the_median_is_written) {
+  EXPECT(chosen_of(regions_of({50, 10, 30, 900, 20}, {})), 30);
+  EXPECT(chosen_of(regions_of({50, 10, 900, 20}, {})), 20);
+  EXPECT(median_of_heaviest({}) == nullptr, true);
 }
 
-TEST(places_take_turns_those_with_the_most_work_first) {
-  EXPECT(works_of(regions_of({1, 2, 3}, {40, 50, 60}), 1), "50 ");
-  EXPECT(works_of(regions_of({1, 2, 3}, {40, 50, 60}), 3), "2 50 60 ");
+TEST(it_is_of_the_place_with_the_most_work) {
+  EXPECT(chosen_of(regions_of({1, 2, 3}, {40, 50, 60})), 50);
+  EXPECT(chosen_of(regions_of({40, 50, 60}, {100})), 50);
 }
 
 TEST(regions_are_told_in_the_order_of_time) {

@@ -35,7 +35,7 @@ TEST(the_direction_of_each_remark) {
     all.insert(remarks);
     for (Remark remark : remarks) EXPECT(line_of(remark).work == work && line_of(remark).span == span, true);
   };
-  moves({Remark::OneThread, Remark::MutexAsInOut, Remark::UnknownItem, Remark::TurnsTogether}, Not, High);
+  moves({Remark::OneThread, Remark::UnknownItem, Remark::TurnsTogether}, Not, High);
   moves({Remark::MutexInOutSet, Remark::AllMemory, Remark::ItemsLeftOut, Remark::Detach, Remark::UnseenDetach,
          Remark::EqualTurns, Remark::HeldLock},
         Not, Low);

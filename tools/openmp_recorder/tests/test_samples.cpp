@@ -4,6 +4,7 @@
 #include <cstdio>
 #include <cstdlib>
 #include <cstring>
+#include <fstream>
 #include <string>
 #include <vector>
 
@@ -92,6 +93,49 @@ static std::string calls_of(const std::vector<const char *> &innermost_first) {
     places.put_frames(calls.back(), {{name, "a.c:1"}});
   }
   return named_calls(calls, places);
+}
+
+// At 100 the program, 200 the runtime, 300 the recorder, 400 the system's library.
+static void read_modules(ModulesOfRun &modules) {
+  char list[] = "/tmp/spanprof-modules-XXXXXX";
+  close(mkstemp(list));
+  std::ofstream(list) << "64 64 c8 module main\nc8 c8 12c runtime libgomp.so.1\n12c 12c 190 module librecorder.so\n"
+                      << "190 190 1f4 module libc.so.6\n";
+  modules.read(list, "main");
+  unlink(list);
+}
+
+static std::string calls_in_modules(const Calls &calls) {
+  ModulesOfRun modules;
+  read_modules(modules);
+  Places places(&modules);
+  places.put_frames(code(100), {{"main", "a.c:1"}});
+  places.put_frames(code(101), {{"region", "a.c:2"}});
+  return named_calls(calls, places);
+}
+
+TEST(what_the_runtime_does_for_the_program_is_one_function) {
+  EXPECT(calls_in_modules({code(200), code(201), code(101), code(202), code(100)}), "region;runtime@OpenMP");
+  EXPECT(calls_in_modules({code(400), code(200), code(100)}), "main;runtime@OpenMP");
+  EXPECT(calls_in_modules({code(200), code(300), code(100)}), "main;runtime@OpenMP");
+  EXPECT(calls_in_modules({code(300), code(200), code(100)}), "main");
+  EXPECT(calls_in_modules({code(101), code(200), code(100)}), "region");
+}
+
+TEST(code_of_the_recorder_is_none_of_the_program) {
+  Program made;
+  made.sample(0, 0, 4000).sample(0, 1, 8000).sample(0, 1, 900, true).after(9);
+  end_region(made);
+  made.times();
+  Stacks stacks;
+  stacks.number({code(100)});
+  stacks.number({code(300), code(100)});
+  ModulesOfRun modules;
+  read_modules(modules);
+  Places places(&modules);
+  places.put_frames(code(100), {{"main", "a.c:1"}});
+  EXPECT(sampled_lines(*made.found.whole, made.found.whole->off, stacks, places),
+         "1 ran 4000 main\n1 slept 900 main\n");
 }
 
 TEST(code_in_headers_of_the_system_is_called_by_the_program) {

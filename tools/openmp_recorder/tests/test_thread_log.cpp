@@ -6,6 +6,8 @@
 
 #include <cstdio>
 #include <cstdlib>
+#include <memory>
+#include <vector>
 
 #include "log_head.hpp"
 #include "thread_reader.hpp"
@@ -22,17 +24,18 @@ __thread ThreadLog *thread_log = nullptr;
 const Beginning &this_log() { return place; }
 double nanoseconds_of_tick() { return 0.001; }  // so no record is far from when both clocks were looked at
 int64_t wall_time_at(uint64_t ticks) { return static_cast<int64_t>(ticks); }
+void lose_switches() {}
 void stop_log(log_form::Stopped why) { log_stopped = why; }
 
 namespace {
 // A thread that appends, by one of both clocks, and what is read of it.
 class Appended {
  public:
-  explicit Appended(bool by_processor) {
+  explicit Appended(log_form::Costs costs = log_form::Costs::Wall) {
     char name[] = "/tmp/spanprof-test-XXXXXX";
     place.folder = mkdtemp(name);
-    costs_by_processor = by_processor;
-    head.by_processor = by_processor;
+    costs_by_processor = costs == log_form::Costs::Processor;
+    head.costs = costs;
     head.first = {beginning, static_cast<int64_t>(beginning)};
     head.second = {beginning + 1000, static_cast<int64_t>(beginning) + 1000};
   }
@@ -67,7 +70,7 @@ class Appended {
                       record->other == (is_made ? count : task_of(count + 1)) &&
                       record->detail == (is_made ? 0 : count % 8) && record->code == (is_made ? place_of(count) : 0) &&
                       record->told() == (is_made ? Told::Create : Told::Schedule) &&
-                      record->at == static_cast<int64_t>(head.by_processor ? 7 * count : ticks);
+                      record->at == static_cast<int64_t>(head.costs == log_form::Costs::Processor ? 7 * count : ticks);
       if (!is_right) return 0;
       count++;
     }
@@ -85,8 +88,8 @@ class Appended {
 }  // namespace
 
 TEST(what_is_appended_is_read) {
-  for (bool by_processor : {false, true}) {
-    Appended made(by_processor);
+  for (log_form::Costs costs : {log_form::Costs::Wall, log_form::Costs::Processor, log_form::Costs::Own}) {
+    Appended made(costs);
     ThreadLog log(0);
     for (uint32_t i = 0; i < 30000; i++) made.append(log, i);  // several blocks
     EXPECT(made.read(), 30000u);
@@ -95,7 +98,7 @@ TEST(what_is_appended_is_read) {
 
 // With how many records the first block was full.
 static uint32_t records_in_a_block() {
-  Appended made(false);
+  Appended made;
   ThreadLog log(0);
   uint32_t count = 0;
   while (!made.bytes_in_file()) made.append(log, count++);
@@ -103,7 +106,7 @@ static uint32_t records_in_a_block() {
 }
 
 TEST(time_before_the_first_record_is_appended_behind_it) {
-  Appended made(false);
+  Appended made;
   ThreadLog log(0);
   made.append(log, 0);
   Look loaded{{1000, 300}, 1, 0}, met{{1000 + 2 * far_apart, 500}, 2, 0};
@@ -118,11 +121,104 @@ TEST(time_before_the_first_record_is_appended_behind_it) {
   EXPECT(passed->passed.taken, false);
 }
 
+// By no other clock: by the wall clock it is told, and counts.
+TEST(what_others_took_of_the_processor_is_left_out) {
+  for (log_form::Costs costs : {log_form::Costs::Wall, log_form::Costs::Own}) {
+    for (long taken : {0, 1}) {
+      Appended made(costs);
+      ThreadLog log(0);
+      made.append(log, 0);
+      Look before{{1000, 300}, 1, 0}, after{{1000 + 2 * far_apart, 500}, 2, taken};
+      log.look_back(before, after, {beginning, 0});
+      ThreadReader reader(place.folder + "/thread.0", 0, made.head);
+      reader.next();
+      bool is_left_out = taken && costs == log_form::Costs::Own;
+      EXPECT(reader.next()->stood_still, is_left_out ? 2 * far_apart - 200 : 0);
+    }
+  }
+}
+
+namespace {
+// A thread that records, and is seen where it is switched out; none on an old kernel or glibc.
+class Switching {
+ public:
+  Switching() {
+    look_for_switches(true);
+    uint64_t began = later_wall_time();
+    made.head.first = {began, static_cast<int64_t>(began)};
+    made.head.second = {began + 1000, static_cast<int64_t>(began) + 1000};
+    log = std::make_unique<ThreadLog>(0);
+  }
+  ~Switching() { switches_are_known = false; }
+  bool is_known() const { return log->kept.is_known(); }
+  void record() {
+    Moment now{later_wall_time(), 0};
+    if (log->is_to_look(now.at)) log->look_at_clocks(now);
+    log->put(now, Told::Schedule, 3, 3, 0, 0);
+  }
+  void wait_for_lock() {
+    Moment asked{later_wall_time(), 0};
+    log->wait_begins(asked);
+    usleep(3000);
+    Moment got{later_wall_time(), 0};
+    log->wait_ends(got);
+  }
+  // What is told of both clocks.
+  std::vector<Passed> passed() {
+    ThreadReader reader(place.folder + "/thread.0", 0, made.head);
+    std::vector<Passed> out;
+    while (const Record *record = reader.next())
+      if (record->told() == Told::Passed) out.push_back(record->passed);
+    return out;
+  }
+
+ private:
+  Appended made{log_form::Costs::Own};
+  std::unique_ptr<ThreadLog> log;
+};
+}  // namespace
+
+TEST(a_thread_that_slept_tells_so_with_its_next_record) {
+  Switching thread;
+  if (!thread.is_known()) return;
+  thread.record();
+  usleep(3000);
+  thread.record();
+  std::vector<Passed> told = thread.passed();
+  EXPECT(told.empty(), false);
+  EXPECT(told.back().slept, true);
+  EXPECT(told.back().off() >= 2000000, true);
+}
+
+TEST(sleep_in_a_wait_for_a_lock_is_not_told) {
+  Switching thread;
+  if (!thread.is_known()) return;
+  thread.record();
+  thread.wait_for_lock();
+  thread.record();
+  for (const Passed &one : thread.passed()) EXPECT(one.slept && one.off() >= 2000000, false);
+}
+
+TEST(of_sleep_in_a_lock_and_before_it_no_more_is_told_than_the_lock_was_held) {
+  Switching thread;
+  if (!thread.is_known()) return;
+  thread.record();
+  thread.wait_for_lock();
+  int64_t got = wall_time();
+  usleep(1000);
+  thread.record();
+  int64_t held = wall_time() - got;
+  std::vector<Passed> told = thread.passed();
+  EXPECT(told.empty(), false);
+  EXPECT(told.back().off() <= held + 100000, true);
+  EXPECT(told.back().slept, true);
+}
+
 TEST(most_records_take_eight_bytes) { EXPECT(records_in_a_block() > log_form::block_bytes / 8 * 9 / 10, true); }
 
 TEST(after_each_record_all_so_far_are_there) {
   uint32_t full = records_in_a_block();
-  Appended made(false);
+  Appended made;
   ThreadLog log(0);
   for (uint32_t i = 0; i < full + 600; i++) {
     made.append(log, i);
@@ -134,7 +230,7 @@ TEST(after_each_record_all_so_far_are_there) {
 
 // Both begin with readings of their own, so that a block that was written and not cleared counts once.
 TEST(each_block_begins_with_a_long_record) {
-  Appended made(false);
+  Appended made;
   ThreadLog log(0);
   for (uint32_t i = 0; i < 30000; i++) made.append(log, i);
   FILE *file = fopen((place.folder + "/thread.0").c_str(), "re");

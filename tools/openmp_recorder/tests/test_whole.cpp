@@ -85,10 +85,10 @@ TEST(pieces_have_their_times_in_a_text_of_any_size_too) {
   loop(made.after(4), 0, 4, {{3, 6 * us}, {1, 5 * us}});
   end_region(made);
   Events few = event_lines((made.times(), *made.found.whole));
-  tell_program(*made.found.whole, {1, false, true, true}, Places(), [](std::string_view) {});
+  tell_program(*made.found.whole, {1, true, true}, Places(), [](std::string_view) {});
   Events many = event_lines(*made.found.whole);
   EXPECT(many.whole, true);
-  EXPECT(times_table(many), times_table(few));
+  EXPECT(timed_lines(*made.found.whole, many), timed_lines(*made.found.whole, few));
 }
 
 TEST(time_off_the_processor_is_told_by_segment) {
@@ -213,6 +213,7 @@ TEST(turns_that_joined_a_chunk_are_told_after_it) {
   made.add(0, Told::Divided, 5, 1, 0, 50).add(0, Told::Chunk, 1).after(6 * us).add(0, Told::Chunk, 1, 0, 0, 2);
   end_region(made.after(2 * us).add(0, Told::DividedEnd, 0, 0, 0, 1));
   EXPECT_PART(made.text(), of_turns + pieces(3, 2 * us) + pieces(2, us));
+  EXPECT(made.found.whole->short_chunks.at(reinterpret_cast<const void *>(50)).times, 3u);
 }
 
 // Of such a loop the compiler asks for the thread's first chunk alone.
@@ -286,6 +287,14 @@ TEST(a_program_that_was_killed_in_a_region_has_what_ran_until_then) {
   made.after(4).barrier(1, 2).after(3).add(0, Told::Cancel, 1);
   made.whole({0, 1, false, true});
   EXPECT(text_of(*made.found.whole), "work 100\n" + group(parts(7) + parts(4)));
+}
+
+TEST(a_program_that_was_killed_outside_of_regions_ran_until_its_last_record) {
+  Program made;
+  end_region(made.after(4));
+  Region &all = *made.whole({0, 0, false, true}).whole;
+  text_of(all);  // which gives the segments their numbers
+  EXPECT_PART(timed_lines(all, event_lines(all)), " 104 104\n");
 }
 
 TEST(tasks_are_those_of_their_region_and_chunks_are_none) {

@@ -41,10 +41,10 @@ TEST(a_large_text_is_told_piece_by_piece_and_not_indented) {
                 .read();
   Region &region = only_region(run);
   std::string words;
-  tell_program(region, {1, false, true, false}, Places(), [&](std::string_view piece) { words += piece; });
+  tell_program(region, {1, true, false}, Places(), [&](std::string_view piece) { words += piece; });
   EXPECT(words, "omptasks 1\ntask {\nwork 3\ntask {\nwork 4\n}\n}\n");
   EXPECT(region.numbers.empty(), true);
-  tell_program(region, {1, false, true, true}, Places(), [](std::string_view) {});
+  tell_program(region, {1, true, true}, Places(), [](std::string_view) {});
   EXPECT(region.numbers == std::vector<uint32_t>({0, 4, 1, 3, 2}), true);  // of the root, its child, and the child's
 }
 
@@ -71,8 +71,7 @@ TEST(deeply_nested_tasks_are_written_line_by_line) {
   add_up(region);
   EXPECT(size_of(region).blocks, deep);
   size_t bytes = 0, pieces = 0;
-  tell_program(region, {1, false, true, false}, Places(),
-               [&](std::string_view piece) { bytes += piece.size(), pieces++; });
+  tell_program(region, {1, true, false}, Places(), [&](std::string_view piece) { bytes += piece.size(), pieces++; });
   EXPECT(bytes, std::string("omptasks 1\n").size() + deep * std::string("work 1\ntask {\n}\n").size());
   EXPECT(pieces > 1, true);
 }
@@ -111,7 +110,6 @@ TEST(times_of_segments_are_since_the_region_began) {
   Region &region = only_region(run);
   text_of(region);
   Events events = event_lines(region);
-  EXPECT(times_table(events), "segment,thread,start_ns,end_ns\n0,0,0,1499\n1,1,1499,3999\n2,0,1499,1499\n");
   EXPECT(timed_lines(region, events), "times 2 0 3999\n0 0 0 1499\n1 1 1499 3999\n2 0 1499 1499\n");
   EXPECT(events.whole, true);
   EXPECT(events.workers, 2u);
@@ -155,7 +153,7 @@ TEST(the_head_tells_what_other_programs_took) {
   const Task *root = region.root, *task = &region.tasks.back();
   region.preempted = {{root, 0, 100}, {task, 0, 300}, {root, 0, 50}, {task, 9, 400}};
   EXPECT(head_of(region, {}, Options(), Places()).find("preempted"), std::string::npos);  // no text is written
-  text_of(region, {1, false, false, true});
+  text_of(region, {1, false, true});
   EXPECT_PART(head_of(region, {}, Options(), Places()), "# preempted: [[1, 300], [0, 150]]\n");
 }
 
@@ -165,9 +163,9 @@ TEST(the_head_tells_the_recording) {
   region.place = 2;
   region.locks[7] = {ompt_mutex_critical, nullptr, 3, 400, 90, 300};
   region.divided[Divided::Loops].times = 4;
-  region.differing.add({false, 2, 1}, 2000, 49000, nullptr);
-  region.differing.add({false, 2, 1}, 1000, 1000, nullptr);
-  region.asleep.add({true, 2, 1}, 500, 60000, nullptr);
+  region.differing.add(true, 2000, 49000, nullptr);
+  region.differing.add(true, 1000, 1000, nullptr);
+  region.asleep.add(true, 500, 60000, nullptr);
   region.untimed = 70000;
   region.remarks[Remark::Detach].add(nullptr);
   Options options;
@@ -258,8 +256,8 @@ TEST(clocks_are_remarked_where_they_may_move_a_number_by_a_twentieth) {
   auto remarked = [](int64_t work, int64_t span, int64_t off, int64_t slightly) {
     Region region;
     region.work = work, region.span = span;
-    if (off) region.differing.add({false, 2, 1}, off, off, nullptr);
-    region.differing.add({false, 100, 99}, slightly, slightly, nullptr);
+    if (off) region.differing.add(true, off, off, nullptr);
+    region.differing.add(false, slightly, slightly, nullptr);
     remark_clocks(region);
     auto remark = region.remarks.find(Remark::Preempted);
     return remark == region.remarks.end() ? 0 : remark->second.times;

@@ -18,7 +18,8 @@ class Program : public Made {
  public:
   using Made::Made;
   Run &whole(Ending ending = {}) {
-    found = read(ending, {UINT64_MAX, true, began, ending.wall ? 0 : now(), nullptr, true, began, now()});
+    int64_t end = ending.killed ? 0 : now();
+    found = read(ending, {UINT64_MAX, true, began, ending.wall ? 0 : now(), nullptr, true, began, end});
     finish_whole(found, {0, true, began, now()}, 1);
     size_of(*found.whole);
     return found;

@@ -43,7 +43,7 @@ MOST_SHRUNK, SHRINK_RUNS, SHRINK_TRIES = 8, 20, 300  # of smaller programs
 
 
 def command_run(options, folder):
-    """Runs the directed part and random programs, and shrinks what fails."""
+    """Runs directed, self-checking and random programs, and shrinks those that fail."""
     bench = open_bench(options, folder)
     plan = plan_of(options, bench)
     what = tested(options, bench, plan.settings)
@@ -99,7 +99,7 @@ def shrink_failures(options, bench, results):
 
 
 def command_mutants(options, folder):
-    """Runs the directed part on each mutant, all of which have to be caught, and on none."""
+    """Breaks one rule of the runtime after another, and lists which mutants the directed programs catch."""
     bench = open_bench(options, folder)
     if options.built:
         return try_built(options, bench)

@@ -12,10 +12,10 @@ from spanprof.conformance.run.settings import SETTINGS
 from spanprof.conformance.generate.variants import VARIANTS
 from spanprof.version import Version
 
-AFTER = """tools/conformance/README.md says what is tried and judged. Exit status 0: every run was accepted, or of mutants all were caught; 1: not so; 2: nothing could be tried, or
-wrong arguments; 130: it was stopped."""
+AFTER = """tools/conformance/README.md says what is tried and judged. Exit status 0: all runs were accepted, or all
+mutants caught; 1: not all; 2: nothing could be tried, or wrong arguments; 130: stopped by Ctrl-C."""
 MOST_THREADS = 64
-REPORT = "files for the report, with commas: .md, .xml (JUnit)"
+REPORT = "write the report to these files: .md, .xml (JUnit)"
 
 
 def positive(word):
@@ -77,7 +77,7 @@ def parse(calls, words=None):
     parser = argparse.ArgumentParser(prog="spanprof-conformance", description="Tests a runtime for OpenMP tasks.",
                                      usage="%(prog)s COMMAND [options]", epilog=AFTER, allow_abbrev=False)
     parser.add_argument("--version", action=Version)
-    commands = parser.add_subparsers(dest="command", required=True)
+    commands = parser.add_subparsers(dest="command", required=True, prog="spanprof-conformance", metavar="COMMAND")
     for name, call in calls.items():
         of_name = commands.add_parser(name, help=call.__doc__, usage=USAGES[name], epilog=AFTER,
                                       allow_abbrev=False)
@@ -89,9 +89,10 @@ def parse(calls, words=None):
 def add_options(name, parser):
     add = parser.add_argument
     if name in ("shrink", "emit", "judge"):
-        add("file", help="a program text" + (", or the name of a self-checking program" if name == "emit" else ""))
+        more = ", or the name of a self-checking program" if name == "emit" else ""
+        add("file", help="a program text (MINE.tasks)" + more)
     if name == "judge":
-        add("log", help="what a run of it wrote")
+        add("log", help="the log of its runs")
     if name in ("run", "mutants", "shrink"):
         add_runtime_options(name, parser.add_argument_group("the runtime"))
         add_program_options(name, parser.add_argument_group("the programs"))
@@ -103,13 +104,13 @@ def add_options(name, parser):
 
 def add_runtime_options(name, group):
     add = group.add_argument
-    add("--cc", required=True, metavar="CC", help="the compiler, with flags of yours: 'clang-19 -O2'")
+    add("--cc", required=True, metavar="CC", help="the compiler and its flags, such as 'clang-19 -O2'")
     add("--preload", default="", metavar="LIBRARY",
-        help="load this first: another runtime with the same entry points, a sanitizer's library")
+        help="preload a library: another build of the runtime, or a sanitizer")
     if name == "mutants":
         add("--built", default="", metavar="FOLDER",
             help="runtimes built from changed sources by checks/programs/mutants, in place of entry points")
-        add("--only", type=lambda words: words.split(","), default=[], metavar="NAME,..", help="these of them alone")
+        add("--only", type=lambda words: words.split(","), default=[], metavar="NAME,..", help="only these mutants")
 
 
 def add_program_options(name, group):
@@ -120,13 +121,12 @@ def add_program_options(name, group):
     add("--tasks", type=some_of(VARIANTS), default=list(VARIANTS), metavar="tied,untied,mixed",
         help="how tasks are written (all three; mixed: every other task is untied)")
     add("--match", type=pattern, default="*", metavar="PATTERN",
-        help="only the directed and self-checking programs whose names fit it (*)")
+        help="only directed and self-checking programs with such names (*)")
     few = name == "mutants"
     add("--programs", type=natural, default=20 if few else 100, metavar="N",
-        help="how many random programs (20, in a campaign on a runtime of --built)" if few else
-        "how many random programs (100)")
+        help="number of random programs (%s)" % ("20 in a campaign of --built" if few else "100"))
     add("--without", type=some_of(CONSTRUCTS), default=[], metavar="CONSTRUCT,..",
-        help=f"constructs that random programs do not have: {', '.join(CONSTRUCTS)}")
+        help=f"leave these constructs out of random programs: {', '.join(CONSTRUCTS)}")
 
 
 def add_run_options(name, group):
@@ -137,15 +137,15 @@ def add_run_options(name, group):
     add("--settings", type=some_of(SETTINGS), default=[], metavar=",".join(SETTINGS),
         help="how programs are started (each of those for the runtime in turn)")
     add("--seed", type=natural, default=1, metavar="N",
-        help="the least number of a random program, and the delays' seed (1)")
+        help="seed of the random programs and delays (1)")
     add("--timeout", type=positive, default=10, metavar="SECONDS",
-        help="without an event until a run counts as hung (10)")
+        help="a run without an event for so long counts as hung (10)")
     add("--jobs", type=positive, default=max(1, (os.cpu_count() or 1) // 2), metavar="N",
-        help="programs that are tried side by side (half as many as processors)")
+        help="programs that run at once (half as many as processors)")
     if name in ("run", "mutants"):
         add("--seconds", type=positive, default=math.inf, metavar="N",
-            help="of a campaign at most (no limit)" if name == "mutants" else
-            "for all of the test, with its report: the most telling programs first, as many as there is time for")
+            help="limit of a campaign (none)" if name == "mutants" else
+            "limit of the whole test (none): the most telling programs run first")
     if name == "mutants":
         add("--campaigns", type=positive, default=5, metavar="N",
             help="campaigns on each runtime of --built, until two programs of one have failed, or half of these (5)")
@@ -154,9 +154,9 @@ def add_run_options(name, group):
 def add_result_options(name, group):
     add = group.add_argument
     add("--expected", type=lambda words: words.split(","), default=[USUAL], metavar="FILE,..",
-        help="failures that do not count (expected.txt here; /dev/null: all count)")
-    add("--keep", default="", metavar="FOLDER", help="keep the built programs there, and take those that are there")
+        help="known failures, which do not count (tools/conformance/expected.txt; /dev/null: none)")
+    add("--keep", default="", metavar="FOLDER", help="keep built programs there, and reuse them")
     add("--report", type=report_files, default="", metavar="FILE,..", help=REPORT)
     if name != "mutants":
         add("--shrink-seconds", type=natural, default=60, metavar="N",
-            help="for each kind of failure at most, to make its program smaller (60; 0: not at all)")
+            help="limit of shrinking the program of each kind of failure (60; 0: do not shrink)")

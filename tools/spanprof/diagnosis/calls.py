@@ -4,17 +4,28 @@ from collections import Counter, defaultdict
 from functools import lru_cache
 from typing import NamedTuple
 
+from spanprof.errors import reading
+
 LEAST = 5           # samples, below which they say nothing
 A_SAMPLE = 4000     # microseconds
 SHARES = (0.8, 0.5, 0.3)    # of the samples that a function has to have, tried one after the other
 OF_SYSTEM = "@"     # behind a function of the system's libraries
 NO_NAME = "["       # before the name of a file, which stands for a function that has no symbol
+RUNTIME = "runtime@OpenMP"
+# Functions of the C library that let in one thread at a time, and what does without.
+ONE_AT_A_TIME = {
+    **dict.fromkeys(("rand", "random", "srand", "srandom"), "a generator for each thread, such as rand_r"),
+    **dict.fromkeys(("printf", "vprintf", "puts", "putchar"), "a buffer for each thread, printed at its end"),
+    **dict.fromkeys(("localtime", "localtime_r", "mktime", "strftime"), "call it once for many")}
 OUTERMOST = ("main", "_start")
 OF_MPI = re.compile("P?MPI_(?!Init)")
 OF_COMPILERS = re.compile(r"(\.omp_outlined|\._omp_fn|\.part\.|\.constprop\.|\.isra\.|\.cold|\.lto_priv| \[clone ).*$")
 ARGUMENTS = re.compile(r"(?<!operator)(?<!^)\(.*$")
 OFFSET = re.compile(r"\+0x[0-9a-f]+$")
 FORTRAN = re.compile(r"__(\w+?)_MOD_(\w+)$")
+FLANG = re.compile(r"^_Q(?:Q|(?:M([a-z0-9_]+))?(?:F[a-z0-9_]*)?P)([a-z0-9_]+).*$")
+ABI = re.compile(r"\[abi:\w+\]")
+MAIN_PROGRAM = "MAIN__"     # gfortran's name of a main program
 
 
 class Ran(NamedTuple):
@@ -34,7 +45,8 @@ class Sampled(NamedTuple):
 def plain(function):
     """As a person knows it: with its class or namespace, and without its type, arguments, those of templates, what a
     compiler adds, and an offset."""
-    function = OFFSET.sub("", function)
+    function = ABI.sub("", OFFSET.sub("", function)).replace(MAIN_PROGRAM, "main")
+    function = FLANG.sub(lambda found: "::".join(filter(None, found.groups())), function)
     function = FORTRAN.sub(r"\1::\2", function).replace("(anonymous namespace)::", "").replace("<..>", "")
     function = ARGUMENTS.sub("", OF_COMPILERS.sub("", function))
     before, operator, rest = function.partition("operator ")
@@ -51,10 +63,10 @@ def calls_of(path, names):
     """A line of the file has a segment, what it did, how long and in which calls: `12 ran 8000 main;sort;compare`."""
     found = Sampled(defaultdict(Counter), defaultdict(Counter))
     if path:
-        with open(path, encoding="utf-8", errors="replace") as lines:
+        with reading(path), open(path, encoding="utf-8", errors="replace") as lines:
             for line in lines:
                 number, did, time, calls = line.rstrip("\n").split(" ", 3)
-                if int(number) < len(names):
+                if 0 <= int(number) < len(names):
                     getattr(found, did)[names[int(number)]][known(calls)] += int(time)
     return Sampled(dict(found.ran), dict(found.slept))
 
@@ -103,6 +115,19 @@ def innermost(sampled):
             caller = max(callers[function], key=lambda name: (callers[function][name], name))
             return Ran(function, caller.partition(OF_SYSTEM)[0], having[function] / whole)
     return None
+
+
+def in_system(calls):
+    """The function of the system that the last call is, without its library."""
+    return calls[-1].partition(OF_SYSTEM)[0] if OF_SYSTEM in calls[-1] else ""
+
+
+def shares(sampled, name_of):
+    """Of the samples, by what a function says of their calls; nothing where there are too few."""
+    whole, found = sum(sampled.values()), Counter()
+    for calls, time in sampled.items():
+        found[name_of(calls)] += time
+    return {name: time / whole for name, time in found.items()} if whole >= LEAST * A_SAMPLE else {}
 
 
 def together(found, places):

@@ -25,7 +25,7 @@ class Cause(NamedTuple):
 TABLE = (
     Cause("serial", 0.05, "{where} runs on one thread: {alone}"),
     Cause("too_few_tasks", 0.05, "too few tasks: threads wait while {where} runs"),
-    Cause("imbalance", 0.05, "uneven tasks at {where}: the longest takes {largest}, the average one {average}"),
+    Cause("imbalance", 0.05, "uneven tasks at {where}: the longest takes {largest}, the average {average}"),
     Cause("dependence", 0.05, "{tasks} of {where} are serial: {many} have depend({item})"),
     Cause("wait", 0.05, "threads wait at {where}, where other tasks could run"),
     Cause("small_tasks", 0.1, "{all_tasks} tasks of {average_task} each: creating and starting them costs too much",
@@ -34,32 +34,33 @@ TABLE = (
           "larger tasks at {at}, or a taskloop"),
     Cause("small_regions", 0.1, "{regions} at {where} take {region_time} each: starting them costs too much",
           "move parallel at {where} out of the loop around it"),
+    Cause("small_chunks", 0.1, "over {chunks} chunks of {at}, one per {a_chunk}: taking them costs too much",
+          "schedule(static) at {at}, or schedule(dynamic, {of_turns})"),
     Cause("undeferred", 0.05, "{tasks} of {where} run immediately, in the thread that creates them"),
-    Cause("loop_schedule", 0.05, "threads wait at the end of {at}: its work is shared out unevenly", "{shared}"),
-    Cause("lock", 0.1, "threads wait for {where}, {times}",
-          "do less in {where}: {less_inside}"),
+    Cause("loop_schedule", 0.05, "threads wait at the end of {at}: its work is divided unevenly", "{shared}"),
+    Cause("lock", 0.1, "threads wait for {lock}, {times}", "{less_locking}"),
     Cause("exclusion", 0.1, "tasks of {where} exclude each other: mutexinoutset",
           "smaller mutexinoutset items at {at}, or for the update alone"),
     Cause("memory", 0.1, "{where} costs {dearer} times as much on {threads} threads as on one: memory is contended",
-          "a copy for each thread of what {at} writes, joined once: reduction"),
+          "{instead}"),
     Cause("system", 0.1, "{system} % of the processor time is the kernel's: {kernel}", "{less_kernel}"),
     Cause("sleep", 0.1, "{where} waits {in_what}",
-          "begin what {at} waits for sooner, or use more threads"),
-    Cause("too_few_threads", 0.1, "{got} in the region at {where}{others}: {target} can run",
-          "ask for {target} threads at {where}{who_asked}"),
-    Cause("too_many_threads", 0.1, "{threads} threads on {processors} processors, {in_region}",
-          "use {processors} threads: num_threads or OMP_NUM_THREADS"),
-    Cause("machine", 0.25, "other programs had the processors: record it again on a machine with less to do"),
-    Cause("efficient", 0.0, "little: threads ran code {code} % of the time{suspect}"),
+          "wait less at {at}: start it earlier, or use more threads"),
+    Cause("too_few_threads", 0.1, "{got} in the region at {where}{others}: {usable} can run",
+          "ask for {usable} threads at {where}{who_asked}"),
+    Cause("too_many_threads", 0.1, "{threads} threads on {processors} processors, {in_region}", "{fewer}"),
+    Cause("machine", 0.25, "other programs used the processors: record again on an idle machine"),
+    Cause("efficient", 0.0, "little: threads ran code {code} % of {time}{suspect}"),
 )
 BY_KIND = {cause.kind: cause for cause in TABLE}
 # Short names of them, and of what is lost without a cause.
 NAMES = {"serial": "serial", "too_few_tasks": "too few tasks", "dependence": "dependences", "wait": "waits",
          "imbalance": "uneven tasks", "small_tasks": "small tasks", "creation": "creating tasks",
-         "small_regions": "small regions", "undeferred": "undeferred tasks", "loop_schedule": "loop schedule",
-         "lock": "lock", "exclusion": "exclusion", "memory": "memory", "system": "operating system",
-         "sleep": "asleep", "too_few_threads": "too few threads", "too_many_threads": "too many threads",
-         "machine": "busy machine", "recorder": "recorder", "startup": "startup"}
+         "small_regions": "small regions", "small_chunks": "small chunks", "undeferred": "undeferred tasks",
+         "loop_schedule": "loop schedule", "lock": "lock", "exclusion": "exclusion", "memory": "memory",
+         "system": "operating system", "sleep": "asleep", "too_few_threads": "too few threads",
+         "too_many_threads": "too many threads", "machine": "busy machine", "recorder": "recorder",
+         "startup": "startup"}
 EFFICIENT = 0.85        # of the threads' time in code, from which on nothing need be lost
 BUSY = 0.1              # of the threads' time, from which on what other programs took is told apart
 SECOND = 0.1            # of the run's time, from which on a second cause is told

@@ -8,9 +8,9 @@ from spanprof.diagnosis.calls import innermost
 from spanprof.diagnosis.losses import kind_of_starved, most_shared
 from spanprof.diagnosis.places import OF_THREADS, SERIAL, SHARE, in_text
 from spanprof.errors import Fault
-from spanprof.text import BARRIER, text_lines
+from spanprof.text import BARRIER
 from spanprof.whatif.creating import costs_for
-from spanprof.whatif.numbers import numbers_of
+from spanprof.whatif.numbers import greedy_end
 from spanprof.whatif.requests import Request, applied, changes
 from spanprof.whatif.survey import survey
 from spanprof.whatif.trials import best_first, seconds_for
@@ -115,15 +115,16 @@ def candidates(facts, seen):
 
 def without(found, lost):
     """The statements, with costs less by what their segments lost."""
-    current, left = 0, dict(lost)
-    for one in found:
-        if one.kind == "work":
-            less = min(one.cost, left.get(current, 0))
-            left[current] = left.get(current, 0) - less
-            one = one._replace(cost=one.cost - less)
-        elif one.kind != "taskgroup":   # each other mark begins a segment
-            current += 1
-        yield one
+    row, current, left = found.row[:], 0, dict(lost)
+    groups = found.of_kind(lambda one: one.kind == "taskgroup")
+    for i, number in enumerate(row):
+        if number < 0:
+            current += number not in groups     # each other mark begins a segment
+        elif left.get(current):
+            less = min(number, left[current])
+            left[current] -= less
+            row[i] -= less
+    return found.changed(row)
 
 
 class Bench:
@@ -135,7 +136,9 @@ class Bench:
         self.until, self.longest = time.monotonic() + (seconds or seconds_for(text.head)), 0
         self.unit = text.head.nanoseconds or 1
         lost = {segment: time // self.unit for segment, time in facts.preempted_in.items()}
-        self.kept = list(without(text.statements(), lost) if lost and text.head.clock != "cpu" else text.statements())
+        self.kept = text.statements()
+        if lost and text.head.clock == "wall":
+            self.kept = without(self.kept, lost)
         self.seen = survey(self.kept)
         self.costs = costs_for(text.head, self.seen)
 
@@ -155,10 +158,10 @@ class Bench:
 
     def greedy_end(self, requests):
         made = changes(requests, self.seen, self.costs)
-        lines = "".join(text_lines(applied(self.kept, made), 1))
+        lines = applied(self.kept, made).text()
         if not all(one.count for one in made):
             return None
-        end = numbers_of(lines, [self.facts.usable]).on[self.facts.usable].end
+        end = greedy_end(lines, self.facts.usable)
         return end * self.unit if end is not None else None
 
     def one(self, before, change):

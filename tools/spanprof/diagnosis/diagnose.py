@@ -59,7 +59,7 @@ def with_alike(loss, found):
 
 def causes_of(facts, found, steps, code):
     """The first is that of the step that is worth most, and a second one where it may bring a tenth of the run's time.
-    Where the program has none of its own it is the machine."""
+    Where the program has none of its own it is the machine, and what the program did in the rest of the time."""
     out, seen = [], set()
     for step in steps:
         loss = matching(step, found)
@@ -77,7 +77,8 @@ def causes_of(facts, found, steps, code):
     if code < EFFICIENT * ran and largest:
         return largest[:1]
     is_machine = facts.share(facts.taken) >= BY_KIND["machine"].least
-    return [Loss("machine", "", facts.taken) if is_machine else Loss("efficient", "", ran - code)]
+    machine, rest = [Loss("machine", "", facts.taken)] * is_machine, Loss("efficient", "", ran - code)
+    return machine + [rest] * (not is_machine or code >= EFFICIENT * ran)
 
 
 def diagnose(facts, bench=None):

@@ -7,6 +7,9 @@ from spanprof.source_lines import LONGEST, STRING
 DIRECTIVE = re.compile(r"\s*#\s*pragma\s+omp\s+(.*)")
 CONDITION = re.compile(r"\s*#\s*(if|endif)")
 TOP_LEVEL = re.compile(r"[A-Za-z_]")
+OF_NUMBER = r"omp_get_thread_num\s*\(\s*\)"
+THREAD_NUMBER = re.compile(r"\b(\w+)\s*=\s*" + OF_NUMBER)
+POINTER = re.compile(r"[*&]\s*(\w+)\s*=\s*[&(]*\s*$")
 LOOP = re.compile(r"\b(for|while|do)\b")
 # Of the names of places, waits and regions, and what their directives have.
 CONSTRUCTS = (("taskwait", "taskwait"), ("taskgroup", "taskgroup"), ("loop", "for"), ("section", "sections"),
@@ -61,6 +64,22 @@ def block_around(lines, number):
                 return here
             closed += (sign == "}") - (sign == "{")
     return 0
+
+
+def own_item(lines, first, last):
+    """In these lines, what of an array each thread has by its number, next to what others have: itself, or by a pointer
+    to it that is made before, in the function; and its line. None where the source shows none."""
+    begin = next((here for here in range(first, 0, -1) if TOP_LEVEL.match(lines[here - 1])), first)
+    code = [code_of(line) for line in lines[:last]]
+    numbers = {found[1] for line in code[begin - 1:] for found in THREAD_NUMBER.finditer(line)}
+    item = re.compile(r"\b\w+\s*\[\s*(?:%s)\s*\]" % "|".join([OF_NUMBER, *sorted(numbers)]))
+    for here in range(begin, last + 1):
+        found = item.search(code[here - 1])
+        pointer = found and POINTER.search(code[here - 1][:found.start()])
+        is_used = pointer and any(re.search(r"\b%s\b" % pointer[1], line) for line in code[max(here, first - 1):])
+        if found and (is_used or here >= first and not pointer):
+            return found[0], here
+    return None
 
 
 def makes_tasks(lines, first, last):

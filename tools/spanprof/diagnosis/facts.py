@@ -3,6 +3,7 @@ import heapq
 import re
 import statistics
 from array import array
+from bisect import bisect_right
 from collections import Counter
 from dataclasses import dataclass, field, replace
 from typing import Dict, List, Optional
@@ -10,18 +11,22 @@ from typing import Dict, List, Optional
 from spanprof.account import account_of
 from spanprof.account_program import NoAccount
 from spanprof.diagnosis.calls import Sampled, calls_of, is_of_ranks, plain
+from spanprof.diagnosis.library_locks import set_library_locks
 from spanprof.diagnosis.lock_times import locks_of
 from spanprof.diagnosis.places import A_START, AROUND_REGIONS, in_text, read_places
+from spanprof.errors import reading
 from spanprof.head import head_of
-from spanprof.idle import idle_by_place, most_at_once
+from spanprof.idle import exact_idle, idle_by_place, most_at_once, rounded, together
 from spanprof.recording import document
 from spanprof.regions import program_of, union
-from spanprof.segment_table import read_code
+from spanprof.segment_table import code_in
 from spanprof.text_file import TextFile
 from spanprof.whatif.numbers import numbers_of
 
 RUNTIMES = {"llvm": "LLVM", "gnu": "gcc"}
-MOST_APART = 64         # preempted segments; idle time is shared among all at once, so many take long
+# Preempted segments; idle time is shared among all at once, so many take long. Of thirteen recordings the machine's
+# losses were within 1.3 points of those with all of them apart; with none three causes were wrong.
+MOST_APART = 64
 EXCLUDING = "mutexinoutset"     # the remark of a text that has inoutset in its place
 OF_GCC = "lines of gcc"         # that of a text whose tasks or waits are of gcc's code
 
@@ -55,6 +60,7 @@ class Facts:
     preempted: int = 0
     asleep: int = 0
     at_locks: int = 0
+    in_library: int = 0                 # of that, at locks inside functions of the C library
     delayed: int = 0
     starved: int = 0
     outside: int = 0
@@ -69,11 +75,14 @@ class Facts:
     calls: Sampled = Sampled({}, {})
     places: dict = field(default_factory=dict)
     functions: Dict[str, str] = field(default_factory=dict)
+    sources: Dict[str, str] = field(default_factory=dict)
+    chunks: Dict[str, List[int]] = field(default_factory=dict)     # by place of loops: short ones, and their turns
     locks: list = field(default_factory=list)
-    regions: List[Region] = field(default_factory=list)
+    regions: List[Region] = field(default_factory=list)     # inside no other
+    inner: List[Region] = field(default_factory=list)       # with threads of their own
+    nested: int = 0                     # threads at once, with those of inner regions
     is_of_gcc: bool = False             # some constructs have the line of a statement before them
     waits_of_some_turns: set = field(default_factory=set)   # in an `if` of the loop that makes the tasks
-    creating: int = 0                   # what creating one task costs
     usage: Optional[dict] = None
     coverage: Optional[float] = None
     runs: int = 1
@@ -91,6 +100,11 @@ class Facts:
     def usable(self):
         """Of these, as many as run at once."""
         return max(1, min(self.target, self.processors or self.target))
+
+    @property
+    def most_threads(self):
+        """Those of regions inside others too, of which few may have run at once."""
+        return max(self.threads, self.nested)
 
     @property
     def whole_time(self):
@@ -139,7 +153,8 @@ def function_in(words):
 
 def of_those_at_once(found, threads):
     """The account of as many threads as the program had at a time: nested regions may each make new ones."""
-    threads = max(threads, most_at_once(found.rows))
+    if len(set(found.rows.thread)) > threads:   # a thread runs one at a time
+        threads = max(threads, most_at_once(found.rows))
     if threads == found.threads:
         return found
     delayed, starved = (sum(parts.values()) for parts in idle_by_place(found.rows, found.places, threads))
@@ -150,34 +165,40 @@ def of_those_at_once(found, threads):
 def starting_shares(found):
     """Of the delays of threads' own code, and of code after regions, by place: as much as a runtime takes."""
     whole, starting = Counter(), Counter()
-    for row, name in zip(found.rows, found.places):
-        if name.startswith(AROUND_REGIONS):
-            whole[name] += row.begin - row.ready
-            starting[name] += min(row.begin - row.ready, A_START)
+    around = {name for name in set(found.places) if name.startswith(AROUND_REGIONS)}
+    for ready, begin, name in zip(found.rows.ready, found.rows.begin, found.places):
+        if name in around:
+            whole[name] += begin - ready
+            starting[name] += min(begin - ready, A_START)
     return {name: starting[name] / time for name, time in whole.items() if time}
 
 
-def kept_waiting(facts, row, preempted, time):
-    """Of the time for which threads starved while a segment lasted: had it been preempted no more than code was on
-    average, each had waited for so much less; and of the rest as much is due to that as of the code."""
+def kept_waiting(facts, lasted, preempted, time):
+    """Of the time for which threads starved while a segment lasted so long: had it been preempted no more than code was
+    on average, each had waited for so much less; and of the rest as much is due to that as of the code."""
     average = facts.preempted / max(facts.code + facts.preempted, 1)
-    alone = min(time, (facts.threads - 1) * max(0, preempted - average * (row.end - row.begin)))
+    alone = min(time, (facts.threads - 1) * max(0, preempted - average * lasted))
     return int(alone + average * (time - alone))
 
 
-def set_starved(facts, found):
+def set_idle(facts, found):
     """Of the segments that were preempted most it is known how long others starved while each lasted; of the rest as
     much of that time is due to it as of the code at their place."""
     apart, rest = set(heapq.nlargest(MOST_APART, facts.preempted_in, facts.preempted_in.get)), Counter()
     for segment in facts.preempted_in.keys() - apart:
         rest[found.places[segment]] += facts.preempted_in[segment]
-    names = [(name, segment) if segment in apart else name for segment, name in enumerate(found.places)]
-    for key, time in replace(found, places=names).starved_by.items():
+    keys = list(found.places)
+    for segment in apart:
+        keys[segment] = found.places[segment], segment
+    delayed, starved = exact_idle(found.rows, keys, found.threads)
+    facts.delayed_by = rounded(together(delayed, lambda key: key[0] if isinstance(key, tuple) else key))
+    for key, time in rounded(starved).items():
         name, segment = key if isinstance(key, tuple) else (key, None)
         if segment is None:
             off = int(time * rest[name] / max(facts.places[name].cost + rest[name], 1)) if name in rest else 0
         else:
-            off = kept_waiting(facts, found.rows[segment], facts.preempted_in[segment], time)
+            lasted = found.rows.end[segment] - found.rows.begin[segment]
+            off = kept_waiting(facts, lasted, facts.preempted_in[segment], time)
         facts.starved_by[name] = facts.starved_by.get(name, 0) + time
         facts.starved_off[name] = facts.starved_off.get(name, 0) + off
 
@@ -187,23 +208,26 @@ def set_breakdown(facts, found):
     facts.threads = found.threads
     for name, part in found.parts.items():
         setattr(facts, name.replace(" ", "_"), part)
-    facts.delayed_by, facts.starting_by = found.delayed_by, starting_shares(found)
-    set_starved(facts, found)
+    facts.starting_by = starting_shares(found)
+    set_idle(facts, found)
 
 
-def set_by_greedy(facts):
+def set_by_greedy(facts, head):
     """Without the times of the run: what the greedy run of the text leaves idle, and what is longer than it."""
     whole = facts.threads * facts.elapsed
     facts.code = min(facts.work, whole)
-    facts.starved = max(0, min(whole, facts.threads * facts.greedy) - facts.code)
-    facts.delayed = whole - facts.code - facts.starved
+    if head.clock == "wall":
+        facts.preempted = min(facts.code, head.clocks_differ.get("by", 0) * (head.nanoseconds or 1))
+        facts.code -= facts.preempted
+    facts.starved = max(0, min(whole, facts.threads * facts.greedy) - facts.code - facts.preempted)
+    facts.delayed = whole - facts.code - facts.preempted - facts.starved
 
 
 def off_by_segment(path, head):
     """Time asleep and preempted, of a file with a line for each segment, or else of the text's head."""
     if not path:
         return {segment: (0, time * (head.nanoseconds or 1)) for segment, time in head.preempted.items()}
-    with open(path, encoding="utf-8") as file:
+    with reading(path), open(path, encoding="utf-8") as file:
         return {segment: (slept, preempted) for segment, slept, preempted in (map(int, line.split()) for line in file)}
 
 
@@ -226,10 +250,10 @@ def set_ranks(facts):
 
 
 def costs_of(code, off, head):
-    """In nanoseconds. Those by the wall clock have the time in which a thread was preempted, and lose it here."""
+    """In nanoseconds. Those by the wall clock alone have the time in which a thread was preempted, and lose it here."""
     unit = head.nanoseconds or 1
     costs = code.cost if unit == 1 else array("Q", (cost * unit for cost in code.cost))
-    if head.clock == "cpu" or not any(preempted for _, preempted in off.values()):
+    if head.clock != "wall" or not any(preempted for _, preempted in off.values()):
         return costs
     costs = costs[:]
     for segment, (_, preempted) in off.items():
@@ -261,9 +285,29 @@ def elapsed_in(place, program):
     return union(outer + inner) - union(inner) if is_alone else place.outermost
 
 
-def regions_of(path):
+def inner_regions(program):
+    """By place, those inside others that have several threads."""
+    found = {}
+    for region in program.regions if program else ():
+        if region.inside and region.threads > 1:
+            found.setdefault(region.place, []).append(region)
+    return [Region(place, max(one.threads for one in some), union((one.begin, one.end) for one in some),
+                   times=len(some)) for place, some in found.items()]
+
+
+def nested_threads(program):
+    """How many threads there are at once where regions inside others have several; 0 without such regions."""
+    outer = [region for region in program.regions if not region.inside and region.number] if program else []
+    begins, most = [region.begin for region in outer], 0
+    for region in program.regions if outer else ():
+        around = outer[max(0, bisect_right(begins, region.begin) - 1)]
+        if region.inside and region.threads > 1:
+            most = max(most, around.threads * region.threads)
+    return most
+
+
+def regions_of(program):
     """By place; those inside others are left out, since their threads are not of the team."""
-    program = program_of(path)
     places = [place for place in program.places if not place.is_inside] if program else []
     return [Region(place.name, max(region.threads for region in place.regions), elapsed_in(place, program),
                    max(region.asked for region in place.regions) or None,
@@ -280,6 +324,7 @@ def of_text(head, program, numbers):
                   tasks=max(program.code.task) - head.pieces - head.parts, places=program.places,
                   functions={at: function_in(words) for at, words in head.functions.items()})
     facts.coverage = head.covered / head.thread_time if head.covered and head.thread_time else None
+    facts.chunks, facts.sources = head.chunks, head.sources
     facts.is_of_gcc = any(remark.name == OF_GCC for remark in head.remarks)
     if any(remark.name == EXCLUDING for remark in head.remarks):
         for place in facts.places.values():
@@ -290,18 +335,20 @@ def of_text(head, program, numbers):
 def facts_of(recording):
     """Of a recording's folder, or of a plain text with what lies beside it."""
     path, meta = recording.text, recording.meta
-    code, head = read_code(TextFile(path).lines(), path), head_of(path)
+    code, head = code_in(path), head_of(path)
     off = {segment: times for segment, times in off_by_segment(recording.file("off"), head).items()
-           if segment < len(code)}
+           if 0 <= segment < len(code)}
     program, numbers = read_places(code, costs_of(code, off, head)), numbers_of(TextFile(path), [head.threads or 1])
     facts = of_text(head, program, numbers)
     set_meta(facts, meta)
-    facts.locks, facts.regions = locks_of(recording.file("locks"), head), regions_of(path)
+    facts.locks, regions = locks_of(recording.file("locks"), head), program_of(path)
+    facts.regions, facts.inner, facts.nested = regions_of(regions), inner_regions(regions), nested_threads(regions)
     set_off(facts, off, program)
     facts.calls = calls_of(recording.file("calls"), program.names)
     set_ranks(facts)
     try:
         set_breakdown(facts, account_of(head, numbers.work, document(recording), program.names))
     except NoAccount:
-        set_by_greedy(facts)
+        set_by_greedy(facts, head)
+    set_library_locks(facts)
     return facts

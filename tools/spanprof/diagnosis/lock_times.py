@@ -2,6 +2,9 @@
 import json
 from dataclasses import dataclass
 
+from spanprof.errors import reading
+from spanprof.head import number, words
+
 
 @dataclass
 class Held:
@@ -11,13 +14,15 @@ class Held:
     times: int
     inside: int
     waited: int
+    function: str = ""      # of the C library, that has it; then the place is that of the code which called it
 
 
 def of_lines(lines):
     """Of lines of JSON."""
     for line in lines:
         one = json.loads(line)
-        yield Held(one.get("place", ""), one.get("kind", ""), one["times"], one["inside_ns"], one["waited_ns"])
+        yield Held(words(one.get("place", "")), words(one.get("kind", "")), *(number(one[name]) for name in (
+            "times", "inside_ns", "waited_ns")))
 
 
 def of_head(head):
@@ -32,6 +37,6 @@ def locks_of(path, head):
     """Of a file, or else of the text's head; the longest waited for first."""
     found = []
     if path:
-        with open(path, encoding="utf-8") as lines:
+        with reading(path), open(path, encoding="utf-8") as lines:
             found = list(of_lines(lines))
     return sorted(found or of_head(head), key=lambda lock: -lock.waited)

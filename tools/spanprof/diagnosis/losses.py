@@ -4,24 +4,26 @@ Threads x elapsed time = code as on one thread + the losses.
 """
 from typing import NamedTuple
 
-from spanprof.diagnosis.calls import A_SAMPLE
-from spanprof.diagnosis.places import A_START, OF_THREADS, OWN, SERIAL, SHARE
-from spanprof.text import BEGINNING, where
+from spanprof.diagnosis.calls import A_SAMPLE, RUNTIME, in_system, shares
+from spanprof.diagnosis.causes import BUSY
+from spanprof.diagnosis.places import A_START, AROUND_REGIONS, OF_THREADS, OWN, SERIAL, SHARE
+from spanprof.text import BEGINNING, TURNS, where
 
 SMALL = 5000            # nanoseconds of code in a task, below which creating and starting it costs much beside it
 A_TASK = 10000          # nanoseconds that each thread loses at most by making, waking for and starting one task
+A_TAKING = 1000         # nanoseconds that taking a chunk of a loop may cost
 A_CREATION = 1000       # nanoseconds: a thread with less code for each task mostly waits for the runtime to create it
 MANY = 8                # tasks for each thread, from which on to make them may cost much
-UNSURE = 0.1            # of what other programs took, by which a loss of the program itself may be off
+# Of what other programs took, by which a loss of the program itself may be off. Of fifteen recordings, 13 to 90 % busy,
+# 0 named three wrong causes, 0.05 two, 0.1 one; 0.2 none, and lost a right one.
+UNSURE = 0.1
 MUCH = 0.1              # of the run's time, from which on handling tasks may be what is lost
-SEVERAL = 1.5           # of the largest pieces: from which on several threads run a place at once
 UNEVEN = 1.5            # of the average piece: from which on the largest one is uneven
 A_FAULT = 4000          # nanoseconds, with the page that it clears
 MUCH_SYSTEM = 0.25      # of the processor time, from which on time in the kernel is a loss
 STARTED = 5000000       # nanoseconds that a program and its runtime take to start
 NO_CAUSE = ("recorder", "startup")
 FINE = ("small_tasks", "creation")      # of all tasks together
-IN_CODE = ("small_tasks", "system", "memory")
 OF_SHAPE = ("too_few_tasks", "imbalance", "dependence", "wait")
 
 
@@ -129,7 +131,7 @@ def kind_of_starved(facts, name):
         return fine_kind(facts)
     if place.tasks > MANY * facts.threads and keeps_waiting(facts):
         return "creation"
-    if place.kind == OF_THREADS and place.name.startswith(OWN) and place.cost > SEVERAL * place.longest:
+    if place.kind == OF_THREADS and place.name.startswith(OWN) and place.has_several:
         return "loop_schedule"
     return "serial" if place.kind in (SERIAL, OF_THREADS) else kind_of_task(facts, place)
 
@@ -138,7 +140,7 @@ def begins_often(facts, place):
     """Whether it is code of many regions, none of which lasts longer than a thread may take to start."""
     at = where(place.at) or place.at
     return any(region.place == at and region.times > MANY and region.elapsed < A_START * region.times
-               for region in facts.regions)
+               for region in facts.regions + facts.inner)
 
 
 def kind_of_delayed(facts, name):
@@ -146,11 +148,16 @@ def kind_of_delayed(facts, name):
     place = facts.places.get(name)
     if kind_of_preempted(facts) == "too_many_threads":
         return "too_many_threads"
-    if place and place.kind == SHARE:
+    if place and is_divided(place):
         return "loop_schedule"
     if place and place.exclusive:
         return "exclusion"
     return fine_kind(facts) if keeps_waiting(facts) or mostly_small(facts) else "machine"
+
+
+def is_divided(place):
+    """Whether it is code of turns or sections, and not of a region inside them."""
+    return place.kind == SHARE and not place.name.startswith(AROUND_REGIONS)
 
 
 def preempted_share(facts, name):
@@ -163,21 +170,39 @@ def off_while_waiting(facts):
     """Of the time in which threads were delayed or at locks, the share for which others had the processor: the run's
     processor time, without that of code, is less by so much. Threads that block by themselves have none either, but
     those that do not are preempted no more than code is."""
-    usage, waiting = facts.usage or {}, facts.delayed + facts.at_locks
+    usage, code = facts.usage or {}, facts.code + facts.in_library
+    waiting = facts.delayed + facts.at_locks - facts.in_library
     if not (usage and waiting and facts.preempted):
         return 0.0
-    on = (usage.get("user_ns") or 0) + (usage.get("system_ns") or 0) - facts.code - facts.recorder
-    return min(facts.preempted / (facts.code + facts.preempted), 1 - min(max(on, 0), waiting) / waiting)
+    on = (usage.get("user_ns") or 0) + (usage.get("system_ns") or 0) - code - facts.recorder
+    return min(facts.preempted / (code + facts.preempted), 1 - min(max(on, 0), waiting) / waiting)
 
 
 def delayed_off_share(facts, name):
     return max(off_while_waiting(facts), preempted_share(facts, name))
 
 
+def beyond_uneven(facts, name, time):
+    """Threads wait at the end of divided code for those with more of it. What they wait longer is due to what held
+    these up: other programs, and locks."""
+    off, locks = facts.preempted, facts.at_locks - facts.in_library
+    beyond = max(0, time - facts.places[name].uneven) if off + locks else 0
+    part = beyond * locks // max(off + locks, 1)
+    return {("lock", lock_name(facts.locks[0]) if part and facts.locks else name): part,
+            (kind_of_preempted(facts), name): beyond - part}
+
+
 def asleep_share(facts, name):
     """Of the time that code lasted."""
     place, slept = facts.places.get(name), facts.asleep_by.get(name, 0)
     return slept / max(place.cost, slept) if place and slept else 0.0
+
+
+def kind_of_sleep(facts, name):
+    """A thread that wakes up may wait for a processor, and that counts as sleep too: so where others take processors,
+    and no sample has a call that waits, it is theirs."""
+    is_busy = facts.preempted > BUSY * (facts.code + facts.preempted)
+    return kind_of_preempted(facts) if is_busy and facts.calls.ran and name not in facts.calls.slept else "sleep"
 
 
 def starved_off_share(facts, name):
@@ -188,12 +213,13 @@ def starved_off_share(facts, name):
 def collected(kinds, by, kind_of, facts, off_share, for_sleep=False):
     """While code was preempted, the machine kept those waiting too that were idle for it; and sleep did while it
     slept, where they had nothing else to run."""
-    off = kind_of_preempted(facts)
     for name, time in by.items():
-        part = int(time * off_share(facts, name))
+        part, kind = int(time * off_share(facts, name)), kind_of(facts, name)
         slept = int((time - part) * asleep_share(facts, name)) if for_sleep else 0
-        for key, lost in (((off, name), part), (("sleep", name), slept), ((kind_of(facts, name), name),
-                                                                          time - part - slept)):
+        rest = time - part - slept
+        beyond = beyond_uneven(facts, name, rest) if kind == "loop_schedule" else {}
+        for key, lost in (((kind_of_preempted(facts), name), part), ((kind_of_sleep(facts, name), name), slept),
+                          *beyond.items(), ((kind, name), rest - sum(beyond.values()))):
             kinds[key] = kinds.get(key, 0) + lost
 
 
@@ -234,21 +260,22 @@ def most_often(facts, found):
 
 def missing_threads(facts):
     """By region: the time of threads that its team did not have."""
-    return {region.place: (facts.target - region.threads) * region.elapsed for region in facts.regions
-            if region.threads < facts.target}
+    return {region.place: (facts.usable - region.threads) * region.elapsed for region in facts.regions
+            if region.threads < facts.usable}
 
 
 def kind_of_preempted(facts):
     """More threads than processors preempt each other."""
-    return "too_many_threads" if facts.processors and facts.threads > facts.processors else "machine"
+    return "too_many_threads" if facts.processors and facts.most_threads > facts.processors else "machine"
 
 
 def off_losses(facts):
     """In the midst of code, but not in it: at locks, asleep, off the processor."""
     locks = {lock_name(lock): lock.waited for lock in facts.locks}
-    off = int(facts.at_locks * off_while_waiting(facts))
+    off = int((facts.at_locks - facts.in_library) * off_while_waiting(facts))
     return by_place("lock", facts.at_locks - off, locks) + [Loss(kind_of_preempted(facts), "", off)] + \
-        by_place("sleep", facts.asleep, facts.asleep_by or at_heaviest(facts)) + \
+        [loss._replace(kind=kind_of_sleep(facts, loss.place))
+         for loss in by_place("sleep", facts.asleep, facts.asleep_by or at_heaviest(facts))] + \
         by_place(kind_of_preempted(facts), facts.preempted, facts.preempted_by)
 
 
@@ -304,24 +331,42 @@ def dearer(facts):
     return {name: max(0, place.cost - one[name]) for name, place in facts.places.items() if name in one}
 
 
-def kernel_kind(facts):
-    """To wait for a lock and to wake who waits for it are system calls too; and the weights of their places."""
-    is_lock = facts.locks and facts.at_locks > MUCH * facts.whole_time and not has_many_faults(facts)
-    return ("lock", {lock_name(facts.locks[0]): 1}) if is_lock else ("system", at_heaviest(facts))
-
-
 def lock_name(lock):
     return lock.place or lock.kind
 
 
+def calls_of_runtime(facts, name):
+    """How often code calls the runtime, as far as that is known, and of which kind and place is what that takes."""
+    place = facts.places[name]
+    times = [(facts.chunks.get(where(name), [0])[0], "small_chunks", name)]
+    times += [(lock.times, "lock", lock_name(lock)) for lock in facts.locks]
+    if place.tasks and place.kind != SHARE or place.is_creating:
+        times.append((facts.tasks, fine_kind(facts), heaviest_name(facts)))
+    return times
+
+
+def handling(facts):
+    """By kind and place, what the runtime took of code, by samples: chunks of loops, locks, small tasks. Without them
+    taking short chunks is up to half of it."""
+    out = {}
+    if not facts.calls.ran:
+        out = {("small_chunks", "%s at %s" % (TURNS, at)): min(A_TAKING * times, facts.code // 2)
+               for at, (times, _) in facts.chunks.items()}
+    for name, ran in facts.calls.ran.items():
+        share = shares(ran, in_system).get(RUNTIME.partition("@")[0], 0) if name in facts.places else 0
+        if share:
+            times, *loss = max(calls_of_runtime(facts, name))
+            time = int(share * max(0, facts.places[name].cost - facts.asleep_by.get(name, 0)))
+            if times * A_TASK > time:
+                out[tuple(loss)] = out.get(tuple(loss), 0) + time
+    return out
+
+
 def in_code_losses(facts):
-    """Of what counts as code: in the kernel, making small tasks, and dearer than on one thread."""
+    """Of what counts as code: in the kernel, in the runtime, and dearer than on one thread."""
     left, out = facts.code, []
-    is_small = mostly_small(facts) and not keeps_waiting(facts)
-    making = min(facts.creating * facts.tasks, facts.code // 2) if is_small else 0
-    kernel, at_kernel = kernel_kind(facts)
-    for kind, time, weights in ((kernel, system_time(facts), at_kernel),
-                                ("small_tasks", making, at_heaviest(facts)),
+    for kind, time, weights in (("system", system_time(facts), at_heaviest(facts)),
+                                *((kind, time, {place: 1}) for (kind, place), time in handling(facts).items()),
                                 ("memory", sum(dearer(facts).values()), dearer(facts))):
         part = min(time, left)
         left -= part
@@ -330,7 +375,9 @@ def in_code_losses(facts):
 
 
 def crowded_region(facts):
-    """That with the most threads; empty where it is not known."""
+    """That with the most threads, or those inside others that together have more; empty where none is known."""
+    if facts.inner and facts.most_threads > max(region.threads for region in facts.regions):
+        return max(facts.inner, key=lambda region: region.times).place
     return max(facts.regions, key=lambda region: region.threads).place if facts.regions else ""
 
 

@@ -1,8 +1,9 @@
 """How places, waits and depend items are named to people: functions, lines, and items as the source spells them."""
 import re
+from typing import NamedTuple
 
 from spanprof.diagnosis.calls import NO_NAME, OFFSET, innermost, plain
-from spanprof.diagnosis.directives import construct_of, directive_line, is_of_some_turns
+from spanprof.diagnosis.directives import construct_of, directive_line, is_of_some_turns, own_item
 from spanprof.diagnosis.places import OF_THREADS, OWN, SERIAL, lines_between
 from spanprof.source_lines import LONGEST, STRING, after_directive, code_lines, line_of, statement_end
 from spanprof.text import BEGINNING
@@ -66,6 +67,21 @@ def block_end(lines, number):
     return last
 
 
+class Suspect(NamedTuple):
+    """An item that each thread has next to those of others, or an atomic operation without one; and its line."""
+    item: str
+    at: str
+
+    def __str__(self):
+        return "%s next to other threads' (%s)" % self if self.item else "the atomic at " + self.at
+
+    @property
+    def instead(self):
+        """What to write in its place."""
+        return "a local copy of %s (%s), written back once" % self if self.item else \
+            "a reduction in place of the atomic at " + self.at
+
+
 class Names:
     """`sources` has the lines of the program's files, where they are found."""
 
@@ -89,7 +105,8 @@ class Names:
         return line._replace(number=directive_line(self.lines_of(line.file), line.number, construct))
 
     def lock(self, name):
-        return next((lock for lock in self.facts.locks if name and name in (lock.place, lock.kind)), None)
+        found = (lock for lock in self.facts.locks if not lock.function)
+        return next((lock for lock in found if name and name in (lock.place, lock.kind)), None)
 
     def spelt(self, name):
         """With the line of its directive, or the name of its function."""
@@ -135,14 +152,21 @@ class Names:
             return begin or end
         return "code %s %s" % ("after" if begin else "before", begin or end) if begin or end else "main"
 
-    def atomic(self):
-        """The line of an atomic operation in code that has much of the cost; empty where the source shows none."""
-        found = [place for place in self.facts.places.values() if place.cost > MUCH_CODE * self.facts.code]
+    def suspect(self, places=None):
+        """What may slow code of these places, or that has much of the cost, on several threads: an atomic operation, or
+        items of threads next to each other; None where the source shows neither."""
+        found = places or [one for one in self.facts.places.values() if one.cost > MUCH_CODE * self.facts.code]
         for file, first, last in map(self.stretch, sorted(found, key=lambda place: -place.cost)):
-            for number in range(first or last, last + 1):
-                if ATOMIC.search("".join(self.lines_of(file)[number - 1:number])):
-                    return "%s:%d" % (file, number)
-        return ""
+            lines, first = self.lines_of(file), first or last
+            if not 0 < first <= last <= len(lines):
+                continue
+            for number in range(first, last + 1):
+                if ATOMIC.search(lines[number - 1]):
+                    return Suspect("", "%s:%d" % (file, number))
+            item = own_item(lines, first, last)
+            if item:
+                return Suspect(item[0], "%s:%d" % (file, item[1]))
+        return None
 
     def line(self, name):
         """The same of a wait, a lock or a region."""

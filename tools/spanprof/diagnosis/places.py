@@ -5,6 +5,7 @@ from dataclasses import dataclass, field
 from functools import cached_property
 from typing import List, Tuple
 
+from spanprof.marks import CREATING
 from spanprof.segment_table import Code
 from spanprof.source_lines import line_of
 from spanprof.text import BARRIER, OF_A_THREAD, construct, is_share, named
@@ -12,6 +13,7 @@ from spanprof.text import BARRIER, OF_A_THREAD, construct, is_share, named
 SERIAL, OF_THREADS, TASK, SHARE = "serial", "of threads", "task", "share"
 AFTER_REGION = "after the " + BARRIER
 OWN = named("task", OF_A_THREAD)    # the name of a thread's own code, in a text the same in all regions
+ALONE = 0.05        # of the largest piece of a phase: where the others together have less, one thread runs it
 A_START = 50000     # nanoseconds: a thread starts a region's code in less, or goes on after it
 AROUND_REGIONS = (OWN, AFTER_REGION)
 
@@ -26,7 +28,9 @@ class Place:
     cost: int = 0
     pieces: int = 0
     largest: int = 0        # the cost of one piece
-    longest: int = 0        # of a thread's own code: the cost of the largest pieces, one of each phase of the region
+    longest: int = 0        # of threads' own code: the cost of the largest pieces, one of each phase of the region
+    alone: int = 0          # of these, in phases that one thread runs
+    uneven: int = 0         # of divided code, or threads' own: what all would cost more that had as much as the largest
     tasks: int = 0          # that begin with it
     undeferred: int = 0     # of these
     inoutset: int = 0       # of these, with such an item
@@ -57,6 +61,18 @@ class Place:
     def last_end(self):
         """The construct that ends most of its code; empty where none does."""
         return max(self.ends, key=lambda name: self.ends[name], default="")
+
+    @property
+    def has_several(self):
+        """Whether several threads run it at once; of tasks whether they may."""
+        if self.kind == OF_THREADS:
+            return not self.longest or 2 * self.alone < self.longest
+        return self.kind != SERIAL and self.pieces > 1
+
+    @property
+    def follows_creation(self):
+        """Whether it is what a task does after it has created another one."""
+        return self.kind == TASK and self.name.startswith("after " + CREATING)
 
     @property
     def average(self):
@@ -106,14 +122,34 @@ def pieces_of(code, costs):
     return found
 
 
-def longest_of(program):
-    """Of a thread's own code, by place, the largest pieces of the phases of a region, which run at once."""
-    largest, out = {}, Counter()
+def set_longest(program):
+    """Of threads' own code, by place, the largest pieces of the phases of a region, which run at once."""
+    phases = {}
     for segment, group in zip(program.code.own, program.code.groups):
         phase = program.kinds[program.code.of[segment]], group
-        largest[phase] = max(largest.get(phase, 0), program.costs[segment])
-    for (name, _), cost in largest.items():
-        out[name] += cost
+        largest, whole = phases.get(phase, (0, 0))
+        phases[phase] = max(largest, program.costs[segment]), whole + program.costs[segment]
+    for (name, _), (largest, whole) in phases.items():
+        place = program.places[name]
+        place.longest += largest
+        place.alone += largest * (whole - largest < ALONE * largest)
+
+
+def uneven_of(program):
+    """Of divided code, and of threads' own, by place: phase by phase, what they had less than that with the most."""
+    code, shares, parts = program.code, {}, Counter(program.code.groups)
+    divided = {number: name for number, (kind, name) in enumerate(zip(code.kinds, program.kinds))
+               if kind_of(kind) == SHARE or name.startswith(OWN)}
+    for first, end, group in zip(code.own, [*code.own[1:], len(code)], code.groups):
+        had = {}
+        for number, cost in zip(code.of[first:end], program.costs[first:end]):
+            if number in divided:
+                had[divided[number]] = had.get(divided[number], 0) + cost
+        for name, cost in had.items():
+            shares.setdefault((name, group), []).append(cost)
+    out = Counter()
+    for (name, group), costs in shares.items():
+        out[name] += parts[group] * max(costs) - sum(costs)
     return out
 
 
@@ -130,8 +166,9 @@ def read_places(code, costs):
     for number, clauses, count in code.clauses:
         if number is not None:      # a thread's own code has none
             program.places[names[number]].add_tasks(count, clauses)
-    for name, cost in longest_of(program).items():
-        program.places[name].longest = cost
+    set_longest(program)
+    for name, cost in uneven_of(program).items():
+        program.places[name].uneven = cost
     return program
 
 

@@ -4,7 +4,7 @@ from typing import Optional
 
 from spanprof.diagnosis.causes import BY_KIND, WORTH_A_CHANGE
 from spanprof.diagnosis.changes import Change
-from spanprof.diagnosis.losses import IN_CODE, begun, kind_of_task, least_of, most_shared, share_of_start
+from spanprof.diagnosis.losses import begun, in_code_losses, kind_of_task, least_of, most_shared, share_of_start
 from spanprof.diagnosis.places import SERIAL, TASK
 from spanprof.text import BEGINNING
 
@@ -110,10 +110,10 @@ def step_of(facts, seen, now, before, tried):
 
 
 def bound_of(facts, now, loss):
-    """As if what is lost by this cause were gone; all code is still to run, if it is not in code that it is lost."""
-    after = int(now * (1 - facts.own_share(loss.time)))
-    if loss.kind not in IN_CODE:
-        after = min(now, max(after, least_time(facts, facts.code)))
+    """As if what is lost by this cause were gone; all other code is still to run."""
+    in_code = sum(one.time for one in in_code_losses(facts) if one.kind == loss.kind)
+    after = max(int(now * (1 - facts.own_share(loss.time))), least_time(facts, facts.code - in_code))
+    after = min(now, after)
     return Step(loss.kind, loss.place, now, after, after, int(now - BOUND_LEAST * (now - after)))
 
 

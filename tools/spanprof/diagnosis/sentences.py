@@ -1,25 +1,31 @@
 """What is told of a run on a terminal: at most eight lines of at most 100 columns."""
+import re
+
 from spanprof.account_words import lasting
-from spanprof.diagnosis.calls import NO_NAME, OFFSET, asleep_in, together
+from spanprof.diagnosis.calls import NO_NAME, OFFSET, ONE_AT_A_TIME, asleep_in, innermost, together
 from spanprof.diagnosis.causes import BY_KIND, NAMES
-from spanprof.diagnosis.losses import average_task, has_many_faults, missing_threads, most_shared
+from spanprof.diagnosis.losses import (MANY, average_task, has_many_faults, losses, missing_threads, most_shared,
+                                       useful_time)
 from spanprof.diagnosis.places import SERIAL, SHARE
 from spanprof.diagnosis.plan import holder
 from spanprof.head import grouped
-from spanprof.text import SECTION
+from spanprof.text import SECTION, where
 
 WIDTH, MOST_LINES = 100, 8
 LABEL = 6
 NO_FASTER = 1.1
+A_CHUNK = 50000        # nanoseconds that one lasts which is worth taking
 LEAST_TOLD = 0.005     # of the threads' time, from which on a part of it is told
 TRIED = {
-    "in-for-inout": "depend(in: {item}) at {at}, if the tasks only read it",
+    "in-for-inout": "depend(in: {item}) at {at} if only read, or a copy for each",
     "drop-depend": "no depend items at {at}, if the tasks may run in any order",
     "drop-wait": "leave out {waits}, if no result is needed yet",
     "defer": "defer more tasks at {at}: change its if or final",
     "task": "make {where} a task of its own"}
+ONE_BY_ONE = r"schedule\s*\(\s*(\w+\s*:\s*)?(dynamic|guided)"
 SPLIT = {"serial": "parallelise {where}: loop or tasks", "imbalance": "divide the longest tasks at {where}",
-         "too_few_tasks": "divide each task of {where} into {usable}"}
+         "too_few_tasks": "divide each task of {where} into {usable}",
+         "finer": "create more tasks at {at}: a lower cutoff"}
 
 
 def several(number, what):
@@ -37,10 +43,13 @@ def words_of_place(facts, names, place):
 
 
 def words_of_schedule(names, name, place):
-    """Chunks and sections that threads take one by one are shares of their own; else a thread has its part at once."""
-    if not place or place.kind != SHARE:
-        return "schedule(dynamic) at %s, or smaller chunks" % names.at(name)
-    return "smaller %s at %s, the longest first" % ("sections" if SECTION in name else "chunks", names.at(name))
+    """gcc's chunks are those that threads take one by one."""
+    at, is_share = names.at(name), place and place.kind == SHARE
+    if is_share and SECTION in name:
+        return "smaller sections at %s, the longest first" % at
+    if is_share and (names.facts.is_of_gcc or re.search(ONE_BY_ONE, names.directive(name, place.at))):
+        return "smaller chunks at %s, the longest first" % at
+    return "schedule(dynamic) at %s, or smaller chunks" % at
 
 
 def words_of_kernel(facts, usage):
@@ -54,9 +63,11 @@ def words_of_kernel(facts, usage):
 def words_of_run(facts):
     usage = facts.usage or {}
     used = (usage.get("user_ns") or 0) + (usage.get("system_ns") or 0)
-    return {"threads": facts.threads, "processors": facts.processors, "target": facts.target, "usable": facts.usable,
+    return {"threads": facts.most_threads, "processors": facts.processors, "usable": facts.usable,
             "all_tasks": grouped(facts.tasks), "average_task": lasting(average_task(facts)),
-            "code": "%.0f" % (100 * facts.own_share(facts.code)), **words_of_kernel(facts, usage),
+            "code": "%.0f" % min(100, 100 * facts.code / useful_time(facts, losses(facts))),
+            "time": "the rest" if facts.taken else "the time",
+            **words_of_kernel(facts, usage),
             "system": "%.0f" % (100 * (usage.get("system_ns") or 0) / used if used else 0)}
 
 
@@ -72,17 +83,17 @@ def words_of_alone(facts, names, place):
     return "%.0f %% of %s of serial code" % (100 * part / max(whole, 1), lasting(whole))
 
 
-def words_of_sleep(facts, name):
+def words_of_sleep(facts, name, told):
     """Such as `in read, called by load`, or of MPI for other ranks; what it may be where no sample tells."""
     function, caller = asleep_in(facts.calls.slept.get(name, {}))
     if not function:
         return "for files, a network or other locks"
-    return "in %s%s" % (function, ", called by " + caller if caller else "")
+    return "in %s%s" % (function, ", called by " + caller if caller not in told else "")
 
 
 def who_asked(facts, region):
     """For fewer threads than the run could have had, as far as it is known."""
-    if not region.asked or region.asked >= facts.target:
+    if not region.asked or region.asked >= facts.usable:
         return ": OMP_DYNAMIC, OMP_THREAD_LIMIT" if region.asked else ": num_threads, OMP_NUM_THREADS"
     return ": the program asks for %d" % region.asked
 
@@ -92,37 +103,78 @@ def words_of_region(facts, names, name):
     others = len(set(missing_threads(facts)) - {name})
     out = {"got": "", "who_asked": "", "regions": "regions", "region_time": "little time",
            "others": " and in %s" % several(others, "other") if others else "",
-           "in_region": "in the region at " + names.place(name) if name else "in some region"}
-    for region in facts.regions:
+           "in_region": "in the region at " + names.place(name) if name else "in some region",
+           "fewer": "use %s threads: num_threads or OMP_NUM_THREADS" % facts.processors}
+    for region in facts.inner:
+        if region.place == name:
+            times = several(region.times, "region")
+            out.update(in_region="as %s at %s began inside others" % (times, names.place(name)),
+                       fewer="no nesting at %s: omp_set_max_active_levels(1)" % names.at(name))
+    for region in facts.regions + facts.inner:
         if region.place == name:
             out.update(got=several(region.threads, "thread"), who_asked=who_asked(facts, region),
                        regions=several(region.times, "region"), region_time=lasting(region.elapsed // region.times))
     return out
 
 
+def first_digits(number):
+    """Two of them, and zeros: chunks are counted where they began soon after others, so there are more."""
+    unit = 10 ** max(0, len(str(number)) - 2)
+    return number // unit * unit
+
+
+def words_of_chunks(facts, name, place):
+    """Of a loop's short chunks; and how many turns make one that is worth taking."""
+    chunks, turns = facts.chunks.get(where(name), (0, 0))
+    if not chunks or not place.cost:
+        return {}
+    most = max(1, turns // (MANY * facts.threads))
+    return {"chunks": grouped(first_digits(chunks)), "a_chunk": lasting(place.cost // chunks),
+            "of_turns": min(10 ** len(str(A_CHUNK * turns // place.cost)), most)}
+
+
+def words_of_lock(facts, names, name):
+    """By what it is told, how often it was entered or in what it is, and what to do."""
+    told = {"lock": names.place(name), "times": "", "less_locking": "do less in %s" % names.place(name)}
+    for lock in facts.locks:
+        if lock.function and lock.place == name:
+            called = {"function": lock.function, "at": names.at(name)}
+            return {"lock": "the lock inside {function}".format(**called), "times": "called at {at}".format(**called),
+                    "less_locking": ONE_AT_A_TIME[lock.function] + " at {at}".format(**called)}
+        if name in (lock.place, lock.kind):
+            less = "compute before it" if lock.kind == "ordered" else "a copy for each thread"
+            told.update(times=times_of(lock), less_locking="%s: %s" % (told["less_locking"], less))
+            break
+    return told
+
+
 def words_of_suspect(facts, names):
     """What may make code slow on several threads, where nothing was measured of it."""
     if facts.cost_on_one is not None:
         return "; only less work helps"
-    at = names.atomic()
-    return ", with an atomic at " + at if at else ", as far as one run shows"
+    at, ran = names.suspect(), innermost(together(facts.calls.ran, facts.calls.ran))
+    most = ", %.0f %% of it in %s" % (100 * ran.share, ran.function) if ran else ", as far as one run shows"
+    return ", with " + str(at) if at else most
+
+
+def instead(names, place, name):
+    """What to write in place of what threads contend for."""
+    suspect = names.suspect([place]) if place else None
+    return suspect.instead if suspect else "a copy for each thread of what %s writes: reduction" % names.at(name)
 
 
 def words(facts, names, name):
     """What a sentence may have, of a place, a wait, a lock or a region."""
     place = facts.places.get(name)
-    out = dict(words_of_run(facts), where=names.place(name), at=names.at(name), item="", less_inside="",
-               in_what=words_of_sleep(facts, name), tasks="", many="", largest="", average="", dearer="", times="",
+    out = dict(words_of_run(facts), where=names.place(name), at=names.at(name), item="",
+               in_what=words_of_sleep(facts, name, names.place(name)), tasks="", many="", largest="", average="",
+               dearer="", chunks="", a_chunk="", of_turns="",
                alone="the others wait", suspect=words_of_suspect(facts, names),
-               shared=words_of_schedule(names, name, place),
-               **words_of_region(facts, names, name))
+               shared=words_of_schedule(names, name, place), instead=instead(names, place, name),
+               **words_of_region(facts, names, name), **words_of_lock(facts, names, name))
     if place:
-        out.update(words_of_place(facts, names, place), alone=words_of_alone(facts, names, place))
-    for lock in facts.locks:
-        if name in (lock.place, lock.kind):
-            is_ordered = lock.kind == "ordered"
-            out.update(times=times_of(lock),
-                       less_inside="compute before it" if is_ordered else "a copy for each thread")
+        out.update(words_of_place(facts, names, place), alone=words_of_alone(facts, names, place),
+                   **words_of_chunks(facts, name, place))
     return out
 
 
@@ -146,14 +198,20 @@ def waits(names, found):
     return "the waits at %s:%s and %s" % (lines[0].file, ", ".join(numbers[:-1]), numbers[-1])
 
 
+def kind_of_parts(step, place):
+    """A task that goes on after it has created another one, and lasts, does itself what smaller tasks could do."""
+    if place.tasks:
+        return step.kind
+    return "finer" if place.follows_creation else "serial"
+
+
 def change_sentence(facts, names, step):
     """What to do, of a change that was tried or of a bound."""
     if not step.change:
         return BY_KIND[step.kind].change.format(**words(facts, names, step.place))
     kind, place = step.change.kind, step.change.place
     if kind == "split":
-        kind = step.kind if facts.places[step.place].tasks else "serial"
-        return SPLIT[kind].format(**words(facts, names, step.place))
+        return SPLIT[kind_of_parts(step, facts.places[step.place])].format(**words(facts, names, step.place))
     found = words(facts, names, step.place)
     if kind == "in-for-inout":
         item = names.item(holder(facts, place), ("inout", place))
@@ -192,7 +250,7 @@ def speed_words(facts):
 def words_of_threads(facts):
     """Those of the run, and its time without what other programs took."""
     alone = ", %s undisturbed" % lasting(facts.now) if facts.now < facts.seen else ""
-    return several(facts.threads, "thread") + (" of " + facts.runtime if facts.runtime else "") + alone
+    return several(facts.most_threads, "thread") + (" of " + facts.runtime if facts.runtime else "") + alone
 
 
 def first_line(found):
@@ -238,9 +296,8 @@ def unsure(found, names):
     if facts.target == 1:
         return "what more threads would bring: record on more"
     if facts.cost_on_one is None and facts.true_one is None and facts.threads > 1:
-        at = names.atomic()
-        what = "the atomic at %s slows" % at if at else "atomics or shared memory slow"
-        return "whether %s it: --full" % what
+        at = names.suspect()
+        return "whether %s it: --full" % (str(at) + " slows" if at else "atomics or shared memory slow")
     return ""
 
 

@@ -58,9 +58,8 @@ def told_of(recording, folders=(), seconds=None):
     facts = facts_of(recording)
     bench = bench_of(recording.text, facts, seconds) if needs_trials(facts) else None
     beside = [os.path.dirname(os.path.abspath(recording.folder or recording.text)), os.getcwd()]
-    names = Names(facts, Sources(list(folders) or beside))
+    names = Names(facts, Sources(list(folders) or beside, facts.sources))
     if bench:
-        facts.creating = bench.costs.creating * bench.unit
         facts.waits_of_some_turns = set(filter(names.is_of_some_turns, bench.seen.waits))
     return Told(diagnose(facts, bench), names)
 

@@ -1,5 +1,6 @@
 """spanprof: the tools and the proved programs under one name."""
 import os
+import signal
 import sys
 
 from spanprof.command import Console, end_with, show
@@ -13,10 +14,24 @@ PREFIX = "spanprof-"
 WRONG = 2
 
 
+def begin_in_utf8():
+    """Under a locale of another encoding this process begins again, since texts, sources and most names are UTF-8."""
+    if sys.executable and sys.getfilesystemencoding() != "utf-8" and not sys.flags.utf8_mode:
+        os.execv(sys.executable, [sys.executable, "-X", "utf8"] + sys.argv)
+
+
+def handle_interrupts():
+    """Once all is imported: until then Ctrl-C ends the process at once."""
+    if signal.getsignal(signal.SIGINT) == signal.SIG_DFL:
+        signal.signal(signal.SIGINT, signal.default_int_handler)
+
+
 def run_tool(words):
     """A tool ends the process itself, or has a status."""
     sys.argv = [PREFIX + words[0]] + words[1:]
-    return main_of(words[0])(words[1:])
+    tool = main_of(words[0])
+    handle_interrupts()
+    return tool(words[1:])
 
 
 def help_with(words):
@@ -46,11 +61,13 @@ def answer(to):
 
 def main(name, words):
     """The words behind a name: that of this script, or a link `spanprof-COMMAND` to it."""
+    begin_in_utf8()
     if name.startswith(PREFIX):
         sys.exit(run_tool([name[len(PREFIX):]] + words))
     to = route(words, os.path.exists)
     if to.to == TOOL:
         sys.exit(run_tool(to.words))
+    handle_interrupts()
     statuses = []
     end_with(CONSOLE, lambda: statuses.append(answer(to)), status=NO_PROGRAM)
     sys.exit(statuses[0])

@@ -5,34 +5,34 @@ Usage: spanprof COMMAND [ARGUMENT ..]
 Record an OpenMP program and look at its recording:
 
   record        run a program, and print where its time went and what to change first
-  report        write a page (HTML) on a recording
-  whatif        try another shape of a recorded program
-  predict       estimate its time on other numbers of threads
-  path          list the places in the source that the span comes from
+  report        write a page (HTML) on a recording, or compare two
+  whatif        try changes of the recorded program
+  predict       predict its time on other numbers of threads
+  path          list the places in the source with most of the span
   graph         print the graph of its segments, as CSV or for Graphviz
-  convert       make the texts of a recorded log
+  convert       make the text of a recording again, or that of a region
   test          test an OpenMP runtime
 
 Ask about a program text on standard input, of up to 4,096 tasks:
 
   span          segments, work and span; also without a command
   slack         each segment's earliest start and slack, and the critical path
-  greedy        a greedy schedule on some threads
-  curve         the ends of greedy schedules on 1 to some threads, with bounds
+  greedy        a greedy schedule on P threads
+  curve         greedy schedules and their bounds on 1 to P threads
   whatif        work and span with other costs
   show          the canonical text
   certify       a certificate of the span
   check         whether a certificate holds
-  run           what a run on worker threads records
+  run           run the segments on worker threads, and print what is recorded
   replay        whether a logged run was legal, and what it recorded
 
-Ask about a text of any size; spanprof_large has the commands above but `run`, too:
+Ask about a text of any size; spanprof_large has all commands above but `run`, too:
 
-  bounds        bounds on 1 to some threads
+  bounds        bounds on 1 to P threads
   account       where the time of a run's threads went
   graph         each segment's task, cost and predecessors
 
-spanprof help COMMAND describes one, and spanprof --version prints the version.
+spanprof help COMMAND describes a command, spanprof --version prints the version.
 """
 FILE = " < FILE"
 USAGES = {
@@ -48,13 +48,14 @@ USAGES = {
     "check": ("spanprof check" + FILE, "Whether the certificate in FILE holds, whoever wrote it."),
     "run": ("spanprof run --workers N" + FILE,
             "Runs the segments on N worker threads, from 1 to 64, and prints the recorded graph and a digest."),
-    "replay": ("spanprof replay" + FILE, "Whether the events of a replay document are legal, and what they record."),
+    "replay": ("spanprof replay" + FILE,
+               "Whether the events of a replay document are a legal run, and what it records."),
     "whatif": ("spanprof whatif SEGMENT=COST .." + FILE,
                "Work and span with other costs of segments, and the span before.\n"
                "With a file or an option it tries other shapes: `spanprof whatif RECORDING --help` lists the options."),
     "bounds": ("spanprof bounds --upto P" + FILE, "A table (CSV) of both bounds for 1 to P threads, at most 1,024."),
     "account": ("spanprof account [--rows | --path]" + FILE,
-                "Of a timed document, where the time of the threads went; with an option its rows, or its path."),
+                "The time breakdown of a timed document, its rows, or the run's own path."),
     "graph": ("spanprof graph" + FILE, "A table (CSV) of the segments: task, cost, and predecessors with blanks "
               "between them.\n`spanprof graph --dot FILE` writes it for Graphviz."),
 }

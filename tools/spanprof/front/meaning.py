@@ -1,9 +1,11 @@
 """What an error line of one of the ten commands means, and what helps."""
 import difflib
+import os
 
 from spanprof.front.given import UNNAMED
 from spanprof.front.help_texts import USAGES
 from spanprof.front.routes import COMMANDS, LARGE_COMMANDS, OTHER_NAMES, TOOLS
+from spanprof.recording import TEXT
 from spanprof.refusal import explained
 
 WRONG_WORDS = "error: wrong words"
@@ -19,11 +21,18 @@ KINDS = {   # by the limits of the ten commands
 TOO_LONG = "standard input has at most 8,388,608 bytes"
 
 
+def text_in(path):
+    """The program text that a path means: that of a recording, or the file."""
+    inside = os.path.join(path, TEXT)
+    return inside if os.path.exists(inside) else path
+
+
 def of_words(words):
     """What is wrong with the arguments."""
     name = words[0]
     if name in USAGES:
-        return "spanprof: wrong arguments of `%s`; usage: %s" % (name, USAGES[name][0])
+        text = next(filter(os.path.exists, map(text_in, words[1:])), "FILE")
+        return "spanprof: wrong arguments of `%s`; usage: %s" % (name, USAGES[name][0].replace("FILE", text))
     every = COMMANDS + LARGE_COMMANDS + tuple(TOOLS) + tuple(OTHER_NAMES) + ("help",)
     alike = difflib.get_close_matches(name, every, n=1, cutoff=CLOSEST)
     return "spanprof: there is no command `%s`%s; `spanprof --help` lists them" % (

@@ -16,7 +16,7 @@ FROM_TERMINAL = "spanprof: reading a program text from the terminal, up to Ctrl-
 def found(program):
     words = words_for(program, places_of(program) + other_places_of(program))
     if not words:
-        raise Fault("the program %s is neither on the PATH nor built here; README.md says how to build it" % program)
+        raise Fault("%s is neither on the PATH nor built; ./demo builds it" % program)
     return words
 
 

@@ -5,19 +5,20 @@ from spanprof import client
 from spanprof.answers import Answers
 from spanprof.command import Console, check_files, end_with, naming
 from spanprof.graph.dot import lines
+from spanprof.recording import text_of
 from spanprof.text_file import TextFile
 from spanprof.version import Version
 
 CONSOLE = Console("spanprof graph")
-DESCRIPTION = """Prints the graph of a program text: a row for each segment with its task, its cost and its kept
-predecessors. What a segment waits for is what chains of them lead to. spanprof_large derives it."""
+DESCRIPTION = """Prints the graph of a program text: a row for each segment with its task, its cost and its
+predecessors by kept edges, of which chains imply all other dependences."""
 AFTER = "Exit status 1: the text is refused, or spanprof_large is not found; 2: wrong arguments."
 
 
 def parse(words):
     parser = argparse.ArgumentParser(prog="spanprof graph", description=DESCRIPTION, epilog=AFTER, allow_abbrev=False)
-    parser.add_argument("text", metavar="FILE", help="a program text")
-    parser.add_argument("--dot", action="store_true", help="for Graphviz: `| dot -Tsvg > graph.svg` draws it, with "
+    parser.add_argument("text", metavar="FILE", help="a recording, or a program text (MINE.tasks)")
+    parser.add_argument("--dot", action="store_true", help="print it for Graphviz (`| dot -Tsvg > graph.svg`), with "
                         "places in the source and the critical path in red")
     parser.add_argument("-o", "--output", help="write to this file")
     parser.add_argument("--version", action=Version)
@@ -27,7 +28,7 @@ def parse(words):
 def table_lines(path):
     client.measured(path)   # its fault names the line
     for found in client.pieces(["graph"], TextFile(path)):
-        yield from (line.decode().rstrip("\n") for line in found)
+        yield from found.decode().splitlines()
 
 
 def dot_lines(path):
@@ -36,6 +37,7 @@ def dot_lines(path):
 
 
 def answer(options):
+    options.text = text_of(options.text)
     check_files(options.text, options.output, "graph")
     told = dot_lines(options.text) if options.dot else table_lines(options.text)
     if not options.output:

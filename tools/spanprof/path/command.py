@@ -11,18 +11,17 @@ from spanprof.recording import text_of
 from spanprof.version import Version
 
 CONSOLE = Console("spanprof-path")
-DESCRIPTION = """Adds up, by place in the source, all costs of a program text of any size, and those on the critical path
-that spanprof_large slack shows."""
-AFTER = """spanprof_large keeps the table and the graph of the whole text for it. Exit status 1: the text is refused,
-there is no memory for its table, or the places do not add up to its work and span; 2: wrong
-words."""
+DESCRIPTION = """Lists the places in the source with their shares of the span (the critical path that `slack` prints)
+and of the work."""
+AFTER = """Exit status 1: the text is refused, out of memory, or the places do not add up to its work and span; 2: wrong
+arguments."""
 VERDICT = "proved of this text: its work, span and this critical path (spanprof_large slack); " \
     "of the sums by place nothing"
 
 
 def parse(words):
     parser = argparse.ArgumentParser(prog="spanprof-path", description=DESCRIPTION, epilog=AFTER, allow_abbrev=False)
-    parser.add_argument("text", metavar="MINE.spanprof", help="the recording, or a program text, MINE.tasks")
+    parser.add_argument("text", metavar="MINE.spanprof", help="a recording, or a program text (MINE.tasks)")
     parser.add_argument("--csv", action="store_true", help="print a row for each place: span,work,segments,place")
     parser.add_argument("--version", action=Version)
     return parser.parse_args(words)

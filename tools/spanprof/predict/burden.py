@@ -22,7 +22,7 @@ def burdened(program, costs, dispatch):
 
 
 def with_costs(stream, costs):
-    """The statements of a text, where segment s costs `costs[s]`."""
+    """The statements, where segment s costs `costs[s]`."""
     left = iter(costs)
     yield Statement("work", cost=next(left))
     for one in stream:
@@ -30,6 +30,12 @@ def with_costs(stream, costs):
             yield one
         if one.kind not in ("work", "taskgroup"):
             yield Statement("work", cost=next(left))
+
+
+def text_with(head, text, costs):
+    """A text of version 1 with these lines as its head, and these costs."""
+    body = text_lines(with_costs(statements(text.split("\n")), costs), 1)
+    return "".join([*("# %s\n" % line for line in head), *body])
 
 
 def in_nanoseconds(line):
@@ -40,6 +46,5 @@ def in_nanoseconds(line):
 
 def burdened_text(text, costs, remark=""):
     """A text of version 1 with these costs, in nanoseconds; its head tells where the text is from, and the remark."""
-    head = ["# %s\n" % in_nanoseconds(line) for line in comments(text) if line.startswith(KEPT)]
-    body = text_lines(with_costs(statements(text.split("\n")), costs), 1)
-    return "".join([*head, *(["# remark: %s\n" % remark] if remark else []), *body])
+    head = [in_nanoseconds(line) for line in comments(text) if line.startswith(KEPT)]
+    return text_with(head + ["remark: " + remark] * bool(remark), text, costs)

@@ -6,18 +6,17 @@ from spanprof.command import Console, check_files, count, end_with, naming
 from spanprof.predict.burden import burdened_text
 from spanprof.predict.estimate import LLVM, RUNTIMES
 from spanprof.predict.machine import machine_file, read_machine
-from spanprof.predict.predictions import by_threads, predictions
-from spanprof.predict.scaled import texts
+from spanprof.predict.predictions import by_threads, predictions, text_of
 from spanprof.predict.words import as_json, burden_words, lines
 from spanprof.remarks import in_json
 from spanprof.version import Version
 
 CONSOLE = Console("spanprof-predict")
-DESCRIPTION = """Estimates by a model of the runtime's scheduling how long the recorded region would take on some
-threads, as a time and an interval. Several texts are recordings of one program: recordings with equal thread counts
-are reduced to their median, and different thread counts show how costs grow."""
-AFTER = """spanprof-record measures once what a task costs in the runtime of this machine. Exit status 1: a file is
-missing, or a text has no times; 2: wrong arguments."""
+DESCRIPTION = """Predicts how long a recorded region would take on other numbers of threads, by simulating the
+runtime's scheduling: a time and an interval. Of several recordings of a program, those on one number of threads give a
+median, and those on different numbers show how costs grow."""
+AFTER = """Run `spanprof record --calibrate` once on each machine first. Exit status 1: a file is missing, or a text has
+no times; 2: wrong arguments."""
 MOST_THREADS = 1024
 
 
@@ -31,11 +30,12 @@ def parse(words):
                                      description=DESCRIPTION, epilog=AFTER, allow_abbrev=False)
     add = parser.add_argument
     add("texts", nargs="+", metavar="MINE.spanprof",
-        help="the recordings, or texts of a region; of a recording its region with the most code is predicted")
-    add("--threads", type=numbers, metavar="P,..", help="without it as many as were recorded, and twice as many")
-    add("--machine", metavar="FILE", help="the model of the machine; without it that of this one")
-    add("--runtime", choices=RUNTIMES, default=LLVM, help="whose scheduling: llvm (without it), or gnu, gcc's")
-    add("-o", "--output", metavar="BURDENED.tasks", help="keep the burdened text, for the last number of threads")
+        help="recordings (of each, its region with the most code is predicted) or texts of a region")
+    add("--threads", type=numbers, metavar="P,..",
+        help="predict for these numbers of threads (default: as many as were recorded, and twice as many)")
+    add("--runtime", choices=RUNTIMES, default=LLVM, help="the runtime to simulate: llvm (default), or gnu, gcc's")
+    add("-o", "--output", metavar="BURDENED.tasks",
+        help="write the burdened text of the last number of threads to this file")
     add("--json", action="store_true", help="print JSON")
     add("--version", action=Version)
     return parser.parse_args(words)
@@ -47,17 +47,16 @@ def remark(one):
 
 
 def answer(chosen):
-    several = [texts(word, CONSOLE.tell) for word in chosen.texts]
-    paths = [path for one in several for path in one.paths]
+    paths = [text_of(word, CONSOLE.tell) for word in chosen.texts]
     for path in paths:
         check_files(path, chosen.output, "burdened text")
-    recordings, machine = by_threads(paths), read_machine(chosen.machine or machine_file())
+    recordings, machine = by_threads(paths), read_machine(machine_file())
     found = predictions(recordings, machine, chosen.threads, chosen.runtime)
     if chosen.output:
         one = found[-1][0]
         with naming(chosen.output), open(chosen.output, "w", encoding="utf-8") as file:
             file.write(burdened_text(one.base.text, one.costs, remark(one)))
-    told = recordings[max(recordings)], machine, found, [note for one in several for note in one.notes]
+    told = recordings[max(recordings)], machine, found
     print(json.dumps(as_json(*told), indent=2) if chosen.json else "\n".join(lines(*told)))
 
 

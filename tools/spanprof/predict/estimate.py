@@ -45,7 +45,7 @@ def base_of(recordings, threads):
     numbers = sorted(recordings)
     most = recordings[numbers[-1]]
     if numbers[-1] == 1:
-        raise Fault("%s is of one thread, whose tasks are all undeferred: it predicts no time on more" % most[0].name)
+        raise Fault("%s was recorded on one thread, where each task is undeferred: record on more" % most[0].name)
     return most, Growth(recordings[numbers[-2]], most) if len(numbers) > 1 else None
 
 

@@ -72,9 +72,9 @@ def read_machine(path):
     except OSError as wrong:
         raise Fault("%s: %s; %s" % (path, wrong.strerror, HOW)) from wrong
     except json.JSONDecodeError as wrong:
-        raise Fault("%s is no model of a machine, as it is no JSON; %s" % (path, HOW)) from wrong
+        raise Fault("%s is not a model of a machine: not JSON; %s" % (path, HOW)) from wrong
     except (ValueError, KeyError, TypeError, AttributeError) as wrong:
-        raise Fault("%s is no model of a machine: %s; %s" % (path, wrong, HOW)) from wrong
+        raise Fault("%s is not a model of a machine: %s; %s" % (path, wrong, HOW)) from wrong
 
 
 def write_machine(machine, path):

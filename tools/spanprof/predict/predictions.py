@@ -2,24 +2,38 @@
 import os
 
 from spanprof import client
+from spanprof.converting import region_text
 from spanprof.errors import Fault
 from spanprof.predict.burden import burdened_text
 from spanprof.predict.estimate import LLVM, estimate
 from spanprof.predict.machine import machine_file, read_machine
 from spanprof.predict.recorded import recorded, with_text
-from spanprof.predict.scaled import together
-from spanprof.predict.words import as_json, changed_json, changed_words, lines
+from spanprof.predict.words import changed_json, changed_words
+from spanprof.recording import folder_of, open_recording
+
+SLOW = 1.15     # times as long as the quickest recording on as many threads
+
+
+def text_of(path, tell=lambda words: None):
+    """A text; or of a recording that of its region with the most code."""
+    return region_text(open_recording(path), tell=tell) if folder_of(path) else path
+
+
+def undisturbed(several):
+    """Of the recordings on one number of threads those that were made in no slow moment, as the quickest shows."""
+    quickest = min(one.elapsed for one in several)
+    return [one for one in several if one.elapsed <= SLOW * quickest or not quickest]
 
 
 def by_threads(paths):
-    """The recordings of one region by their numbers of threads."""
+    """The recordings of one region by their numbers of threads, but for slow ones."""
     found = {}
     for one in map(recorded, paths):
         found.setdefault(one.threads, []).append(one)
     places = {one.head.region for several in found.values() for one in several}
     if len(places) > 1:
         raise Fault("the texts are not of one region, but of those at %s" % " and ".join(sorted(places)))
-    return found
+    return {threads: undisturbed(several) for threads, several in found.items()}
 
 
 def least_end(text, costs, threads):
@@ -35,23 +49,9 @@ def predictions(recordings, machine, numbers=None, runtime=LLVM):
     return [(one, least_end(one.base.text, one.costs, one.threads)) for one in found]
 
 
-def by_the_model(paths, numbers=None):
-    """The recordings on the most threads, the model of this machine, and the predictions; None without a model."""
-    if not os.path.exists(machine_file()):
-        return None
-    machine, recordings = read_machine(machine_file()), by_threads(paths)
-    return recordings[max(recordings)], machine, predictions(recordings, machine, numbers)
-
-
-def told_of(chosen):
-    """For a summary, lines and JSON. There is nothing without a model of the machine."""
-    told = by_the_model(chosen.paths)
-    return (lines(*told, chosen.notes), as_json(*told, chosen.notes)) if told else ([], None)
-
-
-def of_changed(bases, change, machine, threads):
-    """Of recordings with changed texts, where `change` makes one of a text: an estimate and its least end."""
-    found = estimate({bases[0].threads: [with_text(base, change(base.text)) for base in bases]}, machine, threads)
+def of_changed(base, change, machine, threads):
+    """Of a recording with a changed text, which `change` makes of its own: an estimate and its least end."""
+    found = estimate({base.threads: [with_text(base, change(base.text))]}, machine, threads)
     return found, least_end(found.base.text, found.costs, threads)
 
 
@@ -63,8 +63,8 @@ def of_both(path, change, threads):
     """Pairs as above of a recording's text, and of what `change` makes of it; None without a model."""
     if not os.path.exists(machine_file()):
         return None
-    machine, bases = read_machine(machine_file()), [recorded(one) for one in together(path)]
-    return [of_changed(bases, one, machine, threads) for one in (unchanged, change)]
+    machine, base = read_machine(machine_file()), recorded(text_of(path))
+    return [of_changed(base, one, machine, threads) for one in (unchanged, change)]
 
 
 def changed_told(path, change, threads):

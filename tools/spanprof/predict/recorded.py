@@ -7,13 +7,12 @@ from spanprof import client
 from spanprof.claims import is_divided
 from spanprof.errors import Fault
 from spanprof.head import Head, comments, read_head
-from spanprof.predict.burden import with_costs
+from spanprof.predict.burden import text_with
 from spanprof.predict.program import Program, read_program
 from spanprof.recording import beside
 from spanprof.predict.times import rows_of, times_of
 from spanprof.segment_table import read_code
-from spanprof.marks import statements
-from spanprof.text import DIVIDER, has_loops, text_lines
+from spanprof.text import DIVIDER, has_loops
 
 
 @dataclass
@@ -72,8 +71,7 @@ def without_preempted(text, head):
         if segment < len(costs):
             taken += min(off, costs[segment])
             costs[segment] -= min(off, costs[segment])
-    lines = ["# %s\n" % line for line in comments(text) if not line.startswith("preempted: ")]
-    return "".join([*lines, *text_lines(with_costs(statements(text.split("\n")), costs), 1)]), taken
+    return text_with([line for line in comments(text) if not line.startswith("preempted: ")], text, costs), taken
 
 
 def recorded_as(text, name, outside=None):
@@ -87,7 +85,7 @@ def recorded_as(text, name, outside=None):
     program.costs = [cost * head.nanoseconds for cost in program.costs]
     return Recorded(program, head.threads, (head.elapsed or 0) * head.nanoseconds, outside or 0,
                     (head.most_held or 0) * head.nanoseconds, os.path.basename(name), head, text, outside is not None,
-                    preempted=taken * head.nanoseconds)
+                    preempted=(taken or head.taken_off.get("by", 0)) * head.nanoseconds)
 
 
 def with_text(base, text):

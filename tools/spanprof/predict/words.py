@@ -58,7 +58,7 @@ def notes_on(one):
     if not one.base.is_timed:
         yield "without what passes outside of the region's code, since the times of the recording are not there"
     if one.by_lock:
-        yield "as long as the most held lock is held"
+        yield "as long as the lock held longest is held"
     if one.unmatched >= UNMATCHED:
         yield "%.0f %% of the work is matched in no other recording" % (100 * one.unmatched)
     if abs(one.grown) >= 0.01:
@@ -80,12 +80,11 @@ def recorded_words(several):
     return "%s, region at %s, %s%s" % (first.name, first.head.region, of, times)
 
 
-def lines(several, machine, found, notes=()):
-    """Of the recordings on the most threads; `found` has pairs of an estimate and its least end. The notes are on what
-    was left out."""
+def lines(several, machine, found):
+    """Of the recordings on the most threads; `found` has pairs of an estimate and its least end."""
     base, runtime = (found[0][0].base, found[0][0].runtime) if found else (several[0], LLVM)
     first = "%s: with %s" % (recorded_words(several), runtime_words(base, machine, runtime))
-    return [first, *(line(one, least) for one, least in found), *notes, model(found)]
+    return [first, *(line(one, least) for one, least in found), model(found)]
 
 
 def changed_words(threads, before, after):
@@ -104,8 +103,8 @@ def changed_json(threads, before, after):
             "changed text": time_json(*after)}
 
 
-def as_json(several, machine, found, notes=()):
+def as_json(several, machine, found):
     return {"text": several[0].name, "region": several[0].head.region, "unit": "ns", "model": model(found),
-            "notes": list(notes), "predicted": [
+            "predicted": [
         {**time_json(one, least), "recordings": one.of, "runtime": one.runtime, "dispatch": one.dispatch,
          "steal": one.steal, "notes": list(notes_on(one))} for one, least in found]}

@@ -23,7 +23,6 @@ from spanprof.text import OF_A_THREAD
 CALIBRATION = Product("calibrate", "the program for --calibrate", "clang-19 libomp-19-dev make")
 SECONDS = 30        # for all numbers of threads together, begun by then
 PROCESSES = 8
-REGIONS = 40        # recorded ones
 OFTEN = 10          # segments at a place, from which on they are of the tree's tasks
 
 
@@ -79,7 +78,7 @@ def recorded(options, program, preload, threads, folder):
     out = os.path.join(folder, "threads%d" % threads)
     library, to_texts = recorder_library(say), converter(say)
     options.threads, options.clock, options.unit = threads, "wall", "ns"
-    variables = environment(dict(os.environ, SPANPROF_REGIONS=str(REGIONS)), options, library, preload, out)
+    variables = environment(dict(os.environ), options, library, preload, out)
     run([program, str(threads), "trees"], variables)
     convert(to_texts, os.path.join(out + ENDING, LOG), out, variables)
     found = [cost_of_a_task(read_program(client.read(text))) for text in glob.glob(glob.escape(out) + "*.tasks")]

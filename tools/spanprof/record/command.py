@@ -3,7 +3,6 @@ import os
 import signal
 import subprocess
 import sys
-import webbrowser
 
 from spanprof.client import HOW
 from spanprof.command import end_with, show
@@ -33,10 +32,8 @@ def write_page(options, recording):
     reporter = next((path for path in REPORTERS if os.path.exists(path)), REPORTERS[0])
     words = [sys.executable, reporter, recording.folder, "-o", options.html]
     tell("making %s" % options.html)
-    if subprocess.run(words, check=False).returncode:
+    if subprocess.run(words, stdout=subprocess.DEVNULL, check=False).returncode:    # the output is the program's
         raise Fault("no page is written")
-    if options.open and not webbrowser.open("file://" + os.path.abspath(options.html)):
-        say("there is no browser to show %s" % options.html)
 
 
 def try_page(options, recording):

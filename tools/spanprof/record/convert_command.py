@@ -15,8 +15,8 @@ from spanprof.text import HEADER
 from spanprof.version import Version
 
 CONSOLE = Console("spanprof-convert")
-DESCRIPTION = """Writes the text of a recording anew from its log. --region makes a text of one of its regions, in
-files of its own: NAME.tasks, and NAME.timed with its times."""
+DESCRIPTION = """Makes the text of a recording again from its log; with --region, the text of one parallel region:
+NAME.tasks, and NAME.timed with its times."""
 AFTER = "Exit status 125: wrong arguments, a log that cannot be converted, or a text that cannot be written."
 MOST_LINES, LONGEST = 1000, 1000    # of the comments before a text's first word
 WANTED = "; a recording is the folder NAME.spanprof that spanprof-record leaves"
@@ -26,13 +26,14 @@ def parser():
     out = Parser(prog="spanprof-convert", description=DESCRIPTION, epilog=AFTER, allow_abbrev=False,
                  usage="spanprof-convert [options] NAME.spanprof")
     add = out.add_argument
-    add("--out", metavar="NAME", help="write another recording, NAME.spanprof, whose log is a link; or the name of the "
-        "text that --region makes, NAME.tasks")
-    add("--unit", type=unit, help="what a cost of 1 is: ns (without it), us, ms, or a number of nanoseconds")
-    add("--region", metavar="FILE:LINE", help="a text of the region there; of several, of the one with the median work")
-    add("--text", action="store_true", help="print the text, and write none")
+    add("--out", metavar="NAME", help="write another recording, NAME.spanprof, with a link to the log; with --region, "
+        "write NAME.tasks")
+    add("--unit", type=unit, help="the unit of costs: ns (default), us, ms, or a number of nanoseconds")
+    add("--region", metavar="FILE:LINE",
+        help="make the text of the region there; of several, of the one with the median work")
+    add("--text", action="store_true", help="print the text instead of writing it")
     add("--version", action=Version)
-    add("recording", metavar="NAME.spanprof", help="the recording, or the folder of a log")
+    add("recording", metavar="NAME.spanprof", help="a recording, or the folder of a log")
     return out
 
 
@@ -60,13 +61,12 @@ def log_of(path):
     if not os.path.exists(path):
         raise Fault("%s: no such folder%s" % (path or "''", WANTED))
     if is_text(path):
-        raise Fault("%s: a text already, and no recording: spanprof-report makes its page, spanprof-whatif changes it" %
-                    path)
+        raise Fault("%s: a program text already: spanprof-report makes its page, spanprof-whatif changes it" % path)
     if not os.path.isdir(path):
-        raise Fault("%s: no folder%s" % (path, WANTED))
+        raise Fault("%s: not a folder%s" % (path, WANTED))
     found = next((log for log in (os.path.join(path, LOG), path) if os.path.exists(os.path.join(log, "head"))), None)
     if not found:
-        raise Fault("%s: a folder without a log in it%s" % (path, WANTED))
+        raise Fault("%s: there is no log in this folder%s" % (path, WANTED))
     return found
 
 
@@ -116,7 +116,7 @@ def part_text(chosen, program, log, out, name):
     asked = variables(chosen, chosen.recording)
     asked = of_region(asked, chosen.region) if chosen.region else dict(asked, SPANPROF_WHOLE="1")
     told = convert(program, log, out, asked)
-    tell_all([one for one in told if one["told"] not in ("more regions", "text")], out, name)
+    tell_all([one for one in told if one["told"] != "text"], out, name)
     text = made_text(out)
     if not text and chosen.region:
         raise no_region(open_recording(chosen.recording), chosen.region)
@@ -143,7 +143,7 @@ def write_part(chosen, program, log):
         print_text(made)
         return
     check_folder(name)
-    for ending in (".tasks", ".timed", ".inout.tasks"):
+    for ending in (".tasks", ".timed"):
         part = made.removesuffix(".tasks") + ending
         if os.path.exists(part):
             with naming(name + ending):

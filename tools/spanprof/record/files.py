@@ -16,6 +16,6 @@ def check_folder(out, option="--out"):
 def check_file(path, option):
     """The same of a single file."""
     if path and os.path.isdir(path):
-        raise Fault("%s %s: a folder, and no file" % (option, path))
+        raise Fault("%s %s: is a folder" % (option, path))
     if path and not os.path.exists(path):
         check_folder(path, option)

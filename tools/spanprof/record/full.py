@@ -2,25 +2,23 @@
 had, in turns, and what each place costs on one thread."""
 import os
 import tempfile
-from collections import Counter
 
+from spanprof.diagnosis.facts import costs_of
+from spanprof.diagnosis.places import read_places
 from spanprof.head import head_of
 from spanprof.record.console import say, tell
 from spanprof.record.meta import old_meta
 from spanprof.record.run import rewind
 from spanprof.record.unrecorded import ON_ONE, Failed, unrecorded
-from spanprof.segment_table import read_code
-from spanprof.text_file import TextFile
+from spanprof.segment_table import code_in
 
 RUNS = 3
 
 
 def costs_by_place(path):
-    """In nanoseconds, of a text of any size."""
-    code, unit, found = read_code(TextFile(path).lines(), path), head_of(path).nanoseconds or 1, Counter()
-    for place, cost in zip(code.places, code.cost):
-        found[place] += cost * unit
-    return dict(found)
+    """In nanoseconds, of a text of any size, with the places of a diagnosis."""
+    code = code_in(path)
+    return {name: place.cost for name, place in read_places(code, costs_of(code, {}, head_of(path))).places.items()}
 
 
 def cost_on_one(session):
@@ -34,15 +32,17 @@ def cost_on_one(session):
         return costs_by_place(text) if text else None
 
 
-def full_facts(session, folder):
-    """Of the recording in a folder, with the names of recording.json. Where a run fails that is told, and there are
-    none."""
-    facts = old_meta(folder)
+def threads_of(facts):
     threads = facts.get("threads") or {}
-    number = threads.get("most") or threads.get("asked") or facts.get("processors") or 1
+    return threads.get("most") or threads.get("asked") or facts.get("processors") or 1
+
+
+def full_facts(session, folder, times=None):
+    """Of the recording in a folder, with the names of recording.json; `times` are those of unrecorded runs, where they
+    were made. Where a run fails that is told, and there are none."""
     try:
-        times = unrecorded(session, [number, 1], RUNS)
-        return {"true_one": times[1], "true_many": times[number], "cost_on_one": cost_on_one(session)}
+        times = times or unrecorded(session, [threads_of(old_meta(folder)), 1], RUNS)
+        return {"true_one": times[1], "true_many": times[max(times)], "cost_on_one": cost_on_one(session)}
     except Failed as failed:
         say("%s: what --full adds is not known" % failed)
         return {}

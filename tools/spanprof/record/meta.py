@@ -2,7 +2,7 @@
 import json
 import os
 
-from spanprof.errors import Fault
+from spanprof.errors import DAMAGE, Fault
 from spanprof.head import head_of
 from spanprof.record.facts import facts_of_program
 from spanprof.record.runtime_name import runtimes_of
@@ -62,6 +62,6 @@ def old_meta(folder):
     try:
         with open(os.path.join(folder, META), encoding="utf-8") as file:
             told = json.load(file)
-    except (OSError, ValueError):
+    except (OSError, *DAMAGE):
         return {}
     return told if isinstance(told, dict) else {}

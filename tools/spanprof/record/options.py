@@ -10,10 +10,11 @@ from spanprof.record.ranks import is_launcher
 from spanprof.record.target import launched
 from spanprof.version import Version
 
-DESCRIPTION = "Records a run of an OpenMP program, and says on standard error what its text gains from more threads."
-AFTER = """Everything after -- is the program and its arguments. The exit status is the program's, also where its page
-could not be written; 3 where it is slower than allowed, 125 where nothing was recorded, 126 where the program cannot be
-run, 127 where there is none. The recorder's own variables (SPANPROF_LINES) and those of OpenMP hold too."""
+DESCRIPTION = """Records a run of an OpenMP program, and prints on standard error what costs it time and what to change
+first."""
+AFTER = """Everything after -- is the program and its arguments. The exit status is the program's, even if its page cannot
+be written; 3 if --fail-above was exceeded, 125 if nothing was recorded, 126 if the program cannot be run, 127 if it does
+not exist. The program still reads OMP_* variables."""
 MOST_RUNS = 99
 RUNS_OF_A_SCALE = 5
 MOST_THREADS = 1024
@@ -38,50 +39,49 @@ def numbers_of_threads(word):
     """`1,2,4`: in order, with 1, against which a speedup is."""
     words = word.split(",")
     if not all(re.fullmatch(r"[0-9]{1,4}", one) and 1 <= int(one) <= MOST_THREADS for one in words):
-        raise argparse.ArgumentTypeError("%s is no list of numbers of threads, such as 1,2,4; 1 to %d" % (
+        raise argparse.ArgumentTypeError("%s is not a list of numbers of threads, such as 1,2,4, up to %d" % (
             word, MOST_THREADS))
     numbers = sorted(set(map(int, words)))
     if numbers[0] != 1 or len(numbers) == 1:
-        raise argparse.ArgumentTypeError("%s has to have 1, the base of the speedup, and another number" %
+        raise argparse.ArgumentTypeError("%s: expected 1, the base of the speedup, and another number" %
                                          word)
     return numbers
 
 
 def parser():
     out = Parser(prog="spanprof-record", description=DESCRIPTION, epilog=AFTER, allow_abbrev=False,
-                 usage="spanprof-record [options] [--] PROGRAM [WORD ..]")
+                 usage="spanprof-record [options] [--] PROGRAM [ARGUMENT ..]")
     add = out.add_argument
-    add("--out", metavar="NAME", help="the recording is the folder NAME.spanprof; without it the program's name; of "
-        "several processes of MPI NAME.rank0.spanprof and so on, of child processes NAME.child1.spanprof")
-    add("--force", action="store_true",
-        help="replace a recording of this name; without it this one is NAME-2.spanprof then")
-    add("--unit", type=unit, help="what a cost of 1 is: ns (without it), us, ms, or a number of nanoseconds")
-    add("--clock", choices=("wall", "cpu"), help="wall time (without it), or processor time of each thread")
-    add("--threads", type=count(1, MOST_THREADS), metavar="P",
-        help="OMP_NUM_THREADS of the run; spanprof judges 64 at most")
+    add("--out", metavar="NAME", help="write the folder NAME.spanprof (default: the program's name); MPI processes "
+        "write NAME.rank0.spanprof and so on, child processes NAME.child1.spanprof")
+    add("--force", action="store_true", help="replace an existing recording; without it the new one is NAME-2.spanprof")
+    add("--unit", type=unit, help="the unit of costs: ns (default), us, ms, or a number of nanoseconds")
+    add("--clock", choices=("wall", "cpu"), help="measure wall time, or processor time of each thread "
+        "(default: wall time without preemption)")
+    add("--threads", type=count(1, MOST_THREADS), metavar="P", help="run with OMP_NUM_THREADS=P")
     add("--runs", type=count(1, MOST_RUNS), metavar="N",
-        help="run it N times, and keep the recording of the run with the median elapsed time")
+        help="run the program N times, and keep the recording of the run with the median elapsed time")
     add("--scale", type=numbers_of_threads, metavar="1,P,..",
-        help="tell the true speedup: run it N times (5 without --runs) unrecorded on each of these numbers of "
-        "threads, and then N times recorded; the diagnosis is of the last, with what --full adds")
+        help="measure the true speedup: run the program N times (--runs, default 5) on each of these numbers of "
+        "threads without recording, then record it on the most, with what --full adds")
     add("--full", action="store_true",
-        help="run it several times more, unrecorded on as many threads and on one, and recorded on one: true times, "
-        "the speedup, and what costs more on more threads; without it the program runs once")
+        help="run the program seven times more, unrecorded on as many threads and on one, and recorded on one: true "
+        "times, the speedup, and which code costs more on more threads")
     add("--calibrate", action="store_true",
-        help="without a program: measure what the runtime takes for tasks on this machine, for spanprof-predict")
+        help="no program: measure what a task costs in the runtime on this machine, for spanprof-predict")
     add("--call-paths", action="store_true",
-        help="tell the callers of a function apart that makes tasks: record which calls led to each")
-    add("--runtime", metavar="llvm|gnu|FILE", help="run the program on LLVM's runtime or on gcc's, or on that of this "
-        "file, whatever it is linked with; without it on its own")
+        help="record the calls that led to each creation of a task, and distinguish its callers")
+    add("--runtime", metavar="llvm|gnu|FILE", help="run on LLVM's runtime, on gcc's, or on the one in FILE (default: "
+        "the runtime that the program is linked with)")
     add("--against", metavar="BEFORE.spanprof",
-        help="compare with an earlier recording: whether it is faster, where, and what was predicted")
-    add("--fail-above", type=percent, metavar="5%", help="exit with status 3 where it is slower by more than that")
-    add("--all", action="store_true", help="print all that is known of the run, and not the diagnosis alone")
-    add("--html", metavar="PAGE", help="write the page of spanprof-report too")
-    add("--json", metavar="FILE", help="write the diagnosis as JSON too")
+        help="compare with an earlier recording: whether the program is faster, where, and what was predicted")
+    add("--fail-above", type=percent, metavar="5%",
+        help="with --against: exit with status 3 if the program is slower by more than this")
+    add("--all", action="store_true", help="print everything known of the run after the diagnosis")
+    add("--html", metavar="PAGE", help="write the page of spanprof-report, too")
+    add("--json", metavar="FILE", help="write the diagnosis as JSON, too")
     add("--version", action=Version)
-    add("--open", action="store_true", help="show that page in the browser; without --html it is NAME.html")
-    add("command", nargs=argparse.REMAINDER, metavar="PROGRAM [WORD ..]", help="what to run")
+    add("command", nargs=argparse.REMAINDER, metavar="PROGRAM [ARGUMENT ..]", help="the program to run")
     return out
 
 
@@ -106,19 +106,17 @@ def parse(words):
     if chosen.calibrate and chosen.command:
         reader.error("--calibrate takes no program")
     if not (chosen.command or chosen.calibrate):
-        reader.error("no program to run; such as: spanprof-record -- ./mine")
+        reader.error("no program to run; example: spanprof-record -- ./mine")
     if chosen.calibrate:
         return chosen
     if chosen.out is None:
         chosen.out = os.path.basename(named_after(chosen.command))
     check_name(reader, chosen.out)
     if chosen.scale and chosen.threads:
-        reader.error("--scale has the numbers of threads already, without --threads")
+        reader.error("--scale does not combine with --threads")
     if chosen.fail_above is not None and not chosen.against:
-        reader.error("--fail-above needs --against, with which it compares")
+        reader.error("--fail-above needs --against")
     if chosen.full and (chosen.scale or chosen.runs):
-        reader.error("--full runs the program as often as it has to, without --scale and --runs")
+        reader.error("--full does not combine with --scale and --runs")
     chosen.runs = chosen.runs or (RUNS_OF_A_SCALE if chosen.scale else 1)
-    if chosen.open and not chosen.html:
-        chosen.html = chosen.out + ".html"
     return chosen

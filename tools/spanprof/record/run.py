@@ -4,6 +4,7 @@ import resource
 import signal
 import subprocess
 import time
+from contextlib import suppress
 from typing import NamedTuple
 
 from spanprof.errors import NOT_EXECUTABLE, Fault
@@ -62,13 +63,17 @@ class PassedOn:
         if self.pid is None:
             self.early.append(number)
         else:
-            os.kill(self.pid, number)
+            self.send(number)
 
     def to(self, pid):
         """None once it has ended."""
         self.pid = pid
         for number in self.early if pid else ():
-            os.kill(pid, number)
+            self.send(number)
+
+    def send(self, number):
+        with suppress(ProcessLookupError):      # it may have ended
+            os.kill(self.pid, number)
 
     def __enter__(self):
         handlers = {number: self.hand_on for number in PASSED_ON}

@@ -67,7 +67,7 @@ def check_library(path):
     if not os.path.isfile(path):
         raise Fault("--runtime %s: no such file" % path)
     if first_bytes(path) != ELF:
-        raise Fault("--runtime %s: no shared library" % path)
+        raise Fault("--runtime %s: not a shared library" % path)
 
 
 def on_file(path):

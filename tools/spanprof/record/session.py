@@ -5,7 +5,7 @@ from dataclasses import dataclass, field
 from typing import List
 
 from spanprof import client
-from spanprof.converting import convert, convert_into, converter, has_failed, recorder_library
+from spanprof.converting import convert_into, converter, has_failed, recorder_library
 from spanprof.errors import Fault
 from spanprof.recording import ENDING, LOG, META, TEXT, open_recording
 from spanprof.record.console import say, tell
@@ -28,6 +28,15 @@ class Recorded:
     status: int
     found: List[str] = field(default_factory=list)
     said: Told = None
+
+
+def check_earlier(path, out, is_replaced):
+    """A fault before the run where there is no recording to compare with, or none would be left."""
+    if not os.path.exists(path):
+        raise Fault("--against %s: no such recording" % path)
+    open_recording(path)
+    if is_replaced and os.path.realpath(path) == os.path.realpath(out + ENDING):
+        raise Fault("--force would replace %s, with which --against compares; --out names the new one" % path)
 
 
 def check_spanprof():
@@ -54,8 +63,8 @@ def why_nothing(status, said, out):
         ended = "the program ended by %s" % signal_name(status)
         return "; ".join([ended] + said.news(out))
     if said.loaded:
-        return "; ".join(said.news(out)) or "the recorder says nothing of it"
-    return "no OpenMP runtime loaded the recorder; it begins only where a program meets a construct of OpenMP"
+        return "; ".join(said.news(out)) or "the recorder reported no reason"
+    return "no OpenMP runtime loaded the recorder: did the program meet a construct of OpenMP?"
 
 
 class Session:
@@ -70,13 +79,13 @@ class Session:
         check_file(options.json, "--json")
         self.comparison = None      # with an earlier recording, where that is asked for
         if options.against:
-            open_recording(options.against)     # ends with a fault before the run where it is none
+            check_earlier(options.against, self.out, options.force)
         check_spanprof()
         for name in ("scale", "full"):
             if getattr(options, name) and (launches or self.rank is not None):
-                raise Fault("--%s takes no processes of MPI" % name)
+                raise Fault("--%s does not support MPI" % name)
         if launches and options.runs > 1:
-            raise Fault("--runs takes no launcher; as in: mpirun -n 4 spanprof-record --runs 5 -- PROGRAM")
+            raise Fault("--runs does not support a launcher; use: mpirun -n 4 spanprof-record --runs 5 -- PROGRAM")
         target = launched(options.command) if launches else self.path
         linked = linkage(target)
         chosen = choose(target, linked, options.runtime)
@@ -157,10 +166,6 @@ class Session:
     def tell_nothing(self, status, said):
         what = "the run is recorded, and its text is not made" if has_failed(said.things) else "nothing is recorded"
         say("%s: %s" % (what, why_nothing(status, said, self.out)))
-
-    def write_regions(self, folder, out):
-        """The texts of the regions of a log, OUT.tasks and so on."""
-        convert(self.converter, os.path.join(folder, LOG), out, dict(self.variables(out), SPANPROF_TIMES="1"))
 
     def record_once(self, more=None):
         """The program's end, the recordings, and what was said. `more` adds to the folder of the program's own, and

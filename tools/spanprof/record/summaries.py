@@ -13,9 +13,6 @@ from spanprof.diagnosis.compare import compared, lines as comparison_lines
 from spanprof.diagnosis.tell import told_of
 from spanprof.errors import Fault
 from spanprof.head import Head, head_of
-from spanprof.predict.machine import machine_file
-from spanprof.predict import predictions as predicting
-from spanprof.predict.scaled import texts
 from spanprof.recording import open_recording
 from spanprof.record.console import tell
 from spanprof.record.ranks import is_child
@@ -23,7 +20,7 @@ from spanprof.record.summary import named, other_region, remark_lines, summary, 
 from spanprof.record.summary_json import run_json, summary_json, write_json
 from spanprof.regions import program_of
 
-MORE = "spanprof-report %s, spanprof-record --all"
+MORE = "spanprof-report %s"
 
 BEYOND = ("TooLong", "TooDeep", "TooMany", "input too long")
 
@@ -39,16 +36,6 @@ def answered(recording):
         return None
 
 
-def predicted(recording, answers):
-    """By the model of this machine, where there is one, of the region with the most code; lines and JSON."""
-    if answers.is_long or not os.path.exists(machine_file()):
-        return [], None
-    try:
-        return predicting.told_of(texts(recording.folder, tell))
-    except Fault as why:
-        return ["unavailable: %s" % why], {"none": str(why)}
-
-
 class Unmeasured(NamedTuple):
     name: str
     head: Head
@@ -57,7 +44,7 @@ class Unmeasured(NamedTuple):
 def print_unmeasured(recording, news):
     """Of a text that only spanprof_large takes, where that is not found."""
     told = Unmeasured(recording.name, head_of(recording.text))
-    show([title(told)] + named("remarks", remark_lines(told, [client.HOW] + list(news))))
+    show([title(told)] + named("warnings", remark_lines(told, [client.HOW] + list(news))))
 
 
 def print_rank(session, all_answers, news):
@@ -91,14 +78,13 @@ def print_summary(session, recording, answers, others, news, scale):
     if diagnosis and not (options.all or options.json):
         return
     account, no_account = account_beside(answers)
-    times, predictions = predicted(recording, answers)
     if options.all or not diagnosis:
         show(summary(answers, news + [why] * bool(why), others, lines_of(account, no_account),
                      program_of(recording.text)))
-        show(named("losses", diagnosis.sum_lines() if diagnosis else []) + named("predicted", times))
+        show(named("losses", diagnosis.sum_lines() if diagnosis else []))
     if options.json:
-        write_json(options.json, summary_json(diagnosis and diagnosis.json(), run_json(answers, account, no_account),
-                                              scale, predictions))
+        run = run_json(answers, account, no_account)
+        write_json(options.json, summary_json(diagnosis and diagnosis.json(), run, scale))
 
 
 def print_measured(session, pairs, news, scale):

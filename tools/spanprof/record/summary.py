@@ -7,7 +7,7 @@ from spanprof.claims import (OTHERWISE, against_parallelism, against_span, gain_
                              is_divided, is_of_one_thread, is_partial, least_end, lock_binds, pieces_words,
                              share_covered, tasks_made, tenths, why_not_of_more_threads)
 from spanprof.client import Refused
-from spanprof.head import grouped, part_of_program, with_function
+from spanprof.head import CLOCKS, grouped, part_of_program, with_function
 from spanprof.proof import proved
 from spanprof.record.program_lines import program_line
 from spanprof.report.figures import rounded_down, rounded_up
@@ -15,7 +15,6 @@ from spanprof.report.places import places
 from spanprof.report.units import Units
 
 THREADS = (2, 4, 8, 16)
-CLOCKS = {"wall": " of wall time", "cpu": " of processor time"}
 MOST_PLACES = 3
 LESS_HELD = "another run may hold it for less (warnings)"
 
@@ -33,7 +32,7 @@ def title(answers):
     head = answers.head
     only = "" if head.covers_at_most else "only "
     parts = [answers.name, part_of_program(head), only + share_covered(head) if is_partial(head) else "",
-             threads_of(head), "costs in %s%s" % (head.unit, CLOCKS.get(head.clock, ""))]
+             threads_of(head), " of ".join(filter(None, ["costs in %s" % head.unit, CLOCKS.get(head.clock)]))]
     return ", ".join(filter(None, parts))
 
 
@@ -46,10 +45,9 @@ def covers_line(head):
 
 
 def tasks_line(answers):
-    head, whose = answers.head, "regions'" if answers.head.whole else "region's"
-    parts = "%s parts of the %s own code" % (grouped(answers.parts), whose) if answers.parts else ""
-    return "%s, in %s segments (recorded)" % (
-        ", and ".join(filter(None, [grouped(tasks_made(answers)), pieces_words(head), parts])),
+    implicit = "%s implicit tasks" % grouped(answers.parts) if answers.parts else ""
+    return "%s; %s segments (recorded)" % (
+        ", ".join(filter(None, [grouped(tasks_made(answers)), pieces_words(answers.head), implicit])),
         grouped(answers.span_numbers["segments"]))
 
 
@@ -74,15 +72,15 @@ def with_spread(number, name, head):
 
 def work_line(answers):
     head = answers.head
-    on = "one thread" if head.threads == 1 else "%s, added up" % (threads_of(head) or "all threads")
-    return "%s: code on %s (measured)" % (with_spread(answers.work, "work", head), on)
+    of = "one thread" if head.threads == 1 else threads_of(head) or "all threads"
+    return "%s: code of %s (measured)" % (with_spread(answers.work, "work", head), of)
 
 
 def span_line(answers):
     head, why_not = answers.head, against_span(answers.head)
     number = with_spread(answers.span, "span", head)
     if why_not:
-        return "%s: a longest chain of the recorded text; %s" % (number, why_not)
+        return "%s: critical path of the recorded text; %s" % (number, why_not)
     return "%s: lower bound of the run time on any number of threads %s" % (number, proved_of_text(head))
 
 
@@ -99,7 +97,7 @@ def elapsed_line(answers):
     if not elapsed:
         return "unknown"
     threads = " on %s" % (threads_of(answers.head) or "all threads")
-    return "%s%s: %.2f of them busy in this code on average (measured)" % (
+    return "%s%s: %.2f of them busy on average (measured)" % (
         costs(elapsed, answers.head), threads, answers.work / elapsed)
 
 
@@ -120,7 +118,7 @@ def at_most_line(answers, told):
     if gain_may_be_more(head):
         why = "(of the recorded text; %s)" % (OTHERWISE % "more")
     elif any(lock_binds(answers, p) for p in told):
-        why = "(measured: work / the recorded text's least end, or / the time inside the most held lock)"
+        why = "(measured: by the time inside the lock held longest)"
     else:
         why = proved_of_text(head)
     return "speedup at most %s %s" % (gains, why)
@@ -148,8 +146,8 @@ def lock_lines(answers, least):
     if not inside or inside <= least:
         return []
     if gain_may_be_more(answers.head):
-        return ["%s inside the most held one; %s (measured)" % (costs(inside, head), LESS_HELD)]
-    return ["%s inside the most held one: speedup at most %s (measured)" % (
+        return ["%s inside the lock held longest; %s (measured)" % (costs(inside, head), LESS_HELD)]
+    return ["%s inside the lock held longest: speedup at most %s (measured)" % (
         costs(inside, head), rounded_up(answers.work, inside))]
 
 
@@ -158,7 +156,7 @@ def clock_lines(head):
     told = head.clocks_differ
     if not told:
         return []
-    return ["they differ by more than 5 %% in %s %% of the work, by %s in all (measured)" % (
+    return ["wall and processor time differ by more than 5 %% in %s %% of the work, by %s in all (measured)" % (
         tenths(told["affected"], told["work"]), costs(told["by"], head))]
 
 

@@ -14,10 +14,9 @@ def run_json(answers, account, why):
             "account": as_json(account) if account else None, "no account": why or None}
 
 
-def summary_json(diagnosis, whole, scale, predicted):
-    """The fields of the diagnosis and of the whole program, and what was measured on several numbers of threads, and
-    predicted."""
-    return {**(diagnosis or {}), **whole, "scale": scale_json(scale) if scale else None, "predicted": predicted}
+def summary_json(diagnosis, whole, scale):
+    """The fields of the diagnosis and of the whole program, and what was measured on several numbers of threads."""
+    return {**(diagnosis or {}), **whole, "scale": scale_json(scale) if scale else None}
 
 
 def write_json(path, told, option="--json "):

@@ -15,7 +15,7 @@ def find(word):
     if not os.path.exists(path):
         raise Fault("%s: no such program" % path, NO_PROGRAM)
     if os.path.isdir(path):
-        raise Fault("%s: a folder, and no program" % path, NOT_EXECUTABLE)
+        raise Fault("%s: is a folder, not a program" % path, NOT_EXECUTABLE)
     if not os.access(path, os.X_OK):
         raise Fault("%s: not executable" % path, NOT_EXECUTABLE)
     return path
@@ -25,5 +25,5 @@ def launched(words):
     """The path of the program among a launcher's words: the first one that is linked with a runtime of OpenMP."""
     paths = [path for path in map(shutil.which, words[1:]) if path]
     if not paths:
-        raise Fault("%s: no program is among its words" % words[0], NO_PROGRAM)
+        raise Fault("%s: none of its arguments is a program" % words[0], NO_PROGRAM)
     return next((path for path in paths if linkage(path).libraries), paths[0])

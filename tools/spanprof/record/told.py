@@ -45,8 +45,6 @@ WORDS = {
     "text": text,
     "remark": lambda told: "%s: %s" % (told["name"], remark_of(told["remark"])),
     "too large": too_large,
-    "more regions": lambda told: "%(regions)d more regions with tasks are not written, work %(work)d %(unit)s: of each "
-                                 "place those next to its median are; SPANPROF_REGIONS says how many are" % told,
     "outside": lambda told: "task outside of a parallel region, not recorded, " + seen(told),
     "no tasks": lambda told: "no parallel region with tasks" +
                              (", and the program ended inside a region" if told["inside"] else ""),

@@ -72,7 +72,6 @@ class Work:
                 break
             self.remove()
         self.stem = os.path.join(self.part, os.path.basename(out))
-        self.scale = os.path.join(self.part, "scale")
         self.is_renamed = number > 1
 
     @property

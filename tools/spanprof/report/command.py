@@ -14,9 +14,10 @@ from spanprof.report.trace_events import trace_text
 from spanprof.report.view import View
 from spanprof.version import Version
 
-DESCRIPTION = "Writes one page (HTML that needs no other file and no network) on a program text of spanprof."
-AFTER = """Exit status 1: a file or a place is missing, a file cannot be written, or a text is refused; 2: wrong arguments;
-3: slower by more than --fail-above."""
+DESCRIPTION = """Prints the diagnosis of a recording, and writes a page: one HTML file that needs no network. With two
+recordings, compares them."""
+AFTER = """Exit status 1: a file is missing, damaged or cannot be written; 2: wrong arguments; 3: slower by more than
+--fail-above."""
 SLOWER = 3
 LONGEST_WORDS = 100
 MOST_THREADS = 1024
@@ -34,21 +35,21 @@ def outputs(chosen):
 
 
 def arguments(words):
-    parser = argparse.ArgumentParser(prog="spanprof-report", usage="%(prog)s [options] MINE.spanprof",
+    parser = argparse.ArgumentParser(prog="spanprof-report", usage="%(prog)s [options] MINE.spanprof [AFTER.spanprof]",
                                      description=DESCRIPTION, epilog=AFTER, allow_abbrev=False)
     add = parser.add_argument
-    add("program", metavar="MINE.spanprof", help="the recording, or a program text, MINE.tasks")
+    add("program", metavar="MINE.spanprof", help="a recording, or a program text (MINE.tasks)")
     add("after", metavar="AFTER.spanprof", nargs="?",
-        help="a recording of the changed program: print whether it is faster, where, and what was predicted")
-    add("--fail-above", type=percent, metavar="5%", help="exit with status 3 where AFTER is slower by more than that")
+        help="a recording of the changed program: prints whether it is faster, where, and what was predicted")
+    add("--fail-above", type=percent, metavar="5%", help="exit with status 3 if AFTER is slower by more than this")
     add("-o", "--output", metavar="MINE.html",
-        help="the page; without it, and where nothing else is asked for, it is MINE.html")
-    add("--with", dest="other", metavar="OTHER.spanprof", help="a second recording or text, compared with the first")
+        help="write the page to this file (default: MINE.html, unless --trace or --json is given)")
+    add("--with", dest="other", metavar="OTHER.spanprof", help="show a second recording on the page, too")
     add("--threads", type=count(1, MOST_THREADS), metavar="P",
-        help="of the greedy schedule; without it as many as were recorded")
+        help="threads of the greedy schedule (default: as many as were recorded)")
     add("--source", action="append", metavar="FOLDER",
-        help="where the source is; without it next to the text, and here")
-    add("--trace", metavar="FILE.json", help="the runs as a trace for ui.perfetto.dev and speedscope.app")
+        help="look for sources here, too (default: next to the recording, and the current folder)")
+    add("--trace", metavar="FILE.json", help="write a trace for ui.perfetto.dev and speedscope.app")
     add("--json", action="store_true", help="print the diagnosis as JSON")
     add("--version", action=Version)
     chosen = parser.parse_args(words)
@@ -104,6 +105,8 @@ def write_the_rest(chosen, progress):
     for path, what in written:
         write(path, page(views) if what == "page" else trace_text(views[0]))
     progress.end([path for path, _ in written])
+    if chosen.output and views[0].diagnosis:
+        show(views[0].diagnosis.lines(), sys.stdout)
 
 
 def check(chosen):

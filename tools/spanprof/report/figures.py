@@ -11,10 +11,10 @@ from spanprof.report.units import grouped
 MEASURED, RECORDED, PROVED, DECLARED = "measured", "recorded", "proved", "declared"
 MEANINGS = {
     MEASURED: "read from the recorder's clock, or a sum or quotient of such readings",
-    DECLARED: "stated by the text, with no recording behind it, or a sum of such statements",
+    DECLARED: "declared in the text, or a sum of such costs",
     RECORDED: "from the run: tasks and segments, dependences, the order of events",
-    PROVED: "follows from the costs and the shape that the text has, %s; of the program that was recorded it says as "
-            "much as the text is that program",
+    PROVED: "follows from the text's costs and shape, %s; it holds of the recorded program as far as the text is that "
+            "program",
 }
 OF_THE_TEXT = "proved of the text"
 

@@ -1,5 +1,6 @@
 """The runs of a long text as timelines: of each thread so many bins, with how busy it is there and with what most."""
 from array import array
+from itertools import compress
 from operator import sub
 
 from spanprof.report.timeline_data import DIGITS
@@ -79,8 +80,8 @@ def levels_of(view, threads, segments, lanes, starts, ends):
         raise ValueError("below zero")
     out, of_place = Levels(max(threads, max(lanes) + 1), max(ends)), [view.colour_of(one) for one in view.task_places]
     colour = bytes(of_place[place] for place in view.task_place_of)
-    task = view.answers.code.task
-    out.add_all(lanes, starts, ends, bytes(colour[task[s]] for s in segments))
+    of_segment = bytes(map(colour.__getitem__, view.answers.code.task))
+    out.add_all(lanes, starts, ends, map(of_segment.__getitem__, segments))
     return out
 
 
@@ -95,8 +96,8 @@ def levels_in(path, view):
 def levels_of_greedy(view):
     """In the unit of the costs; None where there was too little memory for a greedy schedule."""
     made = view.answers.greedy
-    on = made and [s for s, thread in enumerate(made.threads) if thread >= 0]
-    if not on:
+    takes_time = made and bytes(thread >= 0 for thread in made.threads)
+    if not made or not any(takes_time):
         return None
-    return levels_of(view, view.answers.threads, on, *([column[s] for s in on]
-                                                       for column in (made.threads, made.starts, made.ends)))
+    return levels_of(view, view.answers.threads, *(array("q", compress(column, takes_time)) for column in (
+        range(len(made.threads)), made.threads, made.starts, made.ends)))

@@ -7,7 +7,7 @@ from spanprof.report.markup import note, section, tag
 from spanprof.report.tables import table
 
 MOST = 20
-HEADS = ("change", "the run takes", "less", "nine of ten times between")
+HEADS = ("change", "the run takes", "less", "90 % interval")
 
 
 def command(name, threads, requests):
@@ -37,7 +37,7 @@ def changes_part(view):
     """Nothing where no change was tried that brings something."""
     steps = view.diagnosis.found.steps[:MOST] if view.diagnosis else []
     return section("changes", "What-if changes", note(
-        "Each change alone, the likeliest to be right and worth most first. Whether the program stays right with it is "
-        "for you to judge. The line below a change asks for it again; several options make several changes at once."),
+        "Each change alone, the most certain and valuable ones first. Whether the program stays correct is for you to "
+        "judge. The command below a change tries it again; several options make several changes at once."),
         tag("div", table(HEADS, [row(view, number, step) for number, step in enumerate(steps)], numeric=(1, 2, 3)),
             class_="given")) if steps else ""

@@ -33,7 +33,7 @@ def times(found):
     first = [one_time(step.after, "after the first change, %s" % ("predicted" if step.change else "at best"))
              for step in found.plan[:1]]
     return tag("div", one_time(found.now, now), *first,
-               one_time(found.best, "at best: all threads in code all the time"), class_="times")
+               one_time(found.best, "at best: all threads busy all the time"), class_="times")
 
 
 def parts(told):
@@ -116,7 +116,7 @@ def without_run(view):
         "p", why, "Work ", show.time(answers.work, "span work", PROVED), ", span ",
         show.time(answers.span, "span span", PROVED), ": on any number of threads at most ",
         show.times_at_most(answers.work, answers.span, "span work / span span", PROVED), " times as fast ",
-        badge(PROVED), ". What changes bring: ", tag("code", "spanprof-whatif %s --advise" % view.name), "."),
+        badge(PROVED), ". What changes bring: ", tag("code", "spanprof-whatif %s --places" % view.name), "."),
         class_="diagnosis")
 
 

@@ -9,12 +9,10 @@ from spanprof.text import CALLED_FROM, is_programs, is_share
 MOST_PLACES, MOST_EDGES = 16, 30
 LONGEST, SHORTEST = 44, 16      # letters of a name's line
 
-BY_PLACE = "A box for each place of tasks, the darker the more work. Dashed: its tasks create those, and how often " \
-    "they wait for them. Solid: those depend on its tasks, or wait for tasks that they have not created. Red: the " \
-    "critical path goes there."
+BY_PLACE = "A box is a place of tasks, darker with more work. Dashed arrows: which tasks create which, and how often " \
+    "they wait for them. Solid arrows: dependences, and waits for tasks created elsewhere. Red: the critical path."
 NO_PICTURE = "Too many places for a picture here: spanprof graph --dot writes one for Graphviz."
-NOT_MADE = " Turns of loops, sections and the code of a region's threads are tasks of the text: the program makes " \
-    "none of them."
+NOT_MADE = " Iterations of loops, sections and implicit tasks are boxes, too."
 
 
 def cut(words):

@@ -2,6 +2,7 @@
 from spanprof.account_words import proved_sums
 from spanprof.claims import (against_parallelism, against_span, gain_may_be_less, least_end, lock_binds,
                              share_covered, speaks_of, tasks_made, why_not_of_more_threads)
+from spanprof.head import CLOCKS
 from spanprof.report.figures import MEASURED, PROVED, badge
 from spanprof.report.markup import join, note, section, tag
 from spanprof.report.tables import table
@@ -19,9 +20,9 @@ def given(*words):
 def recorded_words(view):
     """One line that says what the text is a recording of."""
     head = view.answers.head
-    clock = {"cpu": "processor time", "wall": "wall time"}.get(head.clock, head.clock)
+    clock = CLOCKS.get(head.clock, head.clock)
     unit = "costs in %s of %s" % (view.unit.replace("× ", ""), clock) if head.unit else \
-        "costs as the text declares them: nothing says that they were measured"
+        "costs as declared in the text, not measured"
     runs = "the one of %d runs with the median elapsed time" % head.runs if head.runs else ""
     parts = ["recorded from %s" % head.program if head.program else "",
              "the whole program: %s" % head.whole if head.whole else "",
@@ -45,7 +46,7 @@ def of_the_text(view):
     yield "work, all costs", show.time(answers.work, "span work", PROVED), view.cost_kind, spread(view, "work")
     yield "span, the longest chain", show.time(answers.span, "span span", PROVED), PROVED, join(filter(None, [
         spread(view, "span"), against_span(head)]), "; ")
-    yield "parallelism, work / span: no run gains more", show.times_at_most(
+    yield "parallelism, work / span: the greatest speedup", show.times_at_most(
         answers.work, answers.span, "span work / span span", PROVED), PROVED, against_parallelism(head)
     yield "tasks", show.number(tasks_made(answers), "tasks - parts - pieces", view.shape_kind), view.shape_kind, ""
     yield "segments", show.number(answers.span_numbers["segments"], "span segments", view.shape_kind), \
@@ -63,7 +64,7 @@ def on_the_threads(view):
     least = "head most held lock" if lock_binds(answers, threads) else "curve %d least" % threads
     yield given("speedup on %d threads, at most" % threads), show.times_at_most(
         answers.work, least_end(answers, threads), "span work / " + least, PROVED), PROVED, \
-        "bound by the most held lock" if lock_binds(answers, threads) else ""
+        "bound by the lock held longest" if lock_binds(answers, threads) else ""
     if not gain_may_be_less(head):
         yield given("speedup on %d threads, at least" % threads), show.times_at_least(
             answers.work, answers.curve[threads]["bound"], "span work / curve %d bound" % threads, PROVED), PROVED, \

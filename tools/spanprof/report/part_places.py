@@ -25,7 +25,7 @@ def idle_cells(view, place):
 
 def task_cells(view, place):
     """Of the place where tasks begin: how many, and what the median one costs with all its segments."""
-    code, first = view.answers.code, place.segments[0]
+    code, first = view.answers.code, place.first
     made = view.task_places[view.task_place_of[code.task[first]]]
     if code[first].after or made.name in ROOTS:
         return ["", ""]
@@ -36,7 +36,7 @@ def task_cells(view, place):
 
 def row(view, place):
     answers, show, kind, named = view.answers, view.figures, view.cost_kind, "place %d " % place.number
-    slack = min(answers.rows.slack[s] for s in place.segments)
+    slack = min(view.slacks[kind] for kind in place.kinds)
     return [place_cell(place.name, view.line_at(place.name), view.colour_at(place)),
             show.time(place.cost, named + "cost", kind),
             share_cell(show, place.cost, answers.work, named + "cost / span work", kind),
@@ -52,9 +52,10 @@ def places_part(view):
     count = view.figures.number(len(view.answers.path_segments), "path segments", PROVED)
     more = ["Left out: ", tag("span", left_out, class_="given"), " with little or no work."] * bool(left_out)
     return section("places", "Critical path and tasks by place", note(
-        "The segments at a place begin there. ", count, " segments are on the critical path: with threads to spare, "
-        "only a shorter one lets the program end sooner. Slack is the delay that a segment bears. Idle time is of the "
-        "threads' time, shared among what ran then. Costs ", badges(view.cost_kind), ", path and slack ",
+        "A segment's place is where it begins. ", count, " segments are on the critical path: with enough threads, "
+        "only a shorter one lets the program end sooner. Slack is the delay that a segment can bear. Idle time is a "
+        "share of the threads' time, divided among what ran meanwhile. Costs ",
+        badges(view.cost_kind), ", path and slack ",
         badges(PROVED), ". ", *more),
         table([HEADS[i] for i in columns], [[cells[i] for i in columns] for cells in rows],
               numeric=range(1, len(columns)), is_sortable=True))

@@ -73,6 +73,6 @@ def source_part(view):
     found = [(name, places, lines) for name, places, lines in files if lines][:MOST_FILES]
     pieces = [join([tag("h3", name, class_="place"), file_table(view, places, lines)]) for name, places, lines in found]
     return section("source", "Source", note(
-        "The darker a line, the more of the work its segments are, and the redder the bar at its left, the more of the "
-        "span: from where they begin to the construct that ends them. Shares ", badges(view.cost_kind), "."),
+        "A darker line has more of the work, a redder bar more of the span, of the segments from there to the "
+        "construct that ends them. Shares ", badges(view.cost_kind), "."),
         *pieces) if found else ""

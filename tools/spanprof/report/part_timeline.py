@@ -4,15 +4,14 @@ from spanprof.report.markup import details, join, note, section, tag
 from spanprof.report.view import COLOURS
 
 KEYS = (("w s", "or + −: zoom"), ("a d", "or ← →: move"), ("0", "show all"),
-        ("n", "the next segment on the critical path"), ("Esc", "let go of what is chosen"))
+        ("n", "the next segment on the critical path"), ("Esc", "deselect"))
 HANDS = "Click or tap a segment: arrows come from those that it waited for (solid) and go to those that waited for " \
     "it (dashed). A drag moves, and Ctrl with the wheel or two fingers zoom."
-IN_BINS = "Each bin of time is as high as the share of it that its thread was in code, and has the colour of the " \
-    "tasks that it was in most."
-THIN = "segments thinner than a pixel: as high as the share of its time that the thread is busy"
-TIMED = "Each bar stands where the recorder's clock saw it. A gap is a thread that waited, slept, or was in the " \
-    "runtime."
-UNTIMED = "There are no recorded times of its segments%s. So there is only the greedy schedule to show."
+IN_BINS = "Each bin is as high as the share of its time that the thread was in code, in the colour of the tasks that " \
+    "it was in most."
+THIN = "segments thinner than a pixel, as high as the thread's busy share"
+TIMED = "Bars are segments at their recorded times. In a gap the thread waited, slept, or was in the runtime."
+UNTIMED = "There are no recorded times of its segments%s, so only the greedy schedule is shown."
 NAMES = {"recorded": "The run as it was", "greedy": "The greedy schedule"}
 AS_MANY = "The greedy schedule of the text on as many threads"
 

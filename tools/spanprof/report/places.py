@@ -1,5 +1,6 @@
 """Sums over the segments, or over the tasks, that stand at one place in the source."""
 from array import array
+from collections import Counter
 from dataclasses import dataclass, field
 from statistics import median_low
 from typing import Sequence
@@ -8,7 +9,7 @@ ROOTS = ("the root", "serial code")     # as the first task is named; in the who
 
 
 def numbers():
-    """Of segments or tasks, or costs."""
+    """Of tasks, or costs."""
     return field(default_factory=lambda: array("q"))
 
 
@@ -17,7 +18,8 @@ class Place:
     """The segments at one place: after a construct, or at the beginning of a task."""
     name: str
     number: int = 0
-    segments: Sequence[int] = numbers()
+    first: int = 0      # of its segments
+    kinds: Sequence[int] = field(default_factory=list)  # of its segments
     cost: int = 0
     critical_cost: int = 0
     critical_segments: int = 0
@@ -34,15 +36,19 @@ def numbered(places, order):
 def places(answers):
     """By their part of the span, then of the work."""
     code, found = answers.code, {}
-    of_kind = [found.setdefault(name, Place(name)) for name in code.names]
-    for s, (kind, cost) in enumerate(zip(code.of, code.cost)):
-        place = of_kind[kind]
-        place.segments.append(s)
-        place.cost += cost
+    costs = [0] * len(code.names)
+    for kind, cost in zip(code.of, code.cost):
+        costs[kind] += cost
+    critical, critical_costs = Counter(), Counter()
     for s in answers.path_segments:
-        place = of_kind[code.of[s]]
-        place.critical_cost += code.cost[s]
-        place.critical_segments += 1
+        critical[code.of[s]] += 1
+        critical_costs[code.of[s]] += code.cost[s]
+    for kind, name in enumerate(code.names):
+        place = found.setdefault(name, Place(name, first=code.of.index(kind)))
+        place.kinds.append(kind)
+        place.cost += costs[kind]
+        place.critical_cost += critical_costs[kind]
+        place.critical_segments += critical[kind]
     return numbered(found.values(), lambda place: (-place.critical_cost, -place.cost, place.name))
 
 
@@ -66,12 +72,12 @@ class TaskPlace:
 
 def task_places(answers):
     """By the cost of all their tasks."""
-    code, rows, root, found = answers.code, answers.rows, ROOTS[bool(answers.head.whole)], {}
-    cost, critical_cost = (array("q", [0]) * (answers.tasks + 1) for _ in range(2))
-    for task, segment_cost in zip(code.task, rows.cost):
+    code, root, found = answers.code, ROOTS[bool(answers.head.whole)], {}
+    cost, critical_cost = ([0] * (answers.tasks + 1) for _ in range(2))
+    for task, segment_cost in zip(code.task, code.cost):
         cost[task] += segment_cost
     for s in answers.path_segments:
-        critical_cost[code.task[s]] += rows.cost[s]
+        critical_cost[code.task[s]] += code.cost[s]
     for number, first in enumerate(code.firsts()):
         name = code.kinds[code.of[first]][1] or ("a task" if number else root)
         place = found.setdefault(name, TaskPlace(name))

@@ -3,8 +3,8 @@ import json
 import os
 from typing import List, NamedTuple
 
-from spanprof.predict.scaled import SCALE
-from spanprof.recording import folder_of
+from spanprof.errors import DAMAGE
+from spanprof.recording import SCALE, folder_of
 from spanprof.report.markup import join, tag
 
 SAID = "true speedup against one thread: median of measured, unrecorded runs of the whole program, least and greatest"
@@ -20,14 +20,13 @@ class Point(NamedTuple):
 
 
 def true_times_beside(answers) -> List[Point]:
-    """What `spanprof-record --scale` wrote in the recording; nothing where the file is not of it."""
+    """What `spanprof-record --scale` wrote in the recording; nothing where it did not."""
     folder = folder_of(answers.path)
     try:
         with open(os.path.join(folder or "", SCALE), encoding="utf-8") as file:
             told = json.load(file)
-        is_of_it = folder and told["date"] == answers.head.date
-        return [Point(*(row[name] + 0 for name in NAMES)) for row in told["threads"]] if is_of_it else []
-    except (OSError, ValueError, KeyError, TypeError):
+        return [Point(*(row[name] + 0 for name in NAMES)) for row in told["threads"]] if folder else []
+    except (OSError, *DAMAGE):
         return []
 
 

@@ -43,13 +43,13 @@ class View:
         self.figures = Figures(prefix, self.units)
         here = [os.path.dirname(os.path.abspath(folder_of(path) or path)), os.getcwd()]
         self.sources = Sources(source or here)
-        self.task_places = task_places(self.answers)    # before the places: these take the path of its rows
-        self.places = places(self.answers)
+        self.slacks = self.answers.least_slacks     # before the places: these take the path of its rows
+        self.task_places, self.places = task_places(self.answers), places(self.answers)
         self.run = None
         if not self.is_long and self.account and self.account.rows:
             rows, unit = self.account.rows, self.answers.head.nanoseconds
-            self.run = RecordedRun([row.begin / unit for row in rows], [row.end / unit for row in rows],
-                                   [row.thread for row in rows], unit, self.account.threads)
+            self.run = RecordedRun([begin / unit for begin in rows.begin], [end / unit for end in rows.end],
+                                   list(rows.thread), unit, self.account.threads)
 
     @property
     def is_long(self):
@@ -79,7 +79,7 @@ class View:
 
     def colour_at(self, place):
         """That of the tasks of which the segments at a place are."""
-        return min(self.task_place_of[self.answers.code.task[place.segments[0]]], COLOURS - 1)
+        return min(self.task_place_of[self.answers.code.task[place.first]], COLOURS - 1)
 
     @cached_property
     def true_times(self):
@@ -133,7 +133,7 @@ class View:
         """Of each segment the number of its place."""
         number, code = {place.name: place.number for place in self.places}, self.answers.code
         of_kind = [number[name] for name in code.names]
-        return array("I", (of_kind[kind] for kind in code.of))
+        return array("I", map(of_kind.__getitem__, code.of))
 
     @cached_property
     def task_place_of(self):

@@ -3,7 +3,7 @@ import tempfile
 import unittest
 from unittest import mock
 
-from spanprof.account import Account, HeldUp, Row, account_beside, account_of, divide_busy, times_name
+from spanprof.account import Account, HeldUp, account_beside, account_of, divide_busy, times_name
 from spanprof.account_program import NoAccount
 from spanprof.client import HOW
 from spanprof.head import Lock
@@ -38,7 +38,7 @@ class Asked(unittest.TestCase):
     def test_the_sums_and_the_rows(self):
         found = self.account(answers())
         self.assertEqual((found.busy, found.delayed, found.starved, found.outside), (11, 7, 8, 2))
-        self.assertEqual((found.whole, found.code, found.rows[3]), (28, 11, Row(1, 11, 12, 13)))
+        self.assertEqual((found.whole, found.code, [column[3] for column in found.rows]), (28, 11, [1, 11, 12, 13]))
 
     def test_by_place(self):
         found = self.account(answers())
@@ -47,7 +47,7 @@ class Asked(unittest.TestCase):
 
     def test_rows_of_another_run(self):
         found = self.account(answers())
-        found.rows[3] = found.rows[3]._replace(begin=11)
+        found.rows.begin[3] = 11
         with self.assertRaisesRegex(AssertionError, "the rows have other sums"):
             print(found.delayed_by)
 
@@ -80,6 +80,10 @@ class Divided(unittest.TestCase):
     def test_by_the_processors_clock(self):
         found, recorder = divided(clock="cpu", clocks_differ={"by": 10}, locks=self.LOCKS)
         self.assertEqual((found.preempted, found.asleep, found.at_locks, recorder), (21, 10, 9, 0))
+
+    def test_of_costs_that_leave_out_what_others_took(self):
+        found, recorder = divided(clock="own", taken_off={"by": 10}, slept={"by": 20}, locks=self.LOCKS)
+        self.assertEqual((found.preempted, found.asleep, found.at_locks, recorder), (10, 20, 9, 21))
 
     def test_in_another_unit(self):
         found, recorder = divided(busy=100000, work=60, unit="us", clocks_differ={"by": 10})

@@ -1,7 +1,7 @@
 import json
 import unittest
 
-from spanprof.account import Account, HeldUp, Row
+from spanprof.account import Account, HeldUp, Row, Rows
 from spanprof.account_words import account_lines, as_json, lasting, lines_of, proved_sums
 from spanprof.tests.proofs import with_a_proved_program
 
@@ -44,7 +44,7 @@ class Lines(unittest.TestCase):
             "up to 10.0 % in code of the region that has no times, and is idle here (measured)"])
 
     def test_a_region_that_lasted_no_time(self):
-        empty = Account(2, 0, 0, 0, 0, 0, rows=[Row(0, 0, 0, 0)], places=["the beginning"])
+        empty = Account(2, 0, 0, 0, 0, 0, rows=Rows.of([Row(0, 0, 0, 0)]), places=["the beginning"])
         self.assertEqual(account_lines(empty)[0], "of 2 x 0 ns: 0.0 % in your code (measured)")
 
     def test_why_there_is_none(self):

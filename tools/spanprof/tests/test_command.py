@@ -2,6 +2,8 @@
 import contextlib
 import io
 import os
+import signal
+import subprocess
 import sys
 import unittest
 from unittest import mock
@@ -68,14 +70,16 @@ class Files(InFolder):
             check_files(text, os.path.join(self.folder, ".", "mine.tasks"), "burdened text")
         with self.assertRaisesRegex(Fault, "^'': no such file$"):
             check_files("")
-        with self.assertRaisesRegex(Fault, "a folder, and no text$"):
+        with self.assertRaisesRegex(Fault, "^-: write the text to a file first"):
+            check_files("-")
+        with self.assertRaisesRegex(Fault, "not a recording, which is a folder NAME.spanprof$"):
             check_files(self.folder)
         self.write("head")
-        with self.assertRaisesRegex(Fault, "the log of a recorded run, and no text; spanprof-convert writes its texts"):
+        with self.assertRaisesRegex(Fault, "the log of a recording; spanprof-convert makes its text"):
             check_files(self.folder)
         pipe = os.path.join(self.folder, "pipe")
         os.mkfifo(pipe)
-        with self.assertRaisesRegex(Fault, "pipe: no file, and the text is read more than once"):
+        with self.assertRaisesRegex(Fault, "pipe: write the text to a file first"):
             check_files(pipe)
 
     def test_a_file_without_room_is_named(self):
@@ -96,6 +100,18 @@ class Files(InFolder):
                 mock.patch("shutil.which", side_effect=("/a", None, None)):
             self.assertEqual([folders.words_for("spanprof_large", places) for places in ([place], [place], [])],
                              [["/a"], [place], []])
+
+
+class Signals(unittest.TestCase):
+    def test_one_that_ends_the_process_leaves_no_files(self):
+        program = "import os, signal\nfrom spanprof.command import end_without_files\n" \
+            "from spanprof.recording import made_folder\nend_without_files()\n" \
+            "print(made_folder(), flush=True)\nos.kill(os.getpid(), signal.%s)"
+        for name in ("SIGTERM", "SIGPIPE"):
+            done = subprocess.run([sys.executable, "-B", "-c", program % name], stdout=subprocess.PIPE, text=True,
+                                  cwd=folders.TOOLS, check=False)
+            self.assertEqual(done.returncode, -signal.Signals[name])
+            self.assertFalse(os.path.exists(done.stdout.strip()))
 
 
 if __name__ == "__main__":

@@ -2,7 +2,7 @@ import random
 import unittest
 from fractions import Fraction
 
-from spanprof.account import Row
+from spanprof.account import Row, Rows
 from spanprof.idle import idle_by_place, rounded
 
 # of the worked program of docs/MODEL.md: thread, ready, begin and end of each segment
@@ -35,7 +35,7 @@ def draw(rng):
 
 class Idle(unittest.TestCase):
     def test_the_worked_run(self):
-        delayed, starved = idle_by_place(WORKED, PLACES, 2)
+        delayed, starved = idle_by_place(Rows.of(WORKED), PLACES, 2)
         self.assertEqual(delayed, {"the root": 4, "the child": 1, "after the wait": 2})
         self.assertEqual(starved, {"the root": 7, "after the wait": 1})
 
@@ -44,7 +44,7 @@ class Idle(unittest.TestCase):
         for _ in range(300):
             rows = draw(rng)
             places, threads = [rng.choice("abc") for _ in rows], len(rows) + rng.randint(0, 2)
-            for found, wanted in zip(idle_by_place(rows, places, threads), by_moments(rows, places, threads)):
+            for found, wanted in zip(idle_by_place(Rows.of(rows), places, threads), by_moments(rows, places, threads)):
                 self.assertEqual(sum(found.values()), sum(wanted.values()))
                 self.assertTrue(all(abs(found.get(place, 0) - part) < 1 for place, part in wanted.items()))
                 self.assertLessEqual(set(found), set(wanted))

@@ -32,6 +32,7 @@ OF_THE_PROGRAM = """\
 # divided: {"what": "code", "threads": 4, "parts": 480, "beside": 715}
 # clock reading: 217
 # clocks differ: {"affected": 424000, "work": 424576, "by": 384500, "times": 85}
+# taken off: {"affected": 9000, "work": 424576, "by": 400, "times": 3}
 # slept: {"affected": 300, "work": 424576, "by": 200, "times": 2}
 # preempted: [[7, 384000], [2, 500]]
 # untimed: 77
@@ -63,7 +64,7 @@ class Heads(unittest.TestCase):
                                          "in tasks": 3000})
         self.assertEqual(said(TEXT), [
             "warning: dependence on all memory, left out, 12 times at sort.c:40: span too low",
-            "lock critical at sort.c:9: 32 times, 77 x 250 ns inside, 5 x 250 ns waiting"])
+            "lock critical at sort.c:9: 32 times, 19.2 us inside, 1.25 us waiting"])
 
     def test_what_it_says_of_the_program(self):
         head = read_head(OF_THE_PROGRAM)
@@ -73,6 +74,7 @@ class Heads(unittest.TestCase):
         self.assertEqual((head.beside, head.clock_reading, head.most_held), (715, 217, 64482))
         self.assertEqual(head.clocks_differ, {"affected": 424000, "work": 424576, "by": 384500, "times": 85})
         self.assertEqual((head.slept["by"], head.slept["times"], head.untimed), (200, 2, 77))
+        self.assertEqual(head.taken_off["by"], 400)
         self.assertEqual(head.preempted, {7: 384000, 2: 500})
 
     def test_other_forms_of_what_was_taken_tell_nothing(self):
@@ -90,7 +92,8 @@ class Heads(unittest.TestCase):
     def test_damaged_lines(self):
         for line in ('elapsed: "x"', "elapsed: -1", "elapsed: true", "untimed: 3.5", 'covers: {"text": 5}',
                      'clocks differ: {"affected": 5, "work": 9, "by": "x", "times": 1}', "in tasks: null",
-                     'covers: {"text": 5, "program": 9, "at most": 3}', 'place: {"at": 5, "in": "f"}', "region: []"):
+                     'covers: {"text": 5, "program": 9, "at most": 3}', 'place: {"at": 5, "in": "f"}', "region: []",
+                     "place: " + "[" * 100000):
             head = read_head(TEXT.replace("omptasks", "# %s\nomptasks" % line))
             self.assertEqual(head.remarks[1:], ["line of the head that is not read, as it is damaged: " +
                                                 line.split(":")[0]])
@@ -113,6 +116,12 @@ class Heads(unittest.TestCase):
                                      "where they are shorter than 1000 ns")
         self.assertEqual((head.region, head.pieces), ("", 64))
         self.assertEqual(head.not_covered, {"of the program": 19})
+
+    def test_short_chunks_and_sources(self):
+        head = read_head('# short chunks: {"at": "a.c:9", "times": 40, "turns": 80}\n'
+                         '# short chunks: {"at": "a.c:9", "times": 2, "turns": 4}\n'
+                         '# source: {"file": "a.c", "path": "/home/a.c"}\n')
+        self.assertEqual((head.chunks, head.sources), ({"a.c:9": [42, 84]}, {"a.c": "/home/a.c"}))
 
     def test_functions_of_places(self):
         head = read_head('# place: {"at": "sort.c:9", "in": "merge", "inlined": [{"in": "sort", "at": "sort.c:30"}]}\n')

@@ -59,7 +59,7 @@ class Folders(InFolder):
 
     def test_damaged_facts(self):
         folder = made(self.folder)
-        for words in ("{", "[]", "{}", '{"schema": 1, "files": 3}', '{"schema": "x", "files": {}}'):
+        for words in ("{", "[]", "{}", "[" * 100000, '{"schema": 1, "files": 3}', '{"schema": "x", "files": {}}'):
             write(os.path.join(folder, "recording.json"), words)
             self.refused("recording.json is damaged: ")
 

@@ -28,7 +28,7 @@ def told(answer, wrong=None, words=("span",), text=TEXT):
 class OfALine(unittest.TestCase):
     def test_the_first_wrong_token_and_the_word_meant(self):
         self.assertEqual(told("error: line 3: BadWord", "tasks").split("\n"), [
-            "mine.tasks:3:8: BadWord: `tasks` cannot stand here; did you mean `task`?",
+            "mine.tasks:3:8: BadWord: unexpected `tasks`; did you mean `task`?",
             "    3 | task { tasks { } work 3",
             "      |        ^~~~~"])
 
@@ -36,7 +36,7 @@ class OfALine(unittest.TestCase):
         self.assertTrue(told("error: line 3: BadNumber", "3").endswith("^"))
 
     def test_a_token_that_is_not_found(self):
-        self.assertIn("mine.tasks:2: BadWord: this cannot stand here\n    2 | work 5",
+        self.assertIn("mine.tasks:2: BadWord: unexpected word\n    2 | work 5",
                       told("error: line 2: BadWord", "x"))
 
     def test_the_end_of_the_text(self):
@@ -56,6 +56,13 @@ class OfALine(unittest.TestCase):
         self.assertIn("there are versions 1 and 2", told("error: line 1: BadHeader", "3", text="omptasks 3\n"))
         self.assertNotIn("there are versions", told("error: line 1: BadHeader", "tasks", text="tasks 1\n"))
 
+    def test_what_is_no_text(self):
+        for text in ("/* of C */\n", "\x7fELF\n"):
+            self.assertEqual(told("error: line 1: BadByte", text[0], text=text),
+                             "mine.tasks: not a program text, which begins with `omptasks 1`; a recording is a folder, "
+                             "NAME.spanprof")
+        self.assertIn("byte order mark", told("error: line 1: BadByte", "\ufeff", text="\ufeffomptasks 1\n"))
+
 
 class NumbersAndBytes(unittest.TestCase):
     def of(self, kind, line, wrong):
@@ -68,7 +75,7 @@ class NumbersAndBytes(unittest.TestCase):
                                    ("for i 1 7000000", "7000000", "a bound is a whole number up to 1,000,000"),
                                    ("for i n 7000000", "7000000", "a bound is a whole number up to 1,000,000"),
                                    ("task depend(in: a[i+7000000])", "7000000", "an index is from -1,000,000 to"),
-                                   ("work 5ms", "5ms", "`5ms` is no number, and no word begins with a digit"),
+                                   ("work 5ms", "5ms", "`5ms` is not a number, and a word does not begin"),
                                    ("  7000000", "7000000", "a cost is a whole number up to 1,000,000,000,000, an")):
             place = "mine.tasks:2:%d: BadNumber: " % (line.index(wrong) + 1)
             self.assertIn(place + words, self.of("BadNumber", line, wrong))
@@ -77,15 +84,15 @@ class NumbersAndBytes(unittest.TestCase):
         for line, wrong, words in (("work -5", "-", "without a sign or a point"),
                                    ("work 1.5", ".", "without a sign or"),
                                    ("task depend(in: a[1])", "[", "`[` belongs to version 2"),
-                                   ("work 5;", ";", "`;` begins no word"),
-                                   ("work\xa05", "\xa0", "U+00A0 begins no word"),
+                                   ("work 5;", ";", "unexpected `;`; blanks"),
+                                   ("work\xa05", "\xa0", "unexpected U+00A0"),
                                    ("\ufeffwork", "\ufeff", "without a byte order mark"),
-                                   ("\\\0", "\\", "this is no text"), ("PNG\ufffd", "\ufffd", "this is no text"),
-                                   ("work 5; # \ufffd", ";", "`;` begins no word")):
+                                   ("\\\0", "\\", "not a program text"), ("PNG\ufffd", "\ufffd", "not a program text"),
+                                   ("work 5; # \ufffd", ";", "unexpected `;`; blanks")):
             self.assertIn(words, self.of("BadByte", line, wrong))
 
     def test_a_document_where_a_text_is_wanted(self):
-        self.assertIn("the text ends before `---`, and what follows is of a replay", of_byte("---", 0))
+        self.assertIn("the text ends before `---`; what follows belongs to a replay", of_byte("---", 0))
 
 
 class Braces(unittest.TestCase):
@@ -99,12 +106,12 @@ class Braces(unittest.TestCase):
 class OfMore(unittest.TestCase):
     def test_an_unknown_segment(self):
         self.assertEqual(told("error: UnknownSegment", words=("whatif", "2=1", "9=4")),
-                         "mine.tasks: there is no segment 9; they are 0 to 3, and `spanprof slack` lists them")
+                         "mine.tasks: there is no segment 9; segments are 0 to 3, and `spanprof slack` lists them")
 
     def test_an_event(self):
         log = TEXT + "---\nstart 0 0 finish 0 0\nstart 0 3\n"
         self.assertEqual(told("error: event 2: NotReady 1", words=("replay",), text=log),
-                         "mine.tasks: `start 0 3`: segment 1, which has to come first, has not finished")
+                         "mine.tasks: `start 0 3`: its predecessor, segment 1, has not finished")
         self.assertIn("workers are 0 to 63", told("error: event 0: UnknownWorker", words=("replay",), text=log))
 
     def test_ranges(self):
@@ -119,7 +126,7 @@ class OfALargeText(unittest.TestCase):
     def test_its_token_is_not_looked_for(self):
         with mock.patch.object(refusal, "MOST_ASKED", 10):
             self.assertEqual(told("error: line 3: BadWord", "tasks").split("\n"), [
-                "mine.tasks:3: BadWord: this cannot stand here", "    3 | task { tasks { } work 3", "      | ^"])
+                "mine.tasks:3: BadWord: unexpected word", "    3 | task { tasks { } work 3", "      | ^"])
 
 
 class Parts(unittest.TestCase):

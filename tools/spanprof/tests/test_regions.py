@@ -48,10 +48,14 @@ class Tables(unittest.TestCase):
     def test_a_plain_text_has_none(self):
         self.assertIsNone(program_of(os.path.join(self.folder, "other.tasks")))
 
+    def test_a_sign_that_ends_a_line_elsewhere_and_an_empty_line(self):
+        program = read_regions(self.kept(words=TABLE.replace("inner", "in\u2028ner") + "\n"))
+        self.assertEqual(program.regions[-1].place, "in\u2028ner.c:3")
+
     def test_what_is_no_table(self):
         for words in ("", TABLE.replace("place\n", "where\n"), TABLE.replace("4,3,600", "4,x,600"),
                       TABLE.replace("0,0,0,1000", "0,0,0,0"), TABLE.replace(",310,0,steps.c:9", "")):
-            with self.assertRaisesRegex(Fault, "mine.regions is no table of regions"):
+            with self.assertRaisesRegex(Fault, "mine.regions is not a table of regions"):
                 read_regions(self.kept(words=words))
 
 

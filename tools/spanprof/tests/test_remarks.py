@@ -23,14 +23,13 @@ class Remarks(unittest.TestCase):
                 ({"remark": "detach", "times": 1, "at": "a.c:3", "span": "low"},
                  "detach, written as complete where the code ends, 1 time at a.c:3: span too low"),
                 ({"remark": "mutexinoutset", "times": 2, "first": "a.c:3", "span": "low"},
-                 "mutexinoutset, 2 times, first at a.c:3: span too low, and too high in the text .inout.tasks of "
-                 "spanprof-convert --region"),
+                 "mutexinoutset, 2 times, first at a.c:3: span too low"),
                 ({"remark": "region in a task", "times": 2, "work": "low", "span": "high"},
                  "parallel region inside a task, whose time counts there, 2 times: work too low, span too high"),
                 ({"remark": "records full", "work": "low", "span": "low"},
                  "the records were full inside the region: work and span too low"),
                 ({"remark": "rounded up", "work": "high", "span": "either"},
-                 "rounding to whole units, more than a fiftieth of the work: work too high, span too low or too high"),
+                 "rounding to whole units, more than 2 % of the work: work too high, span too low or too high"),
                 ({"remark": "of a later version"}, "of a later version")):
             self.assertEqual(remark_of(told), words)
 

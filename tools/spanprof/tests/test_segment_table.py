@@ -31,8 +31,9 @@ class OfAText(unittest.TestCase):
         self.assertEqual((list(code.firsts()), code.parts()), ([0, 1, 4], 1))
 
     def test_what_is_no_text(self):
-        for text in ("omptasks 1\n}\n", "omptasks 2\nfor i 1 2 { }\n", "omptasks 1\nwork x\n"):
-            with self.assertRaisesRegex(Fault, "a.tasks is no text of version 1"):
+        for text in ("omptasks 1\n}\n", "omptasks 2\nfor i 1 2 { }\n", "omptasks 1\nwork x\n",
+                     "omptasks 1\nwork 9999999999999999999\n"):
+            with self.assertRaisesRegex(Fault, "a.tasks is not a text of version 1"):
                 read_code(text.splitlines(True), "a.tasks")
 
 

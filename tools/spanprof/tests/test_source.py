@@ -19,6 +19,8 @@ class Files(unittest.TestCase):
                     file.write(name)
             self.assertEqual(Sources([folder]).lines_of("x.c"), [])
             self.assertEqual(Sources([os.path.join(folder, "a")]).lines_of("x.c"), ["a"])
+            known = {"x.c": os.path.join(folder, "a", "x.c")}
+            self.assertEqual(Sources([os.path.join(folder, "none")], known).lines_of("x.c"), ["a"])
 
     def test_bytes_that_are_no_text(self):
         with tempfile.TemporaryDirectory() as folder:

@@ -20,30 +20,30 @@ class Lines(unittest.TestCase):
         self.assertIsNone(line_of(""))
 
     def test_where_segments_end(self):
-        self.assertEqual(CODE.ends, ["a.c:5", "", "a.c:9", ""])
+        self.assertEqual([CODE.ends[number] for number in CODE.of], [{"a.c:5": 1}, {"": 1}, {"a.c:9": 1}, {"": 1}])
 
     def test_from_the_place_to_the_end(self):
-        ends = CODE.ends
-        self.assertEqual(stretch_of("after creating a task at a.c:5", [2], ends), Stretch("a.c", 5, 9))
-        self.assertEqual(stretch_of("task at a.c:5", [1], ends), Stretch("a.c", 5, 5))
-        self.assertIsNone(stretch_of("the beginning", [0], ends))
+        ends = [CODE.ends[number] for number in CODE.of]
+        self.assertEqual(stretch_of("after creating a task at a.c:5", ends[2]), Stretch("a.c", 5, 9))
+        self.assertEqual(stretch_of("task at a.c:5", ends[1]), Stretch("a.c", 5, 5))
+        self.assertIsNone(stretch_of("the beginning", ends[0]))
 
     def test_a_loop_ends_above_and_another_file_elsewhere(self):
-        self.assertEqual(stretch_of("after x at a.c:9", [0], ["a.c:5"]), Stretch("a.c", 9, 9))
-        self.assertEqual(stretch_of("after x at a.c:9", [0], ["b.c:12"]), Stretch("a.c", 9, 9))
+        self.assertEqual(stretch_of("after x at a.c:9", {"a.c:5": 1}), Stretch("a.c", 9, 9))
+        self.assertEqual(stretch_of("after x at a.c:9", {"b.c:12": 1}), Stretch("a.c", 9, 9))
 
     def test_in_the_file(self):
-        ends = CODE.ends
-        self.assertEqual(stretch_of("task at a.c:5", [1], ends, FILE), Stretch("a.c", 6, 6))
-        self.assertEqual(stretch_of("after creating a task at a.c:5", [2], ends, FILE), Stretch("a.c", 7, 9))
-        self.assertEqual(stretch_of("after taskgroup at a.c:2", [0], ["a.c:5"], FILE), Stretch("a.c", 9, 9))
-        self.assertEqual(stretch_of("after taskwait at a.c:9", [3], ends, FILE), Stretch("a.c", 10, 10))
-        self.assertEqual(stretch_of("task at a.c:99", [1], ends, FILE), Stretch("a.c", 99, 99))
+        ends = [CODE.ends[number] for number in CODE.of]
+        self.assertEqual(stretch_of("task at a.c:5", ends[1], FILE), Stretch("a.c", 6, 6))
+        self.assertEqual(stretch_of("after creating a task at a.c:5", ends[2], FILE), Stretch("a.c", 7, 9))
+        self.assertEqual(stretch_of("after taskgroup at a.c:2", {"a.c:5": 1}, FILE), Stretch("a.c", 9, 9))
+        self.assertEqual(stretch_of("after taskwait at a.c:9", ends[3], FILE), Stretch("a.c", 10, 10))
+        self.assertEqual(stretch_of("task at a.c:99", ends[1], FILE), Stretch("a.c", 99, 99))
 
     def test_what_ends_a_block_goes_on_elsewhere(self):
         lines = ["for (;;) {", "#pragma omp task", "    f();", "#pragma omp taskwait", "}", "", "int g() {"]
         for place in ("after taskwait at a.c:4", "after creating a task at a.c:2"):
-            self.assertEqual(stretch_of(place, [0], [""], lines), Stretch("a.c", 4, 4))
+            self.assertEqual(stretch_of(place, {"": 1}, lines), Stretch("a.c", 4, 4))
 
     def test_statements(self):
         self.assertEqual(statement_end(["for (int i = 0; i < 3; i++) {", "  f(\"}\");  // }", "}", "g();"], 1), 3)

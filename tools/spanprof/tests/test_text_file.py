@@ -14,7 +14,7 @@ class Files(InFolder):
     def test_the_text_alone(self):
         text = TextFile(self.write("a.replay", DOCUMENT))
         self.assertEqual((str(text), self.read(text)), ("omptasks 1\nwork 2\n",) * 2)
-        self.assertEqual(list(text.lines()), ["omptasks 1\n", "work 2\n"])
+        self.assertEqual(list(filter(None, text.lines())), ["omptasks 1", "work 2"])
         self.assertTrue(text.is_cut())
 
     def test_words(self):

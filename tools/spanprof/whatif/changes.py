@@ -3,6 +3,11 @@ takes statements and gives others.
 
 A change counts in `count` what it has changed.
 """
+from array import array
+from collections import Counter
+
+from spanprof.text import BLOCKS
+from spanprof.whatif.statements import MOST, as_statements
 
 
 class Change:
@@ -14,6 +19,9 @@ class Change:
 
     def words(self):
         return self.what % (self.count, "" if self.count == 1 else "s", self.place)
+
+    def __call__(self, stream):
+        return self.made_of(as_statements(stream))
 
 
 class Factor(Change):
@@ -27,71 +35,83 @@ class Factor(Change):
     def words(self):
         return "%s times %g" % (super().words(), self.factor)
 
-    def __call__(self, stream):
-        for one in stream:
-            if one.kind == "work" and one.name == self.place:
-                self.count += 1
-                one = one._replace(cost=round(one.cost * self.factor))
-            yield one
+    def made_of(self, found):
+        row, where = found.row[:], found.work_at(self.place)
+        for i in where:
+            row[i] = min(round(row[i] * self.factor), MOST)
+        self.count += len(where)
+        return found.changed(row)
 
 
 class DropWait(Change):
     """A `taskwait`, or the begin and the end of a `taskgroup`, is left out."""
     what = "%d wait%s dropped: %s"
 
-    def __call__(self, stream):
-        is_dropped = []     # of each open block
-        for one in stream:
-            is_place = one.name == self.place and one.kind in ("taskwait", "taskgroup")
-            if one.kind in ("task", "taskgroup"):
-                is_dropped.append(is_place)
-            self.count += is_place
-            if not (is_dropped.pop() if one.kind == "end" else is_place):
-                yield one
+    def made_of(self, found):
+        dropped = found.of_kind(lambda one: one.name == self.place and one.kind in ("taskwait", "taskgroup"))
+        begins, ends = (found.of_kind(lambda one, kinds=kinds: one.kind in kinds) for kinds in (BLOCKS, ("end",)))
+        kept, is_dropped = bytearray(b"\1") * len(found), []     # the second of each open block
+        for i, number in enumerate(found.row):
+            if number >= 0:
+                continue
+            if number in ends:
+                kept[i] = not is_dropped.pop()
+                continue
+            if number in dropped:
+                kept[i] = 0
+                self.count += 1
+            if number in begins:
+                is_dropped.append(number in dropped)
+        return found.only(kept)
 
 
-class DropDepend(Change):
+class OfTasks(Change):
+    """Tasks are written otherwise: `instead` is a task, and how much of it is changed; None where it stays."""
+
+    def made_of(self, found):
+        others, times = {}, {}
+        for number in found.of_kind(lambda one: one.kind == "task"):
+            made = self.instead(found.known[-number])
+            if made:
+                others[number], times[number] = found.number(made[0]), made[1]
+        if not others:
+            return found
+        self.count += sum(times[number] * count for number, count in Counter(
+            filter(others.__contains__, found.row)).items())
+        return found.changed(array("q", [others.get(number, number) for number in found.row]))
+
+
+class DropDepend(OfTasks):
     """The tasks of a place have no depend items."""
     what = "%d depend item%s dropped: %s"
 
-    def __call__(self, stream):
-        for one in stream:
-            if one.items and one.name == self.place:
-                self.count += len(one.items)
-                one = one._replace(items=())
-            yield one
+    def instead(self, one):
+        return (one._replace(items=()), len(one.items)) if one.items and one.name == self.place else None
 
 
-class DropName(Change):
+class DropName(OfTasks):
     """No task has a depend item of a name."""
     what = "%d depend item%s dropped: of the name %s"
 
-    def __call__(self, stream):
-        for one in stream:
-            kept = tuple(item for item in one.items if item[1] != self.place)
-            self.count += len(one.items) - len(kept)
-            yield one if len(kept) == len(one.items) else one._replace(items=kept)
+    def instead(self, one):
+        kept = tuple(item for item in one.items if item[1] != self.place)
+        return (one._replace(items=kept), len(one.items) - len(kept)) if len(kept) < len(one.items) else None
 
 
-class InForInout(Change):
+class InForInout(OfTasks):
     """Tasks have `in` for `inout` of a name."""
     what = "%d depend item%s changed to in: of the name %s"
 
-    def __call__(self, stream):
-        for one in stream:
-            changed = tuple(("in", name) if name == self.place and kind == "inout" else (kind, name)
-                            for kind, name in one.items)
-            self.count += sum(now != was for now, was in zip(changed, one.items))
-            yield one._replace(items=tuple(dict.fromkeys(changed))) if changed != one.items else one
+    def instead(self, one):
+        changed = tuple(("in", name) if name == self.place and kind == "inout" else (kind, name)
+                        for kind, name in one.items)
+        times = sum(now != was for now, was in zip(changed, one.items))
+        return (one._replace(items=tuple(dict.fromkeys(changed))), times) if times else None
 
 
-class Defer(Change):
+class Defer(OfTasks):
     """The undeferred tasks of a place are deferred."""
     what = "%d undeferred task%s deferred: %s"
 
-    def __call__(self, stream):
-        for one in stream:
-            if one.is_undeferred and one.name == self.place:
-                self.count += 1
-                one = one._replace(is_undeferred=False)
-            yield one
+    def instead(self, one):
+        return (one._replace(is_undeferred=False), 1) if one.is_undeferred and one.name == self.place else None

@@ -3,7 +3,7 @@ from dataclasses import dataclass, field
 from typing import List
 
 from spanprof.text import Statement
-from spanprof.whatif.shapes import Creating
+from spanprof.whatif.shapes import Restructured
 
 
 @dataclass
@@ -23,7 +23,7 @@ class Joined:
         yield from self.after
 
 
-class Join(Creating):
+class Join(Restructured):
     """So many tasks of a place that follow one another, with nothing but code between them, are one. It has the depend
     items of them all, and does what they do in their order."""
     what = "%d task%s left out: %s"
@@ -49,7 +49,7 @@ class Join(Creating):
         joined.items.update(dict.fromkeys(task.items))
         joined.count, joined.since = joined.count + 1, 0
 
-    def __call__(self, stream):
+    def statements(self, stream):
         levels = [Level()]      # of each open task
         for one in stream:
             level = levels[-1]

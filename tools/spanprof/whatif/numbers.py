@@ -4,6 +4,10 @@ from typing import Dict, NamedTuple, Optional
 from spanprof import client
 from spanprof.errors import Fault
 from spanprof.limits import is_long
+from spanprof.text_file import TextFile
+
+
+FEW = 6     # threads: a curve of so many schedules is made in less time than a table of one is written and read
 
 
 class OnThreads(NamedTuple):
@@ -31,9 +35,15 @@ def on_threads(told, threads):
         raise Fault("no bounds are known on %s threads" % " and ".join(map(str, threads))) from wrong
 
 
+def curve(text, most):
+    return client.ask(["curve", "--upto", str(most)], text)
+
+
 def greedy_end(text, threads):
     """None where its greedy schedule takes too much memory."""
     try:
+        if threads <= FEW:
+            return on_threads(curve(text, threads), [threads])[threads].end
         return max(client.columns(["greedy", "--threads", str(threads)], text, ["end"])[0], default=0)
     except client.Refused as refused:
         if refused.is_of_memory:
@@ -42,15 +52,20 @@ def greedy_end(text, threads):
 
 
 def of_long(text, threads):
-    """A curve is a greedy schedule on each number of threads: of a long text only these are made."""
+    """Where there are many threads greedy schedules are made on these numbers of them alone."""
+    if max(threads) <= FEW:
+        try:
+            return on_threads(curve(text, max(threads)), threads)
+        except client.Refused as refused:
+            if not refused.is_of_memory:
+                raise
     bounds = on_threads(client.ask(["--upto", str(max(threads))], text), threads)
     return {p: row._replace(end=greedy_end(text, p)) for p, row in bounds.items()}
 
 
 def numbers_of(text, threads):
     """Of a text, or a TextFile."""
-    found = client.numbers(text)
+    found = client.measured(text.path) if isinstance(text, TextFile) else client.numbers(text)
     long = is_long(found)
-    on = of_long(text, threads) if long else on_threads(client.ask(["curve", "--upto", str(max(threads))], text),
-                                                        threads)
+    on = of_long(text, threads) if long else on_threads(curve(text, max(threads)), threads)
     return Numbers("spanprof_large" if long else "spanprof", found["segments"], found["work"], found["span"], on)

@@ -39,7 +39,7 @@ def find_wait(word, names):
 
 def whole(word, least, most):
     if not re.fullmatch("[0-9]{1,15}", word) or not least <= int(word) <= most:
-        raise Fault("%s is no whole number from %d to %d" % (word or "nothing", least, most))
+        raise Fault("%r is not a whole number from %d to %d" % (word, least, most))
     return int(word)
 
 
@@ -57,7 +57,7 @@ def place_and_number(word):
     """Of `PLACE=NUMBER`; a place may have a `=` too."""
     place, sign, number = word.rpartition("=")
     if not sign:
-        raise Fault("%s: a place, `=` and a number are wanted" % word)
+        raise Fault("%s: expected PLACE=NUMBER" % word)
     return place, number
 
 

@@ -3,8 +3,11 @@
 `creating` is what the creation of a task costs: a new task brings so much, and one less takes away as much, or all of
 the code before it where that cost less.
 """
+from array import array
+
 from spanprof.text import BLOCKS, Statement, is_share, is_shared_out, where
 from spanprof.whatif.changes import Change
+from spanprof.whatif.statements import of_stream
 
 
 class Creating(Change):
@@ -12,31 +15,45 @@ class Creating(Change):
         super().__init__(place)
         self.creating = creating
 
-    def task(self, name, cost):
-        """A task of its own, and what creating it costs."""
-        comment = where(name)
-        yield Statement("work", name, self.creating)
-        yield Statement("task", "a part of " + name, comment=comment and comment + ", a part")
-        yield Statement("work", "a part of " + name, cost)
-        yield Statement("end", of="task")
+
+class Restructured(Creating):
+    """Statement by statement, in `statements`."""
+
+    def made_of(self, found):
+        return of_stream(self.statements(found))
 
 
 class OfCode(Creating):
-    """Each piece of code at the place that costs enough becomes something else."""
+    """Each piece of code at the place that costs enough becomes something else: `instead` has its tasks' costs."""
     least = 0
 
-    def __call__(self, stream):
-        for one in stream:
-            if one.kind == "work" and one.name == self.place and one.cost >= self.least:
-                self.count += 1
-                yield from self.instead(one)
-            else:
-                yield one
+    def made_of(self, found):
+        place, name = found.place(self.place), "a part of " + self.place
+        comment = where(self.place)
+        task = found.number(Statement("task", name, comment=comment and comment + ", a part"))
+        part, end = found.place(name), found.number(Statement("end", of="task"))
+        around = [found.number(one) for one in self.around]
+        row, at, before = array("q"), array("I"), 0
+        for i in found.work_at(self.place, self.least):
+            row.extend(found.row[before:i])
+            at.extend(found.at[before:i])
+            made = around[:1]
+            for cost in self.costs(found.row[i]):
+                made += self.creating, task, cost, end
+            made += around[1:]
+            row.extend(made)
+            first, last = [place] * len(around[:1]), [part] * len(around[1:])
+            at.extend(first + [place, place, part, part] * (len(made) // 4) + last)
+            before, self.count = i + 1, self.count + 1
+        row.extend(found.row[before:])
+        at.extend(found.at[before:])
+        return found.changed(row, at)
 
 
 class Split(OfCode):
     """A piece of code that costs enough is so many tasks in a group, whose end waits for them."""
     what = "%d piece%s of code split: %s"
+    around = Statement("taskgroup", "the group of the parts"), Statement("end", of="taskgroup")
 
     def __init__(self, place, parts, creating, least):
         super().__init__(place, creating)
@@ -48,12 +65,10 @@ class Split(OfCode):
     def parts_of(self, _):
         return self.parts
 
-    def instead(self, one):
-        yield Statement("taskgroup", "the group of the parts")
-        each, more = divmod(one.cost, self.parts_of(one.cost))
-        for i in range(self.parts_of(one.cost)):
-            yield from self.task(one.name, each + (i < more))
-        yield Statement("end", of="taskgroup")
+    def costs(self, cost):
+        parts = self.parts_of(cost)
+        each, more = divmod(cost, parts)
+        return [each + 1] * more + [each] * (parts - more)
 
 
 class Grain(Split):
@@ -73,13 +88,14 @@ class Grain(Split):
 class OwnTask(OfCode):
     """A piece of code is a task of its own: the next `taskwait`, or the end of a group around it, waits for it."""
     what = "%d piece%s of code made a task: %s"
+    around = ()
 
     def __init__(self, place, creating, least):
         super().__init__(place, creating)
         self.least = max(least, 1)
 
-    def instead(self, one):
-        return self.task(one.name, one.cost)
+    def costs(self, cost):
+        return [cost]
 
 
 def block(first, stream):
@@ -92,7 +108,7 @@ def block(first, stream):
         yield one
 
 
-class Cutoff(Creating):
+class Cutoff(Restructured):
     """A task at this depth does all that is below it in its own code, but for what the program shares out among its
     threads; tasks of the root have depth 1."""
     what = "%d task%s left out: those below %s"
@@ -124,7 +140,7 @@ class Cutoff(Creating):
         yield Statement("work", first.name, cost)
         yield Statement("end", of="task")
 
-    def __call__(self, stream):
+    def statements(self, stream):
         is_level, stream = [], iter(stream)     # of each open task: turns and sections are no level of tasks
         for one in stream:
             if one.kind == "task" and not is_share(one.comment) and sum(is_level) + 1 >= self.depth:

@@ -2,11 +2,11 @@
 
 Tasks that the program does not make, and the groups of its loops, are none that one can change.
 """
-import time
 from collections import Counter
 from dataclasses import dataclass, field
 
 from spanprof.text import is_programs, is_share, is_shared_out
+from spanprof.whatif.statements import as_statements
 
 
 @dataclass
@@ -21,7 +21,6 @@ class Survey:
     undeferred: Counter = field(default_factory=Counter)    # undeferred tasks, by place
     depth: int = 0
     between: Counter = field(default_factory=Counter)       # costs of code between two creations of one task
-    seconds: float = 0      # that it took; a change takes no less
 
     def creating(self):
         """The least cost that a quarter of the code between two creations does not exceed; None without any."""
@@ -33,67 +32,63 @@ class Survey:
         return None
 
 
-class Surveyor:
-    """Goes over statements."""
+def count(found, out):
+    """What each statement is, as often as it stands in the row."""
+    for number, times in Counter(found.row).items():
+        one = found.known[-number] if number < 0 else None
+        if one and one.kind == "task" and is_programs(one.comment):
+            out.tasks[one.name] += times
+            out.dependent[one.name] += times * bool(one.items)
+            out.undeferred[one.name] += times * one.is_undeferred
+            for _, name in one.items:
+                out.items[name] += times
+        elif one and (one.kind == "taskwait" or one.kind == "taskgroup" and not is_shared_out(one.comment)):
+            out.waits[one.name] += times
 
-    def __init__(self):
-        self.out = Survey()
-        self.since = None           # what the code cost since a task's end; None after another thing
-        self.has_items = [False]    # of each open task: whether it has made a task with depend items
-        self.is_level = []          # of each open task: turns of loops and sections are no level of tasks
-        self.groups = []
-        self.depth = 0
 
-    def work(self, one):
-        self.out.costs[one.name] += one.cost
-        self.since = None if self.since is None else self.since + one.cost
+class Kind:
+    """Of a statement what the walk asks of it."""
 
-    def task(self, one):
-        if is_programs(one.comment):
-            self.made(one)
-        self.has_items.append(False)
-        self.is_level.append(not is_share(one.comment))
-        self.depth += self.is_level[-1]
-        self.out.depth = max(self.out.depth, self.depth)
-        self.since = None
+    def __init__(self, one):
+        self.name, self.is_task, self.is_group = one.name, one.kind == "task", one.kind == "taskgroup"
+        self.is_wait, self.is_end_of_task = one.kind == "taskwait", one.of == "task"
+        self.is_programs = self.is_task and is_programs(one.comment)
+        self.is_level = self.is_task and not is_share(one.comment)      # turns and sections are no level of tasks
+        self.has_items = self.is_programs and bool(one.items)
 
-    def made(self, one):
-        out = self.out
-        out.tasks[one.name] += 1
-        out.dependent[one.name] += bool(one.items)
-        out.undeferred[one.name] += one.is_undeferred
-        for _, name in one.items:
-            out.items[name] += 1
-        self.has_items[-1] |= bool(one.items)
-        if self.since is not None:
-            out.between[self.since] += 1
 
-    def taskwait(self, one):
-        self.out.waits[one.name] += 1
-        self.out.ordered[one.name] += self.has_items[-1]
-        self.since = None
-
-    def taskgroup(self, one):
-        if not is_shared_out(one.comment):
-            self.out.waits[one.name] += 1
-        self.groups.append(one.name)
-        self.since = None
-
-    def end(self, one):
-        if one.of == "task":
-            self.has_items.pop()
-            self.depth -= self.is_level.pop()
-            self.since = 0
+def walk(found, out):
+    """Costs, depth, what stands between creations, and which waits are for tasks with depend items."""
+    kinds, costs, between = [Kind(one) for one in found.known], {}, Counter()
+    since = None                # what the code cost since a task's end; None after another thing
+    tasks, groups, depth, has_items = [], [], 0, False  # of each open task what was before it; whether one has items
+    for number, at in zip(found.row, found.at):
+        if number >= 0:
+            costs[at] = costs.get(at, 0) + number
+            since = None if since is None else since + number
+            continue
+        kind = kinds[-number]
+        if kind.is_task:
+            if since is not None and kind.is_programs:
+                between[since] += 1
+            tasks.append((has_items or kind.has_items, depth))
+            has_items, depth = False, depth + kind.is_level
+            out.depth = max(out.depth, depth)
+        elif kind.is_end_of_task:
+            has_items, depth = tasks.pop()
+            since = 0
+            continue
+        elif kind.is_group:
+            groups.append(kind.name)
         else:
-            self.out.ordered[self.groups.pop()] += self.has_items[-1]
-            self.since = None
+            out.ordered[kind.name if kind.is_wait else groups.pop()] += has_items
+        since = None
+    out.between = between
+    out.costs = Counter({found.places[at]: cost for at, cost in costs.items()})
 
 
 def survey(stream):
-    surveyor, begun = Surveyor(), time.monotonic()
-    does = {"work": surveyor.work, "task": surveyor.task, "taskwait": surveyor.taskwait,
-            "taskgroup": surveyor.taskgroup, "end": surveyor.end}
-    for one in stream:
-        does[one.kind](one)
-    surveyor.out.seconds = time.monotonic() - begun
-    return surveyor.out
+    found, out = as_statements(stream), Survey()
+    count(found, out)
+    walk(found, out)
+    return out

@@ -1,17 +1,15 @@
-"""The text in a file, read as often as it is needed, and the changed one."""
-import os
-
+"""The text in a file, and the changed one."""
 from spanprof import client
 from spanprof.command import naming
 from spanprof.head import head_text, read_head
 from spanprof.remarks import in_json
-from spanprof.marks import statements
-from spanprof.text import text_lines
+from spanprof.marks import Marks, marks_of_file
 from spanprof.text_file import TextFile
+from spanprof.whatif.statements import as_statements, of_marks
 
 ENCODING = {"encoding": "utf-8", "errors": "replace", "newline": "\n"}
 OF_THE_RUN = ("covers", "not covered", "elapsed", "outside regions", "in other regions", "in parts without tasks",
-              "in tasks", "clocks differ", "preempted")
+              "in tasks", "clocks differ", "taken off", "preempted")
 
 
 class Text:
@@ -24,10 +22,8 @@ class Text:
         self.canonical = client.ask(["show"], TextFile(path)) if version == 2 else None
 
     def statements(self):
-        if self.canonical is not None:
-            yield from statements(self.canonical.splitlines(True))
-            return
-        yield from statements(TextFile(self.path).lines())
+        return of_marks(Marks(self.canonical.splitlines(True)) if self.canonical is not None else
+                        marks_of_file(self.path))
 
 
 def version_of(path):
@@ -45,15 +41,8 @@ def changed_head(text, made):
         yield "remark: " + in_json("changed text", words, work="either", span="either")
 
 
-def write(path, text, stream, made):
-    """The changed text. What was changed is counted while it is written, so its head is written last."""
-    body = path + ".body"
-    try:
-        with naming(path), open(body, "w", **ENCODING) as file:
-            file.writelines(text_lines(stream, text.version))
-        with naming(path), open(path, "w", **ENCODING) as file, open(body, **ENCODING) as lines:
-            file.writelines("# %s\n" % words for words in changed_head(text, made))
-            file.writelines(lines)
-    finally:
-        if os.path.exists(body):
-            os.remove(body)
+def write(path, text, found, made):
+    """The changed text."""
+    with naming(path), open(path, "w", **ENCODING) as file:
+        file.writelines("# %s\n" % words for words in changed_head(text, made))
+        file.write(as_statements(found).text(text.version))

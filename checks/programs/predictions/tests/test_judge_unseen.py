@@ -11,11 +11,11 @@ import judge_unseen
 import kept_unseen
 from changes import MADE
 from judge_unseen import (AFTER, BEFORE, KINDS, Measured, Task, cell, in_groups, judge, judge_all, judge_program,
-                          judged, line, read_measured, runs_of, table, tasks, without_slow)
+                          judged, line, read_measured, runs_of, table, tasks)
 from judging import Judged
 from quiet import Used
-from runs import TOP
-from unseen import FORMERLY, UNSEEN, unseen
+from runs import HERE
+from unseen import UNSEEN, unseen
 
 from spanprof.predict.machine import Machine, write_machine
 from spanprof.predict.recorded import recorded_as
@@ -38,7 +38,7 @@ FROM_FOUR, FROM_FEWER, CHANGED = KINDS
 
 
 def source_of(one):
-    return (TOP / (one.source + ".c")).read_text(encoding="utf-8")
+    return (HERE / "unseen" / (one.name + ".c")).read_text(encoding="utf-8")
 
 
 def predicted(time, program="a", true=100):
@@ -97,14 +97,6 @@ class Predictions(unittest.TestCase):
         recordings = {(4, turn): recorded(work) for turn, work in enumerate((1000, 1200, 1100), 1)}
         self.assertEqual([(one.time, one.recordings) for one in judged(task(), recordings, FROM_FOUR, 3)], [(1700, 3)])
         self.assertEqual([one.time for one in judged(task(), recordings, FROM_FOUR, 2)], [1600])
-
-    def test_those_that_took_far_longer_are_left_out(self):
-        several = [recorded(work) for work in (1000, 1200, 1100)]
-        for one, elapsed in zip(several, (1600, 1890, 2000)):
-            one.elapsed = elapsed
-        self.assertEqual(without_slow(several, [1650, 1600, 1700]), several[:2])
-        self.assertEqual(without_slow(several[2:], [1650]), several[2:])
-        self.assertEqual(without_slow(several, [1000]), several)
 
     def test_the_change_is_made_to_the_text(self):
         """What follows the wait is a task, which nothing waits for."""
@@ -186,17 +178,17 @@ class Folder(unittest.TestCase):
 
 class Programs(unittest.TestCase):
     def test_none_of_those_that_the_model_was_fitted_to(self):
-        names = [one.name for one in UNSEEN + FORMERLY]
+        names = [one.name for one in UNSEEN]
         self.assertEqual(len(names), len(set(names)))
         self.assertFalse({*names} & {one.name for one in MADE})
 
     def test_sources(self):
-        for one in UNSEEN + FORMERLY:
+        for one in UNSEEN:
             self.assertIn("REWRITTEN", source_of(one))
 
     def test_places(self):
         """Each line that a change names is one of a task or a wait."""
-        for one in UNSEEN + FORMERLY:
+        for one in UNSEEN:
             lines = source_of(one).splitlines()
             for _, word in one.changes:
                 for number in re.findall(r"\.c:(\d+)", word):

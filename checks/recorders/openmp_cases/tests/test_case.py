@@ -59,7 +59,7 @@ class Wanted(unittest.TestCase):
         self.assertEqual(self.faults(files={"out.tasks": "# remark: 3", "out.9.tasks": ""}), ["out.9.tasks is there"])
         self.assertEqual(self.faults(numbers={"work": 9}), ["work is 9, and not >= 10"])
         self.assertEqual(self.faults(numbers={}), ["there is no work"])
-        self.assertEqual(self.faults(refused=["out.replay: NotReady"]), ["out.replay: NotReady"])
+        self.assertEqual(self.faults(refused=["out.timed: NotReady"]), ["out.timed: NotReady"])
 
     def test_parts_are_no_tasks(self):
         self.assertEqual(count_tasks("task {  # one of the region's threads\n  task if(0) {\n  }\n}\ntaskwait\n"), 1)

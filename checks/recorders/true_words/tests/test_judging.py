@@ -44,7 +44,7 @@ def judged(text, shape, threads=4):
 
 class Doubts(unittest.TestCase):
     def test_what_a_remark_moves(self):
-        remark = "preempted in code, which counts as wall time, 9 times at shapes.c:45: "
+        remark = "preempted in code, counted as wall time, 9 times at shapes.c:45: "
         told = [doubts_of(read(GOOD.replace("warnings      none", "warnings      " + words).splitlines()))
                 for words in ("none", remark + "work and span too high", "a lock, 4 times: span too low")]
         self.assertEqual(told, ["", "work and span", "span"])

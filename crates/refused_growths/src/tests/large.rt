@@ -114,8 +114,7 @@ fn of_pieces(alloc: Global, supply: &mut Supply, text: &[u8]) -> Result<Numbers,
     Ok(numbers_of(&meter))
 }
 
-/// The numbers of a text in pieces. After a refused piece nothing is promised, so that the text is
-/// begun anew.
+/// The numbers of a text in pieces. A refused piece spends its meter, so that the text is begun anew.
 pub(super) fn pieces<H: AllocGlobal + Abort>(rt: &H, supply: &mut Supply) -> Result<(), Fail> {
     let numbers = match of_pieces(rt.alloc(), supply, DEEP) {
         Ok(numbers) => numbers,

@@ -19,11 +19,10 @@ void take(ompt_mutex_t kind, const void *name, const void *place, Own own, Lock.
   on_lock_got(kind, name_of(name), place);
 }
 
-// After the lock is free: the record of the next holder may have an earlier time.
 template <class Own, class... Lock>
-void leave(ompt_mutex_t kind, const void *name, const void *place, Own own, Lock... lock) {
+void leave(ompt_mutex_t kind, const void *name, Own own, Lock... lock) {
+  on_leaving_lock(kind, name_of(name));
   own(lock...);
-  on_lock_left(kind, name_of(name), place);
 }
 
 // A lock that is held now, without a wait.
@@ -75,10 +74,10 @@ int try_again(void *lock, const void *place, Own own) {
 }
 
 template <class Own>
-void leave_once(void *lock, const void *place, Own own) {
+void leave_once(void *lock, Own own) {
   Held *one = held(lock);
   if (!one || --one->times) return own(lock);
-  leave(ompt_mutex_nest_lock, lock, place, own, lock);
+  leave(ompt_mutex_nest_lock, lock, own, lock);
 }
 }  // namespace
 
@@ -89,7 +88,7 @@ void leave_once(void *lock, const void *place, Own own) {
   }                                        \
   ENTRY void end() {                       \
     ENTER(end);                            \
-    leave(kind, &name, PLACE, own_##end);  \
+    leave(kind, &name, own_##end);         \
   }
 LOCKED(GOMP_critical_start, GOMP_critical_end, ompt_mutex_critical, unnamed_critical)
 LOCKED(GOMP_atomic_start, GOMP_atomic_end, ompt_mutex_atomic, all_atomics)
@@ -101,7 +100,7 @@ ENTRY void GOMP_critical_name_start(void **lock) {
 
 ENTRY void GOMP_critical_name_end(void **lock) {
   ENTER(GOMP_critical_name_end, lock);
-  leave(ompt_mutex_critical, lock, PLACE, own_GOMP_critical_name_end, lock);
+  leave(ompt_mutex_critical, lock, own_GOMP_critical_name_end, lock);
 }
 
 #define LOCK(set, test, unset)                                        \
@@ -115,7 +114,7 @@ ENTRY void GOMP_critical_name_end(void **lock) {
   }                                                                   \
   ENTRY void unset(void *lock) {                                      \
     ENTER(unset, lock);                                               \
-    leave(ompt_mutex_lock, lock, PLACE, own_##unset, lock);           \
+    leave(ompt_mutex_lock, lock, own_##unset, lock);                  \
   }
 LOCK(omp_set_lock, omp_test_lock, omp_unset_lock)
 LOCK(omp_set_lock_, omp_test_lock_, omp_unset_lock_)
@@ -131,7 +130,7 @@ LOCK(omp_set_lock_, omp_test_lock_, omp_unset_lock_)
   }                                            \
   ENTRY void unset(void *lock) {               \
     ENTER(unset, lock);                        \
-    leave_once(lock, PLACE, own_##unset);      \
+    leave_once(lock, own_##unset);             \
   }
 NEST_LOCK(omp_set_nest_lock, omp_test_nest_lock, omp_unset_nest_lock)
 NEST_LOCK(omp_set_nest_lock_, omp_test_nest_lock_, omp_unset_nest_lock_)

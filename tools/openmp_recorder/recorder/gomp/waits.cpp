@@ -91,6 +91,13 @@ ENTRY void GOMP_taskgroup_end() {
   own_GOMP_taskgroup_end();
 }
 
+// Where there is no team the runtime makes one of this thread for good, and defers tasks from then on.
+ENTRY void GOMP_taskgroup_reduction_register(uintptr_t *reductions) {
+  ENTER(GOMP_taskgroup_reduction_register, reductions);
+  here().in_team = true;
+  own_GOMP_taskgroup_reduction_register(reductions);
+}
+
 #define BARRIER(answer, name, kind) \
   ENTRY answer name() {             \
     ENTER(name);                    \

@@ -9,6 +9,12 @@ from spanprof.conformance.report.suites import junit
 FORMS = {".xml": lambda report, _: junit(report.results)}
 
 
+def verdict(results):
+    failed = len(results.failed_programs())
+    ways = f"{failed} programs failed, in {len(results.groups)} ways" if failed else "none failed"
+    return f"{len(results.outcomes)} programs, {results.runs} runs: {ways}"
+
+
 def publish(names, report):
     """Prints the tables, and the small programs where no report is asked for; writes the reports that are, names with
     commas."""
@@ -20,7 +26,7 @@ def publish(names, report):
         for number, one in enumerate(report.found, 1):
             print("\n".join(reproducer(number, one, "FILE")))
     if report.took:
-        print(report.took.told())
+        print(verdict(results), report.took.told(), sep="\n")
     if names:
         write_reports([pathlib.Path(name) for name in names.split(",")], report)
 

@@ -12,6 +12,7 @@ from spanprof.conformance import commands
 from spanprof.conformance.judge.verdicts import Judge, Missing, Verdict
 from spanprof.conformance.opening import unit_in
 from spanprof.conformance.report.publish import publish
+from spanprof.conformance.run.took import Took
 from spanprof.conformance.run.journal import Journal
 from spanprof.conformance.tests.helpers import PLAN, StubBench, failure_of
 from spanprof.conformance.report.tests.test_texts import found_of, report_of
@@ -47,6 +48,12 @@ class Publishing(Quiet):
         self.assertEqual(unit_in(self.folder / "report-1.tasks"), 1000)
         self.assertEqual((self.folder / "report-1.c").read_text(), "int main(void);\n")
         self.assertTrue(name.read_text().startswith("# Conformance"))
+
+    def test_the_verdict_comes_at_the_end(self):
+        report = report_of(found=[found_of(failure_of())])
+        report.took = Took(3, 1, 4)
+        _, printed = self.call(publish, "", report)
+        self.assertRegex(printed.split("\n")[-3], r"^\d+ programs, \d+ runs: \d+ programs failed, in \d+ ways$")
 
     def test_without_a_report_the_programs_are_printed(self):
         _, printed = self.call(publish, "", report_of(found=[found_of(failure_of())]))

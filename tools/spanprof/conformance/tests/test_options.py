@@ -62,7 +62,7 @@ class Options(unittest.TestCase):
         self.assertIn("invalid", self.refused("run --cc gcc --timeout soon"))
         self.assertIn("slow is none of", self.refused("run --cc gcc --settings free,slow"))
         self.assertIn("required: --cc", self.refused("run"))
-        self.assertIn("required: command", self.refused(""))
+        self.assertIn("required: COMMAND", self.refused(""))
         self.assertIn("required: log", self.refused("judge x"))
 
 

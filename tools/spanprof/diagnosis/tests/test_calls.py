@@ -37,6 +37,8 @@ class Innermost(unittest.TestCase):
                 ("bool operator==<..>(A const&, B)", "operator=="), ("T::operator()(int) const", "T::operator()"),
                 ("f(int)::{lambda(int)#1}::operator()(int) const", "f"), ("T::operator bool()", "T::operator bool"),
                 ("main._omp_fn.0+0x1d", "main"), ("sum.constprop.0", "sum"), ("__scf_MOD_run", "scf::run"),
+                ("_QMdensePmultiply..omp_par", "dense::multiply"), ("_QQmain", "main"), ("MAIN__", "main"),
+                ("f[abi:cxx11](int)", "f"),
                 ("f(int) [clone .omp_outlined]", "f"), ("sort", "sort")):
             self.assertEqual(plain(symbol), name)
 

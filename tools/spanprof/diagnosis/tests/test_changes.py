@@ -10,8 +10,9 @@ from spanprof.diagnosis.tests.worked import TEXT, facts, place, program
 from spanprof.errors import Fault
 from spanprof.head import read_head
 from spanprof.marks import statements
-from spanprof.whatif.numbers import OnThreads
+from spanprof.text import Statement
 from spanprof.whatif.requests import Request
+from spanprof.whatif.statements import of_stream
 from spanprof.whatif.survey import survey
 
 TASKS = "task at image.c:25"
@@ -52,7 +53,7 @@ class Candidates(unittest.TestCase):
 
     def test_costs_lose_what_the_segment_was_preempted(self):
         text = "omptasks 1\nwork 9\nwork 5\ntask {\nwork 4\n}\n"
-        found = module.without(statements(text.splitlines(True)), {0: 11, 1: 7})
+        found = module.without(of_stream(statements(text.splitlines(True))), {0: 11, 1: 7})
         self.assertEqual([one.cost for one in found if one.kind == "work"], [0, 3, 0])
 
 
@@ -60,19 +61,19 @@ class Tries(unittest.TestCase):
     """Without a program: an end is told by how many lines the changed text has."""
 
     def setUp(self):
-        self.was = module.numbers_of, module.client.at_once
-        module.numbers_of = self.measured
+        self.was = module.greedy_end, module.client.at_once
+        module.greedy_end = self.measured
         module.client.at_once = lambda answer, questions: [answer(one) for one in questions]
         text = SimpleNamespace(head=read_head('# recorded: {"threads": 4, "unit": "us"}\n'),
-                               statements=lambda: statements(TEXT.splitlines(True)))
+                               statements=lambda: of_stream(statements(TEXT.splitlines(True))))
         self.bench = Bench(text, found_in(program().places))
 
     def tearDown(self):
-        module.numbers_of, module.client.at_once = self.was
+        module.greedy_end, module.client.at_once = self.was
 
     @staticmethod
-    def measured(text, threads):
-        return SimpleNamespace(on={threads[0]: OnThreads(1, 1, len(text.splitlines()))})
+    def measured(text, _):
+        return len(text.splitlines())
 
     def test_the_end_is_in_nanoseconds(self):
         self.assertEqual(self.bench.end([]), 1000 * len(TEXT.splitlines()))
@@ -93,7 +94,7 @@ class Tries(unittest.TestCase):
 
     def test_those_of_a_long_text_are_tried_one_by_one(self):
         module.client.at_once = None
-        self.bench.kept += [one for one in self.bench.kept if one.kind == "work"][:1] * module.LARGE
+        self.bench.kept = of_stream([*self.bench.kept, *[Statement("work")] * module.LARGE])
         self.assertEqual(len(self.bench.tries([single("drop-depend", TASKS)])), 1)
 
     def test_what_cannot_be_made_is_left_out(self):
@@ -102,7 +103,7 @@ class Tries(unittest.TestCase):
 
         def refused(*_):
             raise Fault("refused")
-        module.numbers_of = refused
+        module.greedy_end = refused
         self.assertEqual(self.bench.tries([single("drop-depend", TASKS)]), [])
 
 

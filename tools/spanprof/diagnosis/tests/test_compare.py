@@ -1,6 +1,6 @@
 import unittest
 
-from spanprof.diagnosis.causes import BY_KIND
+from spanprof.diagnosis.lock_times import Held
 from spanprof.diagnosis.compare import as_json, compared, is_slower, lines, matched_by, spread_of
 from spanprof.diagnosis.diagnose import diagnose
 from spanprof.diagnosis.names import Names
@@ -41,10 +41,10 @@ class Compared(unittest.TestCase):
 
     def test_what_was_predicted(self):
         before = told(9, 0)
-        run = facts([place("task at a.c:9")], at_locks=200 * MS)
+        run = facts([place("task at a.c:9")], at_locks=200 * MS, locks=[Held("a.c:7", "critical", 9, 1, 200 * MS)])
         before = Told(diagnose(run), Names(run, None))
         found = lines(compared(before, told(9, 0, elapsed=60 * MS)))
-        self.assertIn("predicted  50.0 ms for: %s" % BY_KIND["lock"].change.format(where="", less_inside=""), found)
+        self.assertIn("predicted  50.0 ms for: do less in critical at a.c:7: a copy for each thread", found)
 
     def test_a_place_that_only_one_has(self):
         run = facts([place("task at a.c:9"), place("task at b.c:3")])

@@ -101,7 +101,7 @@ class Diagnoses(unittest.TestCase):
         found = facts([place(TASKS)], preempted=200 * MS, starved=25 * MS, starved_by={TASKS: 25 * MS})
         told = diagnose(found, Bench({(): 90, asked("split", TASKS + "=4"): 80}))
         self.assertEqual((told.causes, found.lost_share(told.causes[0]), told.plan), (
-            [Loss("machine", "", 200 * MS)], 0.5, []))
+            [Loss("machine", "", 200 * MS), Loss("efficient", "", 25 * MS)], 0.5, []))
 
     def test_at_best_all_threads_run_its_code_all_the_time(self):
         self.assertEqual(diagnose(facts([place(TASKS)], starved=200 * MS)).best, 50 * MS)
@@ -121,7 +121,7 @@ class Steps(unittest.TestCase):
         self.assertEqual((step.after, step.low, step.high), (75 * MS, 75 * MS, 92500000))
 
     def test_a_bound_leaves_the_code_unless_it_is_in_code_that_time_is_lost(self):
-        run = facts(code=320 * MS)
+        run = facts(code=320 * MS, usage={"user_ns": 20 * MS, "system_ns": 300 * MS})
         after = {kind: bound_of(run, 100 * MS, Loss(kind, "", 300 * MS)).after for kind in ("sleep", "system")}
         self.assertEqual(after, {"sleep": 80 * MS, "system": 25 * MS})
 

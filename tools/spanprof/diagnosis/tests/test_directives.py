@@ -1,6 +1,6 @@
 import unittest
 
-from spanprof.diagnosis.directives import block_around, construct_of, directive_line, is_of_some_turns
+from spanprof.diagnosis.directives import block_around, construct_of, directive_line, is_of_some_turns, own_item
 
 BATCHES = """int main() {
     for (int i = 0; i < 50; i++) {
@@ -55,6 +55,16 @@ class Directives(unittest.TestCase):
 
     def test_a_wait_in_some_turns_of_the_loop_that_makes_the_tasks(self):
         self.assertTrue(is_of_some_turns(BATCHES, 6))
+
+    def test_what_each_thread_has_next_to_others(self):
+        lines = ["void assign(void) {", "#pragma omp parallel", "  {", "    int me = omp_get_thread_num();",
+                 "    struct sums *mine = part[me];", "#pragma omp for", "    for (int i = 0; i < n; i++)",
+                 "      mine[near(i)].x += x[i];", "  }", "}"]
+        self.assertEqual(own_item(lines, 7, 8), ("part[me]", 5))
+        self.assertEqual(own_item([*lines[:7], "      part[me] += x[i];", "  }"], 7, 8), ("part[me]", 8))
+        self.assertIsNone(own_item([*lines[:7], "      s += x[i];", "  }", "  part[me] = s;", "}"], 7, 8))
+        self.assertIsNone(own_item([*lines[:7], "      part[8 * me] += x[i];", "  }"], 7, 8))
+        self.assertEqual(own_item(["  n[omp_get_thread_num()]++;"], 1, 1), ("n[omp_get_thread_num()]", 1))
 
     def test_a_wait_behind_the_loop_that_makes_the_tasks(self):
         self.assertFalse(is_of_some_turns(BATCHES, 17))

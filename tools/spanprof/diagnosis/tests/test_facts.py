@@ -4,18 +4,19 @@ import tempfile
 import unittest
 from types import SimpleNamespace
 
-from spanprof.account import Account, Row
+from spanprof.account import Account, Row, Rows
 from spanprof.diagnosis import facts as module
-from spanprof.diagnosis.calls import Sampled
-from spanprof.diagnosis.facts import (Facts, costs_of, elapsed_in, function_in, kept_waiting, of_those_at_once,
-                                      off_by_segment, regions_of, runtime_name, set_meta, set_off, set_ranks,
-                                      set_starved, starting_shares)
+from spanprof.diagnosis.calls import Sampled, calls_of
+from spanprof.diagnosis.facts import (Facts, costs_of, elapsed_in, function_in, inner_regions, kept_waiting,
+                                      nested_threads, of_those_at_once, off_by_segment, regions_of, runtime_name,
+                                      set_idle, set_meta, set_off, set_ranks, starting_shares)
 from spanprof.diagnosis.lock_times import Held, locks_of
 from spanprof.diagnosis.places import AFTER_REGION, OWN
 from spanprof.diagnosis.tests.worked import MS, TEXT, facts, program
+from spanprof.errors import Fault
 from spanprof.head import read_head
 from spanprof.recording import open_recording
-from spanprof.regions import Program, Region
+from spanprof.regions import Program, Region, program_of
 from spanprof.whatif.numbers import Numbers, OnThreads
 
 HEAD = """# recorded: {"program": "image", "threads": 2, "clock": "wall", "unit": "us"}
@@ -46,8 +47,11 @@ class OfText(unittest.TestCase):
             self.assertEqual(found.places["task at image.c:25"].exclusive, exclusive)
 
     def test_without_the_times_of_the_run_the_greedy_run_divides_them(self):
-        module.set_by_greedy(self.found)
+        module.set_by_greedy(self.found, read_head(HEAD))
         self.assertEqual((self.found.code, self.found.starved, self.found.delayed), (132000, 48000, 60000))
+        differ = '# clocks differ: {"affected": 9, "work": 9, "by": 32, "times": 1}'
+        module.set_by_greedy(self.found, read_head(HEAD + differ))
+        self.assertEqual((self.found.code, self.found.preempted, self.found.starved), (100000, 32000, 48000))
 
     def test_costs_have_no_time_in_which_a_thread_was_preempted(self):
         off, code = {4: (1000, 50000), 2: (0, 5000)}, program().code
@@ -96,8 +100,18 @@ class Recorded(unittest.TestCase):
                     file.write(text)
             self.assertEqual(off_by_segment(os.path.join(folder, "off"), None), {0: (5, 7), 2: (1, 0)})
             self.assertEqual(off_by_segment("", read_head(HEAD + "# preempted: [[7, 384]]\n")), {7: (0, 384000)})
-            found = regions_of(os.path.join(folder, "program.tasks"))
+            found = regions_of(program_of(os.path.join(folder, "program.tasks")))
             self.assertEqual([(one.place, one.threads, one.elapsed) for one in found], [("image.c:20", 2, 50)])
+
+    def test_damaged_files_beside_a_text(self):
+        with tempfile.TemporaryDirectory() as folder:
+            path = os.path.join(folder, "m")
+            for read, line in ((off_by_segment, "0 5"), (locks_of, "[" * 100000), (locks_of, '{"times": 3}'),
+                               (calls_of, "0 jumped 5 main")):
+                with open(path, "w", encoding="utf-8") as file:
+                    file.write(line + "\n")
+                with self.assertRaisesRegex(Fault, "/m is damaged: "):
+                    read(path, ["a place"])
 
     def test_locks_of_a_head_and_of_a_file(self):
         self.assertEqual(locks_of("", read_head(HEAD)), [Held("image.c:27", "critical", 2, 1000, 3000)])
@@ -126,21 +140,21 @@ class Starting(unittest.TestCase):
     def test_delays_as_long_as_a_runtime_takes_are_of_regions_that_start(self):
         rows = [Row(1, 0, 2000, 9000), Row(2, 0, 150000, 160000), Row(0, 160000, 165000, 170000), Row(0, 0, 0, 1)]
         places = [OWN + " at a.c:3", OWN + " at a.c:3", AFTER_REGION + " at a.c:3", "task at a.c:5"]
-        found = starting_shares(SimpleNamespace(rows=rows, places=places))
+        found = starting_shares(SimpleNamespace(rows=Rows.of(rows), places=places))
         self.assertEqual(found, {places[0]: 52000 / 152000, places[2]: 1.0})
 
     def test_who_starves_while_code_is_preempted_more_than_on_average_waits_for_that(self):
         run = facts(preempted=0, preempted_in={1: 60})
         rows = [Row(0, 0, 0, 40), Row(1, 0, 0, 100), Row(2, 0, 0, 40), Row(3, 0, 0, 40)]
-        set_starved(run, Account(4, 100, 220, 0, 180, 0, rows=rows, places=["a", "b", "a", "a"]))
+        set_idle(run, Account(4, 100, 220, 0, 180, 0, rows=Rows.of(rows), places=["a", "b", "a", "a"]))
         self.assertEqual((run.starved_by, run.starved_off), ({"b": 180}, {"b": 180}))
         run = facts(preempted=100 * MS)      # a quarter of the time of all code
-        self.assertEqual(kept_waiting(run, rows[1], 60, 180), 105 + 75 // 4)
-        self.assertEqual(kept_waiting(run, rows[1], 25, 180), 45)
+        self.assertEqual(kept_waiting(run, 100, 60, 180), 105 + 75 // 4)
+        self.assertEqual(kept_waiting(run, 100, 25, 180), 45)
 
     def test_threads_that_only_took_turns_are_not_idle(self):
         rows = [Row(0, 0, 0, 10), Row(5, 10, 10, 30), Row(0, 30, 30, 40)]
-        found = Account(8, 50, 40, 0, 240, 120, rows=rows, places=["a", "b", "c"])
+        found = Account(8, 50, 40, 0, 240, 120, rows=Rows.of(rows), places=["a", "b", "c"])
         one = of_those_at_once(found, 2)
         self.assertEqual((one.threads, one.delayed, one.starved, one.outside), (2, 0, 40, 20))
         self.assertEqual(sum(one.parts.values()), 2 * 50)
@@ -158,6 +172,12 @@ class Starting(unittest.TestCase):
                                ((1, (0, 100, 1)), (2, (20, 70, 4)), (3, (80, 90, 1))))
         run = Program(100, [outer, inner, alone])
         self.assertEqual(elapsed_in(run.places[0], run), 50)
+        outer = alone._replace(number=4, begin=90, end=99, threads=4, inside=0)
+        nested = alone._replace(number=5, begin=91, end=95, threads=2)
+        self.assertEqual([nested_threads(one) for one in (run, Program(100, [outer, nested]), None)],
+                         [4, 8, 0])
+        self.assertEqual([(one.place, one.threads, one.times, one.elapsed) for one in inner_regions(run)],
+                         [("a.c:2", 4, 1, 50)])
 
 
 if __name__ == "__main__":

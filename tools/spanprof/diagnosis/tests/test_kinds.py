@@ -3,10 +3,13 @@ import glob
 import os
 import unittest
 
+from spanprof.diagnosis.calls import RUNTIME, Sampled
 from spanprof.diagnosis.causes import BY_KIND, TABLE
 from spanprof.diagnosis.diagnose import diagnose
 from spanprof.diagnosis.facts import Region
+from spanprof.diagnosis.library_locks import set_library_locks
 from spanprof.diagnosis.lock_times import Held
+from spanprof.diagnosis.losses import in_code_losses
 from spanprof.diagnosis.places import AFTER_REGION, OF_THREADS, OWN, SERIAL, SHARE
 from spanprof.diagnosis.tests.worked import MS, facts, place
 from spanprof.folders import TOP
@@ -72,7 +75,13 @@ class Kinds(unittest.TestCase):
         self.assertEqual(self.first(starved_at(place(TASKS, undeferred=8))), "undeferred")
 
     def test_loop_schedule(self):
-        self.assertEqual(self.first(delayed_at(place("turns of the loop at image.c:9", SHARE))), "loop_schedule")
+        turns = place("turns of the loop at image.c:9", SHARE, uneven=200 * MS)
+        self.assertEqual(self.first(delayed_at(turns)), "loop_schedule")
+        turns.uneven = 20 * MS      # what others waited for more is no fault of how it is divided
+        self.assertEqual(self.first(delayed_at(turns, preempted=20 * MS)), "machine")
+        held = [Held("image.c:27", "critical", 9, 1, 150 * MS)]
+        self.assertEqual(self.first(delayed_at(turns, at_locks=20 * MS, locks=held)), "lock")
+        self.assertEqual(self.first(delayed_at(turns)), "loop_schedule")
 
     def test_lock(self):
         found = facts([place(TASKS)], at_locks=150 * MS, locks=[Held("image.c:27", "critical", 9, 1, 150 * MS)])
@@ -101,6 +110,11 @@ class Kinds(unittest.TestCase):
 
     def test_sleep(self):
         self.assertEqual(self.first(facts([place(TASKS)], asleep=150 * MS)), "sleep")
+        slept = {TASKS: {("main", "read"): 9}}
+        for preempted, calls, kind in ((0, {}, "sleep"), (90, slept, "sleep"), (90, {}, "machine")):
+            found = facts([place(TASKS)], asleep=150 * MS, asleep_by={TASKS: 150 * MS}, preempted=preempted * MS,
+                          calls=Sampled({TASKS: {("main",): 9}}, calls))
+            self.assertEqual(self.first(found), kind)
 
     def test_small_regions(self):
         own, after = (place(name + " at image.c:20", OF_THREADS, cost=MS, pieces=9000, tasks=0)
@@ -114,6 +128,8 @@ class Kinds(unittest.TestCase):
         self.assertEqual(self.first(found), "machine")
         own.pieces = after.pieces = 30
         self.assertEqual(self.first(found), "machine")
+        inner = place(AFTER_REGION + " at image.c:20", SHARE, cost=MS, pieces=30, tasks=0)
+        self.assertEqual(self.first(delayed_at(inner)), "machine")
 
     def test_uneven_starts_of_small_regions(self):
         turns = place("turns of the loop at image.c:20", SHARE, cost=100 * MS, pieces=9000)
@@ -127,6 +143,35 @@ class Kinds(unittest.TestCase):
                     regions=[Region("image.c:20", 4, 90 * MS, times=3000)])
         self.assertEqual(self.first(run), "serial")
 
+    def test_small_chunks(self):
+        turns = place("turns of the loop at image.c:20", SHARE, cost=400 * MS, pieces=4000)
+        took = {turns.name: {("main", RUNTIME): 90000, ("main",): 30000}}
+        found = facts([turns], chunks={"image.c:20": [3000000, 3000000]}, calls=Sampled(took, {}))
+        self.assertEqual([(one.kind, one.time) for one in diagnose(found).causes], [("small_chunks", 300 * MS)])
+        found.chunks = {"image.c:20": [3000, 3000000]}      # which do not explain it
+        self.assertEqual(self.first(found), "efficient")
+
+    def test_what_the_runtime_takes_for_locks_and_tasks(self):
+        took = {TASKS: {("main", RUNTIME): 90000, ("main",): 30000}}
+        found = facts([small()], code=396 * MS, at_locks=4 * MS, calls=Sampled(took, {}),
+                      locks=[Held("image.c:27", "critical", 900000, 1, 4 * MS)])
+        self.assertEqual([(one.kind, one.time // MS) for one in in_code_losses(found) if one.time], [("lock", 3)])
+        found.locks = []
+        self.assertEqual([one.kind for one in in_code_losses(found) if one.time], ["small_tasks"])
+
+    def test_a_lock_inside_the_library(self):
+        own = place(OWN + " at image.c:20", OF_THREADS, cost=320 * MS, pieces=4, longest=80 * MS)
+        found = facts([own], code=320 * MS, preempted=80 * MS, preempted_by={own.name: 80 * MS},
+                      calls=Sampled({own.name: {("main", "rand@libc.so.6"): 90000, ("main",): 30000}}, {}),
+                      usage={"voluntary_switches": 900, "involuntary_switches": 100})
+        set_library_locks(found)
+        self.assertEqual((found.code, found.at_locks, found.preempted), (80 * MS, 294 * MS, 26 * MS))
+        self.assertEqual(diagnose(found).causes[0].kind, "lock")
+        own.longest = own.alone = 320 * MS
+        found.at_locks, found.locks = 0, []
+        set_library_locks(found)
+        self.assertEqual(found.locks, [])
+
     def test_too_few_threads(self):
         found = facts([place(TASKS)], threads=2, asked=4, regions=[Region("image.c:20", 2, 90 * MS)])
         self.assertEqual(self.first(found), "too_few_threads")
@@ -136,6 +181,14 @@ class Kinds(unittest.TestCase):
                       regions=[Region("image.c:20", 4, MS), Region("image.c:30", 16, MS)])
         self.assertEqual(diagnose(found).causes[0].kind, "too_many_threads")
         self.assertEqual(diagnose(found).causes[0].place, "image.c:30")
+
+    def test_nested_teams(self):
+        found = facts([place(TASKS)], threads=16, delayed=900 * MS, delayed_by={TASKS: 900 * MS},
+                      regions=[Region("image.c:20", 4, 90 * MS)], inner=[Region("image.c:30", 4, 80 * MS, times=90)])
+        self.assertEqual([(one.kind, one.place) for one in diagnose(found).causes],
+                         [("too_many_threads", "image.c:30")])
+        run = delayed_at(place(TASKS), nested=16)       # of which no more than four were seen at once
+        self.assertEqual(self.first(run), "too_many_threads")
 
     def test_machine(self):
         self.assertEqual(self.first(facts([place(TASKS)], preempted=200 * MS)), "machine")

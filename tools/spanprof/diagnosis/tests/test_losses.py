@@ -3,7 +3,6 @@ import unittest
 
 from spanprof.diagnosis.calls import Sampled
 from spanprof.diagnosis.facts import Region
-from spanprof.diagnosis.lock_times import Held
 from spanprof.diagnosis.losses import Loss, by_place, code_on_one, divided, losses, system_time
 from spanprof.diagnosis.places import OF_THREADS, SERIAL, SHARE, TASK
 from spanprof.diagnosis.tests.worked import MS, facts, place
@@ -21,7 +20,7 @@ class Losses(unittest.TestCase):
         for _ in range(200):
             found = facts([place("task at a.c:1", cost=90 * MS), place("the beginning", SERIAL, tasks=0)],
                           threads=chance.choice((2, 4, 16)), asked=chance.choice((None, 4)),
-                          regions=[Region("a.c:2", 2, 50 * MS)], creating=chance.choice((0, 500)),
+                          regions=[Region("a.c:2", 2, 50 * MS)],
                           cost_on_one=chance.choice((None, {"task at a.c:1": 80 * MS})),
                           usage={"user_ns": 9, "system_ns": chance.randrange(90 * MS), "minor_faults": 9000},
                           **{part: chance.randrange(25 * MS) for part in PARTS})
@@ -32,8 +31,9 @@ class Losses(unittest.TestCase):
 
     def test_a_small_team_loses_the_others_though_its_loop_has_more_to_run(self):
         turns = "turns of the loop at a.c:3"
-        found = losses(facts([place(turns, SHARE)], regions=[Region("a.c:2", 2, 90 * MS)], delayed=150 * MS,
-                             delayed_by={turns: 150 * MS}, starved=50 * MS, starved_by={turns: 50 * MS}))
+        found = losses(facts([place(turns, SHARE, uneven=150 * MS)], regions=[Region("a.c:2", 2, 90 * MS)],
+                             delayed=150 * MS, delayed_by={turns: 150 * MS}, starved=50 * MS,
+                             starved_by={turns: 50 * MS}))
         lost = {kind: sum(loss.time for loss in found if loss.kind == kind) for kind in ("too_few_threads",
                                                                                          "loop_schedule")}
         self.assertEqual(lost, {"too_few_threads": 180 * MS, "loop_schedule": 20 * MS})
@@ -82,14 +82,9 @@ class Losses(unittest.TestCase):
         self.assertEqual(system(user_ns=310 * MS, system_ns=120 * MS), 0)
         self.assertEqual(system(user_ns=290 * MS, system_ns=110 * MS, minor_faults=10000), 40 * MS)
 
-    def test_system_calls_of_a_run_that_waits_for_a_lock_are_of_the_lock(self):
-        locks, usage = [Held("a.c:9", "mutex", 9, 1, 2)], {"user_ns": 60 * MS, "system_ns": 240 * MS}
-        for waited, kind in ((100, "lock"), (10, "system")):
-            found = losses(facts([place("task at a.c:1")], at_locks=waited * MS, locks=locks, usage=usage))
-            self.assertEqual(found[0].kind, kind)
-
     def test_code_of_several_threads_is_shared_out_unevenly(self):
-        parts = place("code of one of the region's threads", OF_THREADS, cost=40 * MS, pieces=4, tasks=4)
+        parts = place("code of one of the region's threads", OF_THREADS, cost=40 * MS, pieces=4, tasks=4,
+                      uneven=60 * MS)
         found = losses(facts([parts], starved=60 * MS, starved_by={parts.name: 60 * MS}))
         self.assertEqual(found[0].kind, "loop_schedule")
 

@@ -32,6 +32,16 @@ class Places(unittest.TestCase):
         self.assertEqual({name: (place.cost, place.longest) for name, place in own.items()},
                          {OWN + " at a.c:3": (18, 10), OWN + " at a.c:9": (9, 5)})
 
+    def test_a_phase_that_one_thread_runs(self):
+        lines = ["omptasks 1\n"]
+        for costs in ((80, 1), (8, 2), (8, 2)):
+            lines += ["taskgroup {  # a.c:3\n"]
+            for cost in costs:
+                lines += ["task {  # one of the region's threads\n", "work %d\n" % cost, "}\n"]
+            lines += ["}\n"]
+        own = program("".join(lines)).places[OWN + " at a.c:3"]
+        self.assertEqual((own.longest, own.alone, own.has_several), (96, 80, False))
+
     def test_the_lines_between_two_constructs(self):
         places = program().places
         self.assertEqual(lines_between(places["the beginning"]), ("image.c", 0, 20))
@@ -43,6 +53,13 @@ class Places(unittest.TestCase):
         found = program("omptasks 1\ntaskgroup {  # the loop at a.c:3\ntask {  # turns of the loop at a.c:3\n"
                         "work 5\n}\n}\n")
         self.assertEqual(found.places["turns of the loop at a.c:3"].kind, SHARE)
+
+    def test_how_uneven_turns_are_phase_by_phase(self):
+        part = "task {  # one of the region's threads\ntaskgroup {  # the loop at a.c:3\n%s}\n}\n"
+        turns = "task {  # turns of the loop at a.c:3\nwork %d\n}\n"
+        region = "taskgroup {  # a.c:2\n" + part % (turns % 5 + turns % 3) + part % (turns % 6) + part % "" + "}\n"
+        found = program("omptasks 1\n" + 2 * region).places["turns of the loop at a.c:3"]
+        self.assertEqual(found.uneven, 2 * (24 - 14))
 
     def test_each_segment_has_a_name_and_a_cost(self):
         found = program()

@@ -8,12 +8,12 @@ from spanprof.diagnosis.diagnose import Diagnosis, diagnose
 from spanprof.diagnosis.facts import Region
 from spanprof.diagnosis.lock_times import Held
 from spanprof.diagnosis.losses import Loss
-from spanprof.diagnosis.names import Names, block_end, items_in
-from spanprof.diagnosis.places import OF_THREADS, OWN, SERIAL, SHARE
+from spanprof.diagnosis.names import Names, Suspect, block_end, items_in
+from spanprof.diagnosis.places import OF_THREADS, OWN, SERIAL, SHARE, TASK, Place
 from spanprof.diagnosis.plan import Step
 from spanprof.diagnosis.schema import as_json
-from spanprof.diagnosis.sentences import (WIDTH, change_sentence, lost_sentence, short_lines, shortened, speed_words,
-                                          sum_lines, times_of, waits, who_asked)
+from spanprof.diagnosis.sentences import (WIDTH, change_sentence, first_digits, lost_sentence, short_lines, shortened,
+                                          speed_words, sum_lines, times_of, waits, who_asked)
 from spanprof.diagnosis.tests.worked import MS, facts, place
 
 SOURCE = """static void tone(float *d, int n) {
@@ -120,13 +120,16 @@ class Sentences(unittest.TestCase):
         self.assertEqual([line[:4] for line in short_lines(told, Names(run, SOURCES))][:3], ["imag", "lost", "sure"])
         self.assertIsNone(as_json(told, Names(run, SOURCES))["diagnosis"][0]["change"])
 
-    def test_of_a_busy_machine_only_to_record_again(self):
+    def test_of_a_busy_machine_to_record_again_and_what_the_rest_was(self):
         run = found(preempted=200 * MS)
         lines = short_lines(diagnose(run), Names(run, SOURCES))
-        self.assertEqual(lines[:3], [
+        self.assertEqual(lines[:4], [
             "image: 100 ms on 4 threads, 50.0 ms undisturbed. At best 50.0 ms.",
-            "lost  50 %  other programs had the processors: record it again on a machine with less to do",
+            "lost  50 %  other programs used the processors: record again on an idle machine",
+            "       0 %  little: threads ran code 100 % of the rest, as far as one run shows",
             "sure  1 run, machine busy: 50 %"])
+        run.calls = Sampled({TASKS: {("main", "tone"): 9 * 4000}}, {})
+        self.assertIn("100 % of it in tone", short_lines(diagnose(run), Names(run, SOURCES))[2])
 
     def test_what_went_wrong_has_a_line(self):
         run = found()
@@ -138,8 +141,18 @@ class Sentences(unittest.TestCase):
         run.places[TASKS].cost = 200 * MS
         lines = ["    sum.fetch_add(tone(d, n));" if number == 11 else line for number, line in enumerate(SOURCE, 1)]
         told = short_lines(diagnose(run), Names(run, SimpleNamespace(lines_of=lambda name: lines)))
-        self.assertIn("little: threads ran code 100 % of the time, with an atomic at image.c:11", told[1])
+        self.assertIn("little: threads ran code 100 % of the time, with the atomic at image.c:11", told[1])
         self.assertIn("whether the atomic at image.c:11 slows it: --full", told[3])
+        self.assertIsNone(Names(run, None).suspect())
+
+    def test_the_number_of_chunks_is_no_more_exact_than_it_is_known(self):
+        self.assertEqual(list(map(first_digits, (7, 42, 999, 1178648))), [7, 42, 990, 1100000])
+
+    def test_in_place_of_what_is_contended(self):
+        found = [Suspect("", "a.c:9"), Suspect("part[me]", "a.c:9")]
+        self.assertEqual(list(map(str, found)), ["the atomic at a.c:9", "part[me] next to other threads' (a.c:9)"])
+        self.assertEqual([one.instead for one in found], ["a reduction in place of the atomic at a.c:9",
+                                                          "a local copy of part[me] (a.c:9), written back once"])
 
     def test_of_a_lock_of_the_system_only_the_waits_are_counted(self):
         self.assertEqual([times_of(Held("a.c:1", kind, 9000, 1, 2)) for kind in ("critical", "mutex")],
@@ -168,7 +181,7 @@ class Sentences(unittest.TestCase):
         run = found()
         for option, word, kind, told in (
                 ("in-for-inout", "a0", "dependence",
-                 "depend(in: tab[f(0, 1)]) at image.c:9, if the tasks only read it"),
+                 "depend(in: tab[f(0, 1)]) at image.c:9 if only read, or a copy for each"),
                 ("drop-depend", TASKS, "dependence",
                  "no depend items at image.c:9, if the tasks may run in any order"),
                 ("drop-wait", "taskwait at image.c:12", "wait",
@@ -181,6 +194,13 @@ class Sentences(unittest.TestCase):
             change = single(option, word)
             step = Step(kind, TASKS if option == "in-for-inout" else change.place, 2, 1, 1, 1, 1.0, change)
             self.assertEqual(change_sentence(run, Names(run, SOURCES), step), told)
+
+    def test_a_task_that_goes_on_after_it_has_created_another_could_create_more(self):
+        rest = "after creating a task at image.c:9"
+        run = facts([tone(), Place(rest, TASK, "image.c:9", cost=9 * MS, pieces=1, largest=9 * MS)])
+        step = Step("too_few_tasks", rest, 2, 1, 1, 1, 1.0, single("split", rest + "=4"))
+        self.assertEqual(change_sentence(run, Names(run, SOURCES), step),
+                         "create more tasks at image.c:9: a lower cutoff")
 
     def test_the_sum_is_the_whole(self):
         run = found(starved=200 * MS, starved_by={TASKS: 200 * MS}, cost_on_one={TASKS: 1})
@@ -222,12 +242,15 @@ class Sentences(unittest.TestCase):
             self.assertEqual("the names of its functions" in "".join(short_lines(told, Names(run, None))), is_asked)
 
     def test_what_to_do_for_an_uneven_loop(self):
-        told = {"turns of the loop at image.c:9": "smaller chunks at image.c:9, the longest first",
-                "a section at image.c:9": "smaller sections at image.c:9, the longest first"}
-        for name, change in told.items():
+        turns, dynamic = "turns of the loop at image.c:9", SimpleNamespace(
+            lines_of=lambda name: ["#pragma omp for schedule(nonmonotonic: dynamic, 4)"] * 9)
+        for name, sources, change in (
+                (turns, SOURCES, "schedule(dynamic) at image.c:9, or smaller chunks"),
+                (turns, dynamic, "smaller chunks at image.c:9, the longest first"),
+                ("a section at image.c:9", SOURCES, "smaller sections at image.c:9, the longest first")):
             run = facts([place(name, SHARE)])
             step = Step("loop_schedule", name, 2, 1, 1, 1, 1.0, None)
-            self.assertEqual(change_sentence(run, Names(run, SOURCES), step), change)
+            self.assertEqual(change_sentence(run, Names(run, sources), step), change)
         run = facts([place(OWN + " at image.c:9", OF_THREADS)])
         step = Step("loop_schedule", OWN + " at image.c:9", 2, 1, 1, 1, 1.0, None)
         self.assertIn("schedule(dynamic) at ", change_sentence(run, Names(run, SOURCES), step))

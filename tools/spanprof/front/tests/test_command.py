@@ -54,6 +54,10 @@ class Command(InFolder):
         self.assertEqual(self.run_with("help", "none")[:2], (2, b""))
         self.assertRegex(self.run_with("--version")[1], rb"^spanprof [0-9.]+ \(logic ")
 
+    def test_a_locale_of_another_encoding(self):
+        variables = {"LC_ALL": "C", "PYTHONCOERCECLOCALE": "0", "PYTHONUTF8": "0"}
+        self.assertIn("no command `ä`", self.run_with("help", "ä", **variables)[2])
+
     def test_a_link_is_its_command(self):
         link = os.path.join(self.folder, "spanprof-path")
         os.symlink(os.path.realpath(FRONT), link)

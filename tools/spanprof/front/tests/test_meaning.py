@@ -12,7 +12,7 @@ def told(words, line, text="omptasks 1\ntasks { }\n", name="mine.tasks"):
 class Meaning(unittest.TestCase):
     def test_the_line_and_the_token(self):
         lines = told("slack", "error: line 2: BadWord")
-        self.assertRegex(lines[0], "^mine.tasks:2:1: BadWord: `tasks` cannot stand here; did you mean `task`")
+        self.assertRegex(lines[0], "^mine.tasks:2:1: BadWord: unexpected `tasks`; did you mean `task`")
         self.assertEqual(lines[1:], ["    2 | tasks { }", "      | ^~~~~"])
         self.assertEqual(told("", "error: line 2: BadWord")[1:], lines[1:])
 
@@ -26,6 +26,8 @@ class Meaning(unittest.TestCase):
     def test_wrong_words(self):
         self.assertEqual(told("greedy", "error: wrong words"), [
             "spanprof: wrong arguments of `greedy`; usage: spanprof greedy --threads P < FILE"])
+        self.assertEqual(told("slack " + __file__, "error: wrong words"), [
+            "spanprof: wrong arguments of `slack`; usage: spanprof slack < " + __file__])
         self.assertEqual(told("slak", "error: wrong words"), [
             "spanprof: there is no command `slak`; did you mean `slack`?; `spanprof --help` lists them"])
         self.assertEqual(told("qqq", "error: wrong words"), [

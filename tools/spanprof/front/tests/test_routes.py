@@ -30,7 +30,7 @@ class Routes(unittest.TestCase):
         self.assertEqual(to("test run --cc gcc"), Route(TOOL, "conformance run --cc gcc".split()))
 
     def test_which_whatif_is_meant(self):
-        for words in ("mine.tasks --places", "mine.tasks", "--help", "--advise mine.tasks", "1=9 mine.tasks"):
+        for words in ("mine.tasks --places", "mine.tasks", "--help", "--json mine.tasks", "1=9 mine.tasks"):
             self.assertEqual(to("whatif " + words, ["mine.tasks"]), Route(TOOL, ["whatif"] + words.split()), words)
         for words in ("1=9", "1:9", "none.tasks", "--"):
             self.assertEqual(to("whatif " + words, ["1=9"]).to, PROGRAM, words)

@@ -66,7 +66,7 @@ span,work,segments,place
         full = LARGE.replace("slack,*)", "slack,*) echo 'error: out of memory'; exit 3 ;;\nnever)")
         status, printed, said = self.told(large=full)
         self.assertEqual((status, printed), (1, ""))
-        self.assertRegex(said, "^spanprof-path: spanprof slack: error: out of memory: more memory helps, .*\n$")
+        self.assertRegex(said, "^spanprof-path: spanprof slack: error: out of memory: use more memory .*\n$")
 
     def test_sums_that_differ(self):
         self.assertEqual(self.told(span=6), (1, "", "spanprof-path: the places' span is 7, and the text's 6\n"))

@@ -11,7 +11,6 @@ from spanprof.errors import Fault
 from spanprof.predict import command, predictions
 from spanprof.predict.machine import Machine, Measured, write_machine
 from spanprof.predict.recorded import outside_of, recorded
-from spanprof.predict.scaled import Chosen
 from spanprof.remarks import in_words
 from spanprof.tests.proofs import with_a_proved_program
 
@@ -67,9 +66,9 @@ class Command(InAFolder):
 
     def answer(self, *words):
         told = io.StringIO()
-        with contextlib.redirect_stdout(told), \
+        with contextlib.redirect_stdout(told), mock.patch.dict(os.environ, SPANPROF_MACHINE=self.machine), \
                 mock.patch("spanprof.client.ask", return_value="segments 9\nwork 40800\nspan 10200\n"):
-            command.answer(command.parse([*words, "--machine", self.machine]))
+            command.answer(command.parse([*words]))
         return told.getvalue()
 
     def test_lines(self):
@@ -112,17 +111,23 @@ class Command(InAFolder):
         self.assertEqual(text.count("work 10200\n"), 4)
 
     def test_several_of_one_number(self):
-        several = ("a.tasks", "work 30", "70"), ("b.tasks", "work 11", "32"), ("c.tasks", "work 10", "30")
+        several = ("a.tasks", "work 30", "34"), ("b.tasks", "work 11", "32"), ("c.tasks", "work 10", "30")
         paths = [self.write(name, (TEXT % 2).replace("work 10", work).replace("30", elapsed))
                  for name, work, elapsed in several]
         first, two, *_ = self.answer(*paths).splitlines()
-        self.assertIn("a.tasks, region at a.c:9, recorded 3 times on 2 threads in 30.0 us to 70.0 us: with", first)
+        self.assertIn("a.tasks, region at a.c:9, recorded 3 times on 2 threads in 30.0 us to 34.0 us: with", first)
         self.assertRegex(two, "^on 2 threads: 2[23].. us predicted .*; the median by 3 recordings")
 
     def test_without_what_other_programs_took(self):
         text = ("# preempted: [[1, 7], [9, 3]]\n" + TEXT % 2).replace("work 10", "work 17", 1)
         two = self.answer(self.write("a.tasks", text)).splitlines()[1]
         self.assertRegex(two, "^on 2 threads: 2.* us predicted .*; without 7.00 us that other programs took meanwhile")
+
+    def test_slow_recordings_are_left_out(self):
+        paths = [self.write(name, TEXT.replace("elapsed: 30", "elapsed: %d" % elapsed) % 2)
+                 for name, elapsed in (("a.tasks", 30), ("b.tasks", 34), ("c.tasks", 35))]
+        two = self.answer(*paths).splitlines()[1]
+        self.assertRegex(two, "; the median by 2 recordings")
 
     def test_two_regions(self):
         paths = [self.write("a.tasks", TEXT % 2), self.write("b.tasks", TEXT.replace("a.c:9", "b.c:7") % 1)]
@@ -136,17 +141,11 @@ class Command(InAFolder):
                 command.parse(["a", "--threads", wrong])
             self.assertEqual(ended.exception.code, 2)
 
-    def test_for_a_summary(self):
-        path = self.write("a.tasks", TEXT % 2)
-        with mock.patch.dict(os.environ, SPANPROF_MACHINE=self.machine), \
-                mock.patch("spanprof.client.ask", return_value="segments 9\nwork 40800\nspan 10200\n"):
-            lines, told = predictions.told_of(Chosen([path]))
-            self.assertEqual((len(lines), len(told["predicted"])), (4, 2))
-            with self.assertRaisesRegex(Fault, "^b.tasks is of one thread"):
-                predictions.told_of(Chosen([self.write("b.tasks", TEXT % 1)]))
+    def test_one_thread_and_no_model(self):
+        with self.assertRaisesRegex(Fault, "^b.tasks was recorded on one thread"):
+            self.answer(self.write("b.tasks", TEXT % 1))
         with mock.patch.dict(os.environ, SPANPROF_MACHINE=self.machine + ".none"):
-            self.assertEqual((predictions.told_of(Chosen([path])), predictions.changed_told(path, str, 2)),
-                             (([], None), ([], None)))
+            self.assertEqual(predictions.changed_told(self.write("a.tasks", TEXT % 2), str, 2), ([], None))
 
     def test_of_a_changed_text(self):
         self.write("a.timed", TEXT % 2 + "---\ntimes 2 0 40000\n0 0 300 39000\n")

@@ -70,7 +70,7 @@ class Estimates(unittest.TestCase):
 
     def test_one_thread_tells_nothing_of_more(self):
         self.assertEqual(estimate({1: [recording(1)]}, machine(dispatch=50), 1).time, 8000)
-        with self.assertRaisesRegex(Fault, "a.tasks is of one thread"):
+        with self.assertRaisesRegex(Fault, "a.tasks was recorded on one thread"):
             estimate({1: [recording(1, name="a.tasks")]}, machine(), 2)
 
     def test_what_the_times_of_a_recording_tell(self):

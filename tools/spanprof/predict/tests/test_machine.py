@@ -42,7 +42,7 @@ class Machines(unittest.TestCase):
             os.makedirs(os.path.dirname(self.path), exist_ok=True)
             with open(self.path, "w", encoding="utf-8") as file:
                 file.write(wrong)
-            with self.assertRaisesRegex(Fault, "is no model of a machine[:,] .*--calibrate measures it"):
+            with self.assertRaisesRegex(Fault, "is not a model of a machine: .*--calibrate measures it"):
                 read_machine(self.path)
         with self.assertRaisesRegex(Fault, "No such file.*; spanprof-record --calibrate measures it"):
             read_machine(self.path + ".other")

@@ -46,6 +46,7 @@ class Head:
     beside: int = None
     most_held: int = None
     clocks_differ: dict = field(default_factory=dict)
+    taken_off: dict = field(default_factory=dict)
     slept: dict = field(default_factory=dict)
     untimed: int = 0
     runs: int = None

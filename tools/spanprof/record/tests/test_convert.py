@@ -92,11 +92,11 @@ class Converts(InFolder):
     def test_what_is_no_recording(self):
         wanted = "; a recording is the folder NAME.spanprof that spanprof-record leaves"
         text = self.write("a.tasks", "# a comment\n\nomptasks 1\nwork 1\n")
-        self.assertEqual(self.refused(text), "spanprof-convert: %s: a text already, and no recording: spanprof-report "
+        self.assertEqual(self.refused(text), "spanprof-convert: %s: a program text already: spanprof-report "
                          "makes its page, spanprof-whatif changes it" % text)
         self.write("a.tasks", "x")
-        for path, what in ((text, text + ": no folder"), ("none.spanprof", "none.spanprof: no such folder"),
-                           ("", "'': no such folder"), (self.folder, self.folder + ": a folder without a log in it")):
+        for path, what in ((text, text + ": not a folder"), ("none.spanprof", "none.spanprof: no such folder"),
+                           ("", "'': no such folder"), (self.folder, self.folder + ": there is no log in this folder")):
             self.assertEqual(self.refused(path), "spanprof-convert: " + what + wanted)
 
     def test_arguments_that_exclude_each_other(self):

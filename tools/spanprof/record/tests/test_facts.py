@@ -18,7 +18,8 @@ PROGRAM = Program(5000, [Region(1, 1, 0, 100, 4, 8, 0, 90, 0, "a.c:3"),
 class Usage(unittest.TestCase):
     def test_fields(self):
         self.assertEqual(usage_of(USED), {
-            "user_ns": 1500000000, "system_ns": 250000000, "minor_faults": 410})
+            "user_ns": 1500000000, "system_ns": 250000000, "minor_faults": 410, "voluntary_switches": 12,
+            "involuntary_switches": 7})
 
 
 class Processors(unittest.TestCase):

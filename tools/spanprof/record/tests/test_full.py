@@ -82,13 +82,21 @@ class Full(InFolder):
 
 
 class Costs(unittest.TestCase):
-    def test_by_place_in_nanoseconds(self):
+    @staticmethod
+    def costs(text):
         with tempfile.TemporaryDirectory() as folder:
             path = os.path.join(folder, "mine.tasks")
             with open(path, "w", encoding="utf-8") as file:
-                file.write(TEXT)
-            self.assertEqual(costs_by_place(path)["task at a.c:3"], 50000)
-            self.assertEqual(sum(costs_by_place(path).values()), 57000)
+                file.write(text)
+            return costs_by_place(path)
+
+    def test_by_place_in_nanoseconds(self):
+        found = self.costs(TEXT)
+        self.assertEqual((found["task at a.c:3"], sum(found.values())), (50000, 57000))
+
+    def test_own_code_of_a_thread_has_its_region_as_in_a_diagnosis(self):
+        found = self.costs("omptasks 1\ntaskgroup {  # a.c:3\ntask {  # one of the region's threads\nwork 5\n}\n}\n")
+        self.assertEqual(found["code of one of the region's threads at a.c:3"], 5)
 
 
 class Options(unittest.TestCase):
@@ -97,4 +105,4 @@ class Options(unittest.TestCase):
         for other in (["--scale", "1,4"], ["--runs", "3"]):
             with self.assertRaises(SystemExit), contextlib.redirect_stderr(io.StringIO()) as told:
                 parse(["--full", *other, "--", "./mine"])
-            self.assertIn("--full runs the program as often as it has to", told.getvalue())
+            self.assertIn("--full does not combine", told.getvalue())

@@ -106,7 +106,7 @@ class Choosing(unittest.TestCase):
 
     def test_a_runtime_that_is_asked_for(self):
         self.assertEqual(choose("mine", Linkage(), "/proc/self/exe"), Chosen("/proc/self/exe"))
-        for path, why in (("/no/such/library", "no such file"), (__file__, "no shared library")):
+        for path, why in (("/no/such/library", "no such file"), (__file__, "not a shared library")):
             with self.assertRaisesRegex(Fault, "^--runtime %s: %s$" % (path, why)):
                 choose("mine", Linkage(), path)
 

@@ -38,7 +38,7 @@ class Launched(unittest.TestCase):
     def test_the_program_among_the_words(self):
         self.assertEqual(self.find(["mpirun", "-n", "3", "/bin/env", "/m", "5"], ["/m"]), "/m")
         self.assertEqual(self.find(["mpirun", "-n", "3", "/plain"]), "/plain")
-        with self.assertRaisesRegex(Fault, "mpirun: no program is among its words"):
+        with self.assertRaisesRegex(Fault, "mpirun: none of its arguments is a program"):
             self.find(["mpirun", "-n", "3"])
 
 

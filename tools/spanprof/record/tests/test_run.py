@@ -111,6 +111,11 @@ class Signals(unittest.TestCase):
             signal.raise_signal(signal.SIGTERM)
         kill.assert_not_called()
 
+    def test_one_that_comes_as_the_program_ends(self):
+        with mock.patch("os.kill", side_effect=ProcessLookupError), PassedOn() as passed_on:
+            passed_on.to(7)
+            signal.raise_signal(signal.SIGTERM)
+
     def test_one_that_is_ignored_stays_ignored(self):
         before = signal.signal(signal.SIGHUP, signal.SIG_IGN)
         try:
@@ -147,8 +152,6 @@ class Words(unittest.TestCase):
 
     def test_names(self):
         self.assertEqual(parse(["--", "./build/mine"]).out, "mine")
-        self.assertEqual(parse(["--open", "--", "./mine"]).html, "mine.html")
-        self.assertEqual(parse(["--open", "--html", "p.html", "--", "./mine"]).html, "p.html")
 
     def test_wrong_words(self):
         wrong = ("--unit s", "--unit 0", "--threads 0", "--runs -1", "--fold exact", "--whole",

@@ -15,9 +15,19 @@ from spanprof.record.session import Recorded
 from spanprof.record.told import Told
 from spanprof.recording import Recording, open_recording
 from spanprof.tests.in_folder import InFolder
-from spanprof.tests.recordings import TEXT, write
+from spanprof.tests.recordings import TEXT, recording, write
 
 USED = resource.struct_rusage((1.5, 0.25, 0, 0, 0, 0, 410, 3, 0, 0, 0, 0, 0, 0, 12, 7))
+
+
+class Earlier(InFolder):
+    def test_what_is_compared_with_is_there_and_stays(self):
+        out = os.path.join(self.folder, "mine")
+        recording(self.folder)
+        session.check_earlier(out + ".spanprof", out, False)
+        for path, words in ((out + ".spanprof/", "--force would replace"), ("none", "--against none: no such recor")):
+            with self.assertRaisesRegex(Fault, words):
+                session.check_earlier(path, out, True)
 
 
 class Reasons(unittest.TestCase):
@@ -30,7 +40,7 @@ class Reasons(unittest.TestCase):
                          "the program ended by SIGSEGV; no parallel region with tasks")
         self.assertEqual(self.why(things=[nothing]), "no parallel region with tasks")
         self.assertIn("no OpenMP runtime loaded the recorder", self.why(loaded=False))
-        self.assertIn("says nothing", self.why())
+        self.assertIn("reported no reason", self.why())
 
     def test_the_recorder_comes_before_the_runtime(self):
         self.assertEqual(session.loaded_first(Chosen("/libgomp.so", True), "/r.so"), "/r.so:/libgomp.so")
@@ -160,19 +170,13 @@ class Statuses(unittest.TestCase):
 
 class Pages(unittest.TestCase):
     def page(self, **options):
-        chosen = argparse.Namespace(**dict(dict(html="p.html", open=False), **options))
+        chosen = argparse.Namespace(**dict(dict(html="p.html"), **options))
         command.try_page(chosen, Recording("mine.spanprof/program.tasks", folder="mine.spanprof"))
 
     def test_the_words_of_the_reporter(self):
         with mock.patch("subprocess.run", return_value=mock.Mock(returncode=0)) as run:
             self.page()
         self.assertEqual(run.call_args.args[0][2:], ["mine.spanprof", "-o", "p.html"])
-
-    def test_the_browser(self):
-        done = mock.Mock(returncode=0)
-        with mock.patch("subprocess.run", return_value=done), mock.patch("webbrowser.open") as browser:
-            self.page(open=True)
-        browser.assert_called_once_with("file://" + os.path.abspath("p.html"))
 
     def test_no_page(self):
         """That is told, and the status stays the program's."""

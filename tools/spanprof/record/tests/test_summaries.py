@@ -36,12 +36,11 @@ class Printed(InFolder):
         name = recording.name
         return Answers(name=name, work=self.works.get(name, 100), head=Head(**dict(WHOLE, **self.heads.get(name, {}))))
 
-    def told(self, *folders, things=(), rank=None, machine="/none", **options):
+    def told(self, *folders, things=(), rank=None, **options):
         chosen = argparse.Namespace(**dict(dict(json=None, runs=1, all=True, against=None), **options))
         made = mock.Mock(notes=["a note"], rank=rank, out=os.path.join(self.folder, "mine"), options=chosen,
                          work=argparse.Namespace(name="mine"))
         with mock.patch("spanprof.record.summaries.Answers", side_effect=self.answered), \
-                mock.patch("spanprof.record.summaries.machine_file", return_value=machine), \
                 contextlib.redirect_stderr(io.StringIO()) as told:
             summaries.print_summaries(made, Recorded(0, list(folders), Told(True, list(things))))
         return told.getvalue().splitlines()
@@ -57,7 +56,7 @@ class Printed(InFolder):
                                                 sum_lines=lambda: ["9 % code"]), ""
         folder = recording(self.folder)
         self.assertEqual(self.told(folder, all=False),
-                         ["now: spanprof-report %s, spanprof-record --all" % folder, "a note"])
+                         ["now: spanprof-report %s" % folder, "a note"])
         self.assertEqual(self.told(recording(self.folder))[-1], "losses        9 % code")
         self.diagnosed.return_value = None, "no diagnosis: no program"
         self.assertEqual(self.told(recording(self.folder), all=False)[-1], "              no diagnosis: no program")
@@ -102,11 +101,6 @@ class Printed(InFolder):
         self.assertEqual((told["text"], told["work"], told["scale"]), ("mine.spanprof", 100, None))
         self.assertEqual(told["diagnosis"], [])
 
-    def test_why_nothing_is_predicted(self):
-        with mock.patch("spanprof.record.summaries.texts", side_effect=Fault("no region with tasks")):
-            told = self.told(recording(self.folder), machine=self.write("machine.json"))
-        self.assertEqual(told[-1], "predicted     unavailable: no region with tasks")
-
 
 class Beyond(InFolder):
     """Of a text that only spanprof_large takes."""
@@ -125,7 +119,7 @@ class Beyond(InFolder):
     def test_without_that_program(self):
         told = self.told(False, "spanprof: error: line 9: TooManyTasks")
         self.assertTrue(told[0].startswith("mine.spanprof, the whole program"))
-        self.assertEqual(told[1:], ["remarks       " + HOW, "              a note"])
+        self.assertEqual(told[1:], ["warnings      " + HOW, "              a note"])
 
     def test_another_refusal(self):
         for takes_any_size, fault in ((True, "TooDeep"), (False, "error: out of memory")):

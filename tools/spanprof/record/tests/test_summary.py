@@ -13,18 +13,18 @@ setUpModule = with_a_proved_program
 EXPECTED = """\
 sort.tasks, region at sort.c:48, 4 threads, costs in us of wall time
 covers        97.0 % of the program's thread-time in code (measured)
-tasks         1, in 3 segments (recorded)
+tasks         1; 3 segments (recorded)
 runs          1; --runs 9 measures the variation
-work          100 us: code on 4 threads, added up (measured)
+work          100 us: code of 4 threads (measured)
 span          70 us: lower bound of the run time on any number of threads (proved of the recorded text)
 parallelism   1.43: work / span, the greatest speedup on any number of threads (proved of the recorded text)
-elapsed       40 us on 4 threads: 2.50 of them busy in this code on average (measured)
+elapsed       40 us on 4 threads: 2.50 of them busy on average (measured)
 threads       speedup at most 2: 1.43, 4: 1.43, 8: 1.43, 16: 1.43 (proved of the recorded text)
               speedup at least 2: 1.17, 4: 1.29, 8: 1.36, 16: 1.40 for a greedy schedule; tied tasks can do worse (proved of the recorded text)
 span by place 71.4 % of the span, 50.0 % of the work: after a taskwait (measured)
               28.6 % of the span, 20.0 % of the work: the beginning (measured)
 warnings      none"""
-NOT_OF_ONE = "a longest chain of the recorded text; it was recorded on one thread, and says nothing about more"
+NOT_OF_ONE = "critical path of the recorded text; it was recorded on one thread, and says nothing about more"
 DIVIDED = "on another number of threads its code is divided differently"
 
 
@@ -57,18 +57,18 @@ class Lines(unittest.TestCase):
         head = Head(remarks=[turns], locks=[Lock("critical at a.c:3", 2, 5, 0, "us")], elapsed=None)
         lines = summary(Answers(head=head), news=["mine.2 is not written"])
         self.assertEqual(lines[-3:], ["warnings      chunk with more iterations than pieces: span too high",
-                                      "              lock critical at a.c:3: 2 times, 5 us inside, 0 us waiting",
+                                      "              lock critical at a.c:3: 2 times, 5.00 us inside, 0 ns waiting",
                                       "              mine.2 is not written"])
         self.assertIn("elapsed       unknown", lines)
 
     def test_pieces_of_loops_are_no_tasks_of_the_program(self):
         head = Head(region="", whole="1 region, 2 loops in 80 pieces", pieces=80)
-        self.assertIn("tasks         8, and 80 pieces of loops, and 8 parts of the regions' own code, in 3 segments "
-                      "(recorded)", summary(Answers(tasks=96, parts=8, head=head)))
+        self.assertIn("tasks         8, 80 pieces of loops, 8 implicit tasks; 3 segments (recorded)",
+                      summary(Answers(tasks=96, parts=8, head=head)))
 
     def test_parts_are_no_tasks_of_the_program(self):
         answers = Answers(tasks=179, parts=149)
-        self.assertIn("tasks         30, and 149 parts of the region's own code, in 3 segments (recorded)",
+        self.assertIn("tasks         30, 149 implicit tasks; 3 segments (recorded)",
                       summary(answers))
 
     def test_a_text_without_costs(self):
@@ -78,7 +78,7 @@ class Lines(unittest.TestCase):
         self.assertIn("parallelism   1.00", "\n".join(summary(answers)))
 
     def test_a_unit_that_is_a_number(self):
-        self.assertEqual(lines_of(unit="250 ns")["work"], ["100 x 250 ns: code on 4 threads, added up (measured)"])
+        self.assertEqual(lines_of(unit="250 ns")["work"], ["100 x 250 ns: code of 4 threads (measured)"])
 
     def test_an_account(self):
         lines = summary(Answers(), account=["of 4 x 40 us: 62.5 % in code (measured)", "10.0 % idle"])
@@ -104,14 +104,14 @@ class WhatTheTextIsNot(unittest.TestCase):
 
     def test_one_thread(self):
         lines = lines_of(threads=1)
-        self.assertEqual(lines["work"], ["100 us: code on one thread (measured)"])
+        self.assertEqual(lines["work"], ["100 us: code of one thread (measured)"])
         self.assertEqual(lines["span"], ["70 us: " + NOT_OF_ONE])
         self.assertEqual(lines["threads"], ["it was recorded on one thread, and says nothing about more"])
         self.assertNotIn("proved", lines["parallelism"][0])
 
     def test_divided_code(self):
         lines = lines_of(divided=["loops, 120 times at spmd.c:6"])
-        self.assertEqual(lines["span"], ["70 us: a longest chain of the recorded text; " + DIVIDED])
+        self.assertEqual(lines["span"], ["70 us: critical path of the recorded text; " + DIVIDED])
         self.assertEqual(lines["parallelism"], ["1.43: work / span of the recorded text; " + DIVIDED])
         self.assertTrue(lines["threads"][0].startswith("speedup at most 4: 1.43 "))
         self.assertEqual(lines["threads"][2], DIVIDED)
@@ -144,7 +144,7 @@ class WhatTheTextIsNot(unittest.TestCase):
 
     def test_remarks(self):
         too_high = lines_of(remarks=[remark_of({"remark": "turns together", "span": "high"})])
-        self.assertEqual(too_high["span"][0], "70 us: a longest chain of the recorded text; the program's may be less "
+        self.assertEqual(too_high["span"][0], "70 us: critical path of the recorded text; the program's may be less "
                                               "(warnings)")
         self.assertNotIn("proved", too_high["parallelism"][0] + too_high["threads"][0])
         self.assertEqual(len(too_high["threads"]), 2)
@@ -157,12 +157,12 @@ class WhatTheTextIsNot(unittest.TestCase):
     def test_both_clocks(self):
         told = {"affected": 72, "work": 101, "by": 3000, "times": 9}
         self.assertEqual(lines_of(clocks_differ=told)["both clocks"], [
-            "they differ by more than 5 % in 71.2 % of the work, by 3.00 ms in all (measured)"])
+            "wall and processor time differ by more than 5 % in 71.2 % of the work, by 3.00 ms in all (measured)"])
         self.assertNotIn("both clocks", lines_of())
 
     def test_locks(self):
         lines = lines_of(locks=[Lock("critical at a.c:3", 2, 80, 0)], most_held=80)
-        self.assertEqual(lines["locks"], ["80 us inside the most held one: speedup at most 1.25 (measured)"])
+        self.assertEqual(lines["locks"], ["80 us inside the lock held longest: speedup at most 1.25 (measured)"])
         self.assertEqual(len(lines["threads"]), 1)
         self.assertTrue(lines["threads"][0].startswith("speedup at most 2: 1.25, 4: 1.25"))
         self.assertNotIn("proved", lines["threads"][0])
@@ -170,7 +170,7 @@ class WhatTheTextIsNot(unittest.TestCase):
     def test_a_lock_beside_a_remark(self):
         remark = remark_of({"remark": "preempted", "times": 9, "work": "high", "span": "high"})
         lines = lines_of(locks=[Lock("critical at a.c:3", 2, 80, 0)], most_held=80, remarks=[remark])
-        self.assertEqual(lines["locks"], ["80 us inside the most held one; another run may hold it for less "
+        self.assertEqual(lines["locks"], ["80 us inside the lock held longest; another run may hold it for less "
                                           "(warnings) (measured)"])
         self.assertIn("(of the recorded text; the program's may be more (warnings))", lines["threads"][0])
 

@@ -3,14 +3,14 @@ import os
 import tempfile
 import unittest
 
-from spanprof.account import Account, Row
+from spanprof.account import Account, Row, Rows
 from spanprof.errors import Fault
 from spanprof.record.summary_json import run_json, summary_json, write_json
 from spanprof.record.tests.made_up import Answers
 
 
 def account():
-    return Account(1, 9, 9, 0, 0, 0, rows=[Row(0, 0, 0, 9)], places=["the beginning"])
+    return Account(1, 9, 9, 0, 0, 0, rows=Rows.of([Row(0, 0, 0, 9)]), places=["the beginning"])
 
 
 class Told(unittest.TestCase):
@@ -23,11 +23,10 @@ class Told(unittest.TestCase):
         told = run_json(Answers(), None, "tasks did not run to their ends")
         self.assertEqual((told["account"], told["no account"]), (None, "tasks did not run to their ends"))
 
-    def test_the_diagnosis_and_what_was_measured_and_predicted_besides(self):
-        told = summary_json({"diagnosis": []}, run_json(Answers(), None, ""), None, {"none": "why"})
-        self.assertEqual((told["diagnosis"], told["text"], told["scale"], told["predicted"]),
-                         ([], "sort.tasks", None, {"none": "why"}))
-        self.assertNotIn("diagnosis", summary_json(None, {}, None, None))
+    def test_the_diagnosis_and_what_was_measured_besides(self):
+        told = summary_json({"diagnosis": []}, run_json(Answers(), None, ""), None)
+        self.assertEqual((told["diagnosis"], told["text"], told["scale"]), ([], "sort.tasks", None))
+        self.assertNotIn("diagnosis", summary_json(None, {}, None))
 
     def test_a_file(self):
         with tempfile.TemporaryDirectory() as folder:

@@ -15,7 +15,8 @@ class Changes(unittest.TestCase):
         part = changes_part(SimpleNamespace(diagnosis=told(), name="image.spanprof"))
         words = seen(part)
         self.assertEqual(part.count('class="where change"'), 2)
-        self.assertIn("depend(in: tab[f(0, 1)]) at image.c:9, if the tasks only read it spanprof-whatif image.spanprof "
+        self.assertIn("depend(in: tab[f(0, 1)]) at image.c:9 if only read, or a copy for each "
+                      "spanprof-whatif image.spanprof "
                       "--in-for-inout a0 --threads 4 copy 60.0 ms 40 % 50.0 ms and 70.0 ms", words)
 
     def test_nothing_without_a_diagnosis(self):

@@ -69,7 +69,7 @@ class Command(unittest.TestCase):
 
     def test_refusals(self):
         mesh = worked.path("mesh.tasks")
-        self.assertIn("0 is no whole number from 1 to 1024", self.refused(mesh, "-o", "x", "--threads", "0"))
+        self.assertIn("'0' is not a whole number from 1 to 1024", self.refused(mesh, "-o", "x", "--threads", "0"))
         self.assertIn("are for different files", self.refused(mesh, "-o", "x", "--trace", "./x"))
         self.assertIn("unrecognized arguments: --js", self.refused(mesh, "--js"))
         self.assertEqual(self.refused(""), "spanprof-report: '': no such file\n")

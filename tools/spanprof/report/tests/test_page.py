@@ -84,7 +84,7 @@ class WrongNumbers(unittest.TestCase):
         self.assertEqual(self.faults("<title>mesh", "<title>mesh_14"), [])
 
     def test_a_number_without_a_source(self):
-        faults = self.faults("Slack is the delay that a segment bears.", "Slack is 31.")
+        faults = self.faults("Slack is the delay that a segment can bear.", "Slack is 31.")
         self.assertEqual(len(faults), 1)
         self.assertIn("Slack is 31.", faults[0])
 

@@ -30,9 +30,10 @@ class Screens(unittest.TestCase):
     def test_the_sentence_the_times_the_change_and_the_plan(self):
         shown = words_in(first_screen(told()))
         for words in ("image takes 100 ms on 4 threads.", "100 msnow, on 4 threads", "60.0 msafter the first change",
-                      "50.0 msat best: all threads in code all the time", "38 % lost: 8 tasks of image.c:9 (tone)",
+                      "50.0 msat best: all threads busy all the time", "38 % lost: 8 tasks of image.c:9 (tone)",
                       "Where the time of the 4 threads went",
-                      "Firstdepend(in: tab[f(0, 1)]) at image.c:9, if the tasks only read it 100 ms → 60.0 ms (−40 %)",
+                      "Firstdepend(in: tab[f(0, 1)]) at image.c:9 if only read, or a copy for each 100 ms → "
+                      "60.0 ms (−40 %)",
                       "- #pragma omp task depend(in: b[0]) depend(inout: tab[f(0, 1)])",
                       "Then, on top of itparallelise main (image.c:4-6): loop or tasks 60.0 ms → 40.0 ms (−33 %)",
                       "Not known: whether atomics or shared memory slow it: --full."):

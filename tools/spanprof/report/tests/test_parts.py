@@ -57,7 +57,7 @@ class Numbers(Patched):
 
     def test_a_lock_binds(self):
         words = self.told(most_held=36)
-        self.assertIn("speedup on 2 threads, at most 1.14 proved of the text bound by the most held lock", words)
+        self.assertIn("speedup on 2 threads, at most 1.14 proved of the text bound by the lock held longest", words)
 
     def test_how_much_of_the_program_it_is(self):
         self.assertIn("coverage 80.3 % of the program's thread-time",
@@ -119,7 +119,7 @@ class OfOneProgram(Patched):
 
     def test_no_run(self):
         view = worked.view("plain")
-        self.assertIn("There are no recorded times of its segments. So there is only the greedy schedule to show.",
+        self.assertIn("There are no recorded times of its segments, so only the greedy schedule is shown.",
                       seen(timeline_part(view, 0, [view])))
 
     def test_graph(self):

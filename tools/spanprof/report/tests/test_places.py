@@ -12,8 +12,9 @@ class OfTheWorkedProgram(unittest.TestCase):
         self.view = worked.view("mesh")
 
     def test_sums_by_place(self):
-        found = {place.name: (place.cost, place.critical_cost, place.critical_segments, len(place.segments))
-                 for place in places(self.view.answers)}
+        of = self.view.answers.code.of
+        found = {place.name: (place.cost, place.critical_cost, place.critical_segments,
+                              sum(of.count(kind) for kind in place.kinds)) for place in places(self.view.answers)}
         self.assertEqual(found["task at mesh.c:8"], (12, 12, 1, 1))
         self.assertEqual(found["task at mesh.c:10"], (14, 6, 1, 2))
         self.assertEqual(sum(cost for cost, *_ in found.values()), 41)

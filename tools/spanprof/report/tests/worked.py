@@ -34,9 +34,9 @@ def document(file):
 def pieces_of(ask):
     """What the client reads as it comes, of a program that answers so."""
     def pieces(words, text):
-        lines = ask(words, text).encode().splitlines(True)
-        yield lines[:1]
-        yield lines[1:]
+        first, _, rest = ask(words, text).encode().partition(b"\n")
+        yield first + b"\n"
+        yield rest
     return pieces
 
 

@@ -1,7 +1,6 @@
 import json
 import os
 import unittest
-from unittest import mock
 
 from spanprof.remarks import in_words
 from spanprof.tests.in_folder import InFolder, answered
@@ -22,11 +21,11 @@ esac
 case "$1" in
     span) printf 'tasks %d\\nsegments 8\\nwork %d\\nspan 60\\n' $tasks "$(echo "$text" | grep -c '^task')" ;;
     curve) echo threads,end,least,bound && seq "$3" | sed 's/$/,65,60,68/' ;;
-    greedy) printf 'segment,start,end,thread\\n0,0,66,0\\n1,0,5,\\n' ;;
+    greedy) printf 'segment,start,end,thread\\n0,0,65,0\\n1,0,5,\\n' ;;
     --upto) printf 'threads,least,bound\\n2,60,68\\n8,60,61\\n' ;;
 esac
 """
-LITTLE_MEMORY = PROGRAM.replace("printf 'segment,", "echo 'error: out of memory'; exit 1; printf 'segment,")
+LITTLE_MEMORY = PROGRAM.replace("curve)", "curve) echo 'error: out of memory'; exit 1 ;;\n    never)")
 
 
 class Commands(InFolder):
@@ -77,7 +76,7 @@ proved of the text, and of the changed text: spanprof has read both
         self.text = self.write("mine.tasks", SORT + "task { # toolong\n}\n")
         status, out, _ = self.told("--cutoff", "1")
         self.assertEqual(status, 0)
-        self.assertIn("2 threads, end                         66                 66    +0.0 %\n", out)
+        self.assertIn("2 threads, end                         65                 65    +0.0 %\n", out)
 
     def test_a_text_whose_table_is_too_large_for_the_memory(self):
         self.text = self.write("mine.tasks", SORT + "task { # toolong\n}\n")
@@ -87,7 +86,7 @@ proved of the text, and of the changed text: spanprof has read both
         self.assertNotIn("end  ", out)
         self.assertIn("2 threads, bound                       68                 68", out)
         self.variables["SPANPROF_LARGE"] = self.program("large", LITTLE_MEMORY.replace("out of memory", "BadWord"))
-        self.assertEqual(self.told("--cutoff", "1")[2], "spanprof-whatif: spanprof greedy: error: BadWord\n")
+        self.assertEqual(self.told("--cutoff", "1")[2], "spanprof-whatif: spanprof curve: error: BadWord\n")
         self.assertTrue(out.endswith("spanprof has read both; there was too little memory for a greedy schedule\n"))
 
     def test_a_place_list(self):
@@ -95,7 +94,7 @@ proved of the text, and of the changed text: spanprof has read both
 
     def test_faults(self):
         for words, told in ((["--drop-wait", "x"], "--drop-wait x: no taskwait or taskgroup of this name"),
-                            (["--cutoff", "7"], "nothing is changed by it: 0 tasks left out"),
+                            (["--cutoff", "7"], "this changes nothing: 0 tasks left out"),
                             (["--cutoff", "1", "-o", self.text], "would be written over the text"),
                             (["--cutoff", "1", "-o", "/nowhere/x"], "spanprof-whatif: /nowhere/x: No such file")):
             status, out, errors = self.told(*words)
@@ -106,7 +105,7 @@ proved of the text, and of the changed text: spanprof has read both
         self.text = self.write("mine.tasks", "omptasks 1 refused")
         status, out, errors = self.told("--cutoff", "1")
         self.assertEqual((status, out), (1, ""))
-        self.assertIn("mine.tasks:1:12: BadWord: `refused` cannot stand here\n", errors)
+        self.assertIn("mine.tasks:1:12: BadWord: unexpected `refused`\n", errors)
         self.assertTrue(errors.endswith("spanprof span: error: line 1: BadWord\n"))
         self.text = os.path.join(self.folder, "none")
         self.assertEqual(self.told("--places")[2], "spanprof-whatif: %s: no such file\n" % self.text)
@@ -115,31 +114,6 @@ proved of the text, and of the changed text: spanprof has read both
         self.variables["SPANPROF_LARGE"] = "/nowhere/spanprof"
         self.assertIn("/nowhere/spanprof: No such file or directory; README.md says", self.told("--places")[2])
 
-    def test_advice(self):
-        status, out, errors = self.told("--advise", "--threads", "4")
-        self.assertEqual((status, errors), (0, ""))
-        self.assertIn("the greedy schedule of the text ends at 65 on 4 threads, at 65 on 16, in us; with one change:",
-                      out)
-        self.assertIn("as soon on 4 threads, to a thousandth:", out)
-        self.assertIn("proved of the text, and of each changed text", out)
-        told = json.loads(self.told("--advise", "--json")[1])
-        self.assertEqual({one["option"] for one in told["changes"]},
-                         {"factor", "drop-wait", "split", "task", "join", "cutoff"})
-
-    def test_advice_on_a_long_text(self):
-        self.text = self.write("mine.tasks", SORT + "task { # toolong\n}\n")
-        status, out, errors = self.told("--advise")
-        self.assertEqual((status, errors), (0, ""))
-        self.assertIn("the greedy schedule of the text ends at 66 on 2 threads, at 66 on 8, in us", out)
-        with mock.patch("spanprof.whatif.trials.LEAST_SECONDS", -1):
-            out = self.told("--advise")[1]
-        self.assertRegex(out, "left out: [0-9]+ more changes, for want of time: spanprof-whatif tries each")
-
-    def test_advice_without_memory_for_a_greedy_run(self):
-        self.text = self.write("mine.tasks", SORT + "task { # toolong\n}\n")
-        self.variables["SPANPROF_LARGE"] = self.program("large", LITTLE_MEMORY)
-        self.assertIn("there is too little memory for a greedy schedule of the text", self.told("--advise")[2])
-
     def test_a_program_that_tells_no_table(self):
         self.text = self.write("mine.tasks", SORT + "task { # toolong\n}\n")
         script = "#!/bin/sh\necho work 3\necho segments 20000\necho span 1\n"
@@ -147,7 +121,7 @@ proved of the text, and of the changed text: spanprof has read both
         self.assertEqual(self.told("--cutoff", "1")[2], "spanprof-whatif: no bounds are known on 2 threads\n")
 
     def test_wrong_words(self):
-        for words in ([], ["--advise", "--cutoff", "1"], ["--threads", "0", "--places"],
+        for words in ([], ["--threads", "0", "--places"],
                       ["--creating", "x", "--places"]):
             self.assertEqual(self.told(*words)[0], 2)
 

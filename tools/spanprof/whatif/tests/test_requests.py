@@ -48,11 +48,11 @@ class Made(unittest.TestCase):
     def test_refusals(self):
         for option, word, told in (("factor", "begin=x", "--factor x: the factor is not a number"),
                                    ("factor", "begin=-1", "a factor is from 0"),
-                                   ("factor", "begin", "--factor begin: a place, `=` and a number"),
+                                   ("factor", "begin", "--factor begin: expected PLACE=NUMBER"),
                                    ("factor", "x=1", "no piece of code"),
-                                   ("split", "begin=1", "--split 1 is no whole number from 2"),
-                                   ("join", "sort.c:9=", "--join nothing is no whole number"),
-                                   ("cutoff", "0", "no whole number from 1"),
+                                   ("split", "begin=1", "--split '1' is not a whole number from 2"),
+                                   ("join", "sort.c:9=", "--join '' is not a whole number"),
+                                   ("cutoff", "0", "'0' is not a whole number from 1"),
                                    ("drop-depend", "sort", "no task with depend items"),
                                    ("drop-name", "a", "no depend item")):
             with self.assertRaisesRegex(Fault, told):

@@ -66,7 +66,7 @@ returns-in-Plain-clause-refused c =
     fault_plain text fault (not_two text self.plain plain) (refused some text plain.taken))
     c.whole.ensures.refused
 
-pub returns-clause-refused : goal.returns-clause-refused
-returns-clause-refused c = λ some text taken.
+pub returns-in-TooLong-clause-refused : goal.returns-in-TooLong-clause-refused
+returns-in-TooLong-clause-refused c = λ some text taken.
     let self = c.args.self in
     long_fault text self.head.items self.stage self.plain c.in-TooLong.is taken.taken
