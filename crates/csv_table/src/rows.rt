@@ -5,13 +5,14 @@ ghost use Rattle.counted_io.specs.Parts.{PutsText, WritesText};
 ghost use Rattle.csv_table.specs.Tables.{numbered_table};
 
 use crate::lines::put_row;
+use crate::table::Table;
 use counted_io::{Counted, Pending, WriteFailed};
 use std::alloc::{AllocError, Global};
 use std::io::Write;
 
 /// A table with a row for each number from 0 up, in so many columns.
 pub trait Rows<const COLUMNS: usize> {
-    ghost use Rattle.std.specs.Prelude.{ℕ, List, Option, ◌≡◌, ◌+◌, ◌*◌, ◌<◌, ◌^◌};
+    ghost use Rattle.std.specs.Prelude.{ℕ, List, Option, ◌≡◌, ◌+◌, ◌*◌, ◌<◌, ◌≤◌, ◌^◌};
     ghost use Rattle.csv_table.specs.Row.{line_of};
 
     /// The names of the columns.
@@ -41,6 +42,8 @@ pub trait Rows<const COLUMNS: usize> {
     ghost begins: { (rows : Self) → stands_at rows 0 0 };
 
     ghost fits: { COLUMNS * 16 < 2 ^ 63 };
+
+    ghost several: { 2 ≤ COLUMNS };
 }
 
 /// Writes the names of the columns and the rows in their order, and then flushes once, as
@@ -61,7 +64,7 @@ pub fn write_rows<const COLUMNS: usize, R: Rows<COLUMNS>, W: Write>(
     }
 }
 
-/// The names of the columns and the rows in their order, in memory.
+/// The names of the columns and the rows in their order, in memory, as `csv` writes them.
 pub fn text_of_rows<const COLUMNS: usize, R: Rows<COLUMNS>>(
     alloc: Global,
     rows: &R,
@@ -69,12 +72,14 @@ pub fn text_of_rows<const COLUMNS: usize, R: Rows<COLUMNS>>(
     ensures { IfOk result (λ text. text.items
         ≡ numbered_table R.names (R.fields rows.now) 0 (R.count rows.now)) }
 {
-    let mut writer = Counted::new(Vec::new(alloc));
-    let mut retries = 0;
-    match write_rows(rows, &mut writer, &mut retries) {
-        Ok(()) => Ok(writer.into_inner()),
-        Err(_) => Err(AllocError),
+    let mut table = Table::of_header(alloc, rows.header())?;
+    let mut place = 0;
+    for number in 0..rows.count() {
+        let (fields, next) = rows.row(number, place);
+        table = table.with_row(&fields)?;
+        place = next;
     }
+    table.into_text()
 }
 
 /// Puts the names of the columns and the rows in their order behind a text.

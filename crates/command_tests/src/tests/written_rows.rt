@@ -47,6 +47,8 @@ impl Rows<2> for Numbers {
     ghost begins = { λ numbers. tt };
 
     ghost fits = { Prim.search rules };
+
+    ghost several = { Prim.search rules };
 }
 
 fn text_of(alloc: Global, count: u32) -> Result<String, Fail> {
