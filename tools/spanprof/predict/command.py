@@ -48,7 +48,7 @@ def remark(one):
 
 def answer(chosen):
     several = [text_of(word, CONSOLE.tell) for word in chosen.texts]
-    for path, _ in several:
+    for path, *_ in several:
         check_files(path, chosen.output, "burdened text")
     recordings, machine = by_threads(several), read_machine(machine_file())
     found = predictions(recordings, machine, chosen.threads, chosen.runtime)

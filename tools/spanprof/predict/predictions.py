@@ -15,11 +15,11 @@ SLOW = 1.15     # times as long as the quickest recording on as many threads
 
 
 def text_of(path, tell=lambda words: None):
-    """A text; or of a recording that of its region with the most code. And the runtime, which a text does not tell."""
+    """A text, or of a recording that of its region with the most code; the name; the runtime, which no text tells."""
     if not folder_of(path):
-        return path, LLVM
-    recording = open_recording(path)
-    return region_text(recording, tell=tell), (recording.meta.get("runtime") or {}).get("name", LLVM)
+        return path, path, LLVM
+    one = open_recording(path)
+    return region_text(one, tell=tell), one.name, (one.meta.get("runtime") or {}).get("name", LLVM)
 
 
 def undisturbed(several):

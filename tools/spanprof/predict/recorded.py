@@ -106,9 +106,9 @@ def take_times(one, timed):
         one.arrivals, one.dispatch = times.arrivals(), times.dispatch()
 
 
-def recorded(path, runtime=LLVM):
+def recorded(path, name="", runtime=LLVM):
     """That of a file, with the times beside it where they are there."""
-    one, timed = recorded_as(client.read(path), path), beside(path, ".timed")
+    one, timed = recorded_as(client.read(path), name or path), beside(path, ".timed")
     one.runtime = runtime
     if timed:
         take_times(one, lines_after_the_divider(timed))
