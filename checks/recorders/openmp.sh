@@ -1,6 +1,6 @@
 #!/usr/bin/env bash
-# Records real OpenMP programs: builds the recorder and examples/openmp, runs each program on 1, 2 and 4 threads, and
-# has spanprof_large accept every recorded run of a region whole. Segments are compared with counts by hand; a span and
+# Records real OpenMP programs: builds the recorder and examples/openmp, runs each program on 1, 2 and 4 threads, on
+# LLVM's runtime and on gcc's, and has spanprof_large accept every recorded run of a region whole. Segments are compared with counts by hand; a span and
 # spanprof-convert on a large recording are tried too. Build spanprof first. Another program than crates/spanprof/out/spanprof may be named.
 set -euo pipefail
 cd "$(dirname "$0")/../.."
@@ -14,7 +14,7 @@ needs_llvm
 folder=$(mktemp -d)
 trap 'rm -rf "$folder"' EXIT
 make -s -C tools/openmp_recorder LLVM="$llvm"
-export OMP_TOOL_LIBRARIES=$PWD/tools/openmp_recorder/librecorder.so
+recorder=$PWD/tools/openmp_recorder/librecorder.so
 export OMP_NUM_THREADS SPANPROF_OUT=$folder/out
 export SPANPROF_PARTS=none SPANPROF_TIMES=1  # the counts by hand are of tasks alone
 wrong=0
@@ -25,12 +25,11 @@ fail() { # WHAT: tells it, with the last that the recorder said
 }
 
 compile() { # SOURCE: to a program of the folder
-    "clang-$llvm" -O2 -g -fopenmp -fopenmp-version=51 "$1" -o "$folder/$(basename "$1" .c)" -lm \
-        "${llvm_flags[@]}"
+    "${compiler[@]}" -O2 -g -fopenmp "$1" -o "$folder/$(basename "$1" .c)" -lm "${flags[@]}"
 }
 record() { # NAME WORD ..: runs a program of the folder
     rm -rf "$folder"/out.* "$folder"/part.*
-    "$folder/$1" "${@:2}" > "$folder/printed" 2> "$folder/told" || fail "$* fails on $OMP_NUM_THREADS threads"
+    env "$loaded=$recorder" "$folder/$1" "${@:2}" > "$folder/printed" 2> "$folder/told" || fail "$* fails on $OMP_NUM_THREADS threads"
     checks/llvm/texts.py "$folder/out" 2>> "$folder/told" || fail "$*: its log is not converted"
 }
 number() { # WORD: the number after it in what `span` prints
@@ -44,30 +43,39 @@ expect_whole() { # WHAT: the run has each segment's start and finish, and is leg
 
 # Each program with its words, and by hand, for two threads or more: the tasks that it makes, and the waits and ends of
 # groups that it meets; `-` where that depends on the run.
-while read -r name tasks waits words; do
-    compile "examples/openmp/$name.c"
-    for threads in 1 2 4; do
-        OMP_NUM_THREADS=$threads
-        # shellcheck disable=SC2086
-        record "$name" $words
-        expect_whole "$name on $threads threads"
-        [ "$tasks" = - ] && continue
-        expected=$((1 + 2 * tasks + waits))
-        [ "$(number segments)" = $expected ] || fail "$name: $(number segments) segments, and not $expected"
-    done
-    echo "$name"
-done <<'PROGRAMS'
-cholesky 20 0 4
-fibonacci 24 12 24 20
-merge_sort - - 60000
-merge_sort_split - - 60000
-n_queens 6 1 6 1
-sparse_lu - - 6
-strassen 7 1 128
-taskloop 8 1 20000 8
-wavefront 384 6
-wavefront_overlapped 384 0
+try_programs() {
+    while read -r name tasks waits words; do
+        compile "examples/openmp/$name.c"
+        for threads in 1 2 4; do
+            OMP_NUM_THREADS=$threads
+            # shellcheck disable=SC2086
+            record "$name" $words
+            expect_whole "$name on $threads threads"
+            [ "$tasks" = - ] && continue
+            expected=$((1 + 2 * tasks + waits))
+            [ "$(number segments)" = $expected ] || fail "$name: $(number segments) segments, and not $expected"
+        done
+        echo "$name"
+    done <<'PROGRAMS'
+    cholesky 20 0 4
+    fibonacci 24 12 24 20
+    merge_sort - - 60000
+    merge_sort_split - - 60000
+    n_queens 6 1 6 1
+    sparse_lu - - 6
+    strassen 7 1 128
+    taskloop 8 1 20000 8
+    wavefront 384 6
+    wavefront_overlapped 384 0
 PROGRAMS
+}
+
+for runtime in gcc "LLVM $llvm"; do
+    echo "$runtime"
+    compiler=(gcc) flags=() loaded=LD_PRELOAD
+    [ "$runtime" = gcc ] || compiler=("clang-$llvm" -fopenmp-version=51) flags=("${llvm_flags[@]}") loaded=OMP_TOOL_LIBRARIES
+    try_programs
+done
 
 # A span by hand: ten links of one chain that each wait 2 ms, beside ten tasks of 1 ms.
 cat > "$folder/chain.c" <<'C'

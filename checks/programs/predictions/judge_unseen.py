@@ -17,8 +17,9 @@ from unseen import UNSEEN
 from spanprof.predict.estimate import estimate
 from spanprof.predict.machine import read_machine
 from spanprof.predict.predictions import undisturbed
-from spanprof.predict.recorded import lines_after_the_divider, recorded_as, take_times
+from spanprof.predict.recorded import GNU, LLVM, lines_after_the_divider, recorded_as, take_times
 
+RUNTIME = os.environ.get("RUNTIME", LLVM)
 COVERED, WORST = 0.9, 0.20
 FEWEST = 5      # quiet turns, of which alone the times are taken
 TOGETHER = 5    # recordings on each number of threads
@@ -36,7 +37,7 @@ class Kind(NamedTuple):
 
 
 KINDS = (Kind("4 from 4", Case((4,), 4, 0.05, 0.15)), Kind("4 from 1 and 2", Case((1, 2), 4, 0.08, 0.20)),
-         Kind("changed, 4 from 4", Case((4,), 4, 0.05, 0.20, True)))
+         Kind("changed, 4 from 4", Case((4,), 4, 0.05, 0.20, True)))[:1 if RUNTIME == GNU else None]
 
 
 class Measured(NamedTuple):
@@ -71,6 +72,7 @@ def rows(path):
 def read_recording(path):
     one = recorded_as(path.read_text(encoding="utf-8"), path.name)
     take_times(one, lines_after_the_divider(path.with_suffix(".timed")))
+    one.runtime = RUNTIME
     return one
 
 

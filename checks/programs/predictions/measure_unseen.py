@@ -6,10 +6,11 @@
     measure_unseen.py texts FOLDER              makes texts of the recordings that have none yet
     measure_unseen.py judge FOLDER              judges by all turns of the folder
     measure_unseen.py all FOLDER [TURNS]        one after the other
-A turn runs each program on 1 to 4 threads, before and after its change, and records it before the change on 1, 2 and 4.
-The folder keeps everything: the programs, turns.csv, watched.csv, the logs and their texts. The runtime's costs are
-those of SPANPROF_MACHINE, or measured first, for which SPANPROF has to be there. A turn that is cut short does not
-count. Only `turns` needs the machine for itself.
+A turn runs each program on 1 to 4 threads, before and after its change, and records it before the change on 1, 2 and 4;
+with RUNTIME=gnu, by gcc and on its runtime, it runs and records each before its change on 4 alone. The folder keeps
+everything: the programs, turns.csv, watched.csv, the logs and their texts. The runtime's costs are those of
+SPANPROF_MACHINE, or measured first, for which SPANPROF has to be there. A turn that is cut short does not count. Only
+`turns` needs the machine for itself.
 """
 import csv
 import os
@@ -23,13 +24,13 @@ from quiet import Watch, going_first
 from runs import TOP, build_clock, compiled, convert, record_all, recordings, region_time
 from unseen import UNSEEN
 
-sys.path.insert(0, str(TOP / "checks" / "llvm"))
-
+from recording import ON_GCC    # of checks/llvm, which `runs` has found
 from versions import asked
 
 VERSION = os.environ.get("LLVM", "16")
-TURNS, THREADS, RECORDED = 12, (4, 3, 2, 1), (4, 2, 1)
-BEFORE, AFTER = VERSIONS = ("before", "after")
+TURNS, THREADS, RECORDED = (40, (4,), (4,)) if ON_GCC else (12, (4, 3, 2, 1), (4, 2, 1))
+BEFORE, AFTER = "before", "after"
+VERSIONS = (BEFORE,) if ON_GCC else (BEFORE, AFTER)
 TIMES, WATCHED = "turns.csv", "watched.csv"
 NAMES = {TIMES: ("program", "version", "threads", "turn", "nanoseconds", "gave_way"),
          WATCHED: ("turn", "stolen", "others", "load")}
@@ -61,7 +62,7 @@ def calibrate(folder):
 def build(folder):
     folder.mkdir(parents=True, exist_ok=True)
     build_clock(folder)
-    words = llvm().compiler()
+    words = ["gcc"] if ON_GCC else llvm().compiler()
     todo = [(one, version) for one in UNSEEN for version in VERSIONS]
     with ThreadPoolExecutor(len(os.sched_getaffinity(0))) as pool:
         list(pool.map(lambda pair: compiled(words, *pair, program_of(folder, *pair), ["-lm"]), todo))

@@ -1,4 +1,4 @@
-"""Runs of a program without the recorder, and recordings of it by the wall clock, on threads that are bound."""
+"""Runs of a program without the recorder, and recordings of it, on threads that are bound."""
 import os
 import pathlib
 import shutil
@@ -8,7 +8,7 @@ import sys
 TOP = pathlib.Path(__file__).resolve().parents[3]
 HERE = TOP / "checks" / "programs" / "predictions"
 sys.path.append(str(TOP / "checks" / "llvm"))
-from recording import log_of, made_texts  # noqa: E402
+from recording import LOADED, log_of, made_texts  # noqa: E402
 
 OPTIONS = ("-O2", "-g", "-fopenmp", "-fno-optimize-sibling-calls")
 
@@ -48,9 +48,8 @@ def region_time(folder, program, threads):
 
 def record(folder, program, out, threads):
     shutil.rmtree(log_of(str(folder / out)).removesuffix("/log"), ignore_errors=True)
-    subprocess.run([str(program)], stdout=subprocess.DEVNULL, check=True, env=variables(
-        threads, OMP_TOOL_LIBRARIES=str(TOP / "tools" / "openmp_recorder" / "librecorder.so"), SPANPROF_QUIET="1",
-        SPANPROF_CLOCK="wall", SPANPROF_OUT=str(folder / out)))
+    subprocess.run([str(program)], stdout=subprocess.DEVNULL, check=True,
+                   env=variables(threads, SPANPROF_QUIET="1", SPANPROF_OUT=str(folder / out), **LOADED))
 
 
 def record_all(folder, several):

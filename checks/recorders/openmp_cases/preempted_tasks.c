@@ -4,21 +4,4 @@
 // expect: work <= 50000000
 // expect: off the processor >= 20000000
 // text: "clock": "own"
-#define _GNU_SOURCE
-#include <sched.h>
-
-#include "spend.h"
-
-int main(void) {
-    cpu_set_t only;
-    CPU_ZERO(&only);
-    CPU_SET(sched_getcpu(), &only);
-    sched_setaffinity(0, sizeof only, &only);
-#pragma omp parallel
-#pragma omp single
-    for (int i = 0; i < 8; i++) {
-#pragma omp task
-        spend(5);
-    }
-    return 0;
-}
+#include "more_threads_than_processors.c"

@@ -64,7 +64,7 @@ bool Reader::has_turns_apart(ImplicitTask &own) {
   if (cost) piece->steps.push_back(Step::work(cost));
   run.whole->off.move(own.off, *chunk, *piece, 0);
   if (run.whole->has_events) run.whole->events[piece->started].at = run.whole->events[chunk->started].at;
-  own.turns->since = r->wall - cost;
+  own.turns->since = own.since;
   return true;
 }
 

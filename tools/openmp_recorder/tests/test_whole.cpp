@@ -370,6 +370,20 @@ TEST(turns_that_wait_for_each_other_are_tasks_with_depend) {
   EXPECT_PART(times, "\n11 1 5100 9100\n");
 }
 
+// The second thread was off its processor for most of the time: it does not look as if it had come late and not waited.
+TEST(the_first_wait_of_a_thread_begins_with_its_chunk) {
+  Program made(2);
+  auto turn = [](uint64_t number, ompt_dependence_type_t type) { return std::vector<DependItem>{item(type, number)}; };
+  for (unsigned thread : {0, 1}) made.add(thread, Told::Divided, 2, 1, 0, 50).add(thread, Told::Chunk, 1);
+  made.after(5 * us).depend(0, 0, turn(0, ompt_dependence_type_source));
+  made.after(40 * us).stood_still(41 * us).depend(1, 0, turn(0, ompt_dependence_type_sink));
+  made.after(4 * us).depend(1, 0, turn(1, ompt_dependence_type_source));
+  for (unsigned thread : {0, 1}) made.add(thread, Told::DividedEnd, 0, 1);
+  end_region(made, 2);
+  made.whole();
+  EXPECT(made.found.whole->remarks[Remark::WaitsForTurns].times, 1u);
+}
+
 TEST(a_turn_in_order_ends_where_the_next_begins_though_it_is_told_later) {
   Program made(2);
   for (unsigned thread : {0, 1}) made.add(thread, Told::Divided, 2, 1, 0, 50).add(thread, Told::Chunk, 1);

@@ -4,9 +4,9 @@ import json
 
 from spanprof.command import Console, check_files, count, end_with, naming
 from spanprof.predict.burden import burdened_text
-from spanprof.predict.estimate import LLVM, RUNTIMES
 from spanprof.predict.machine import machine_file, read_machine
 from spanprof.predict.predictions import by_threads, predictions, text_of
+from spanprof.predict.recorded import RUNTIMES
 from spanprof.predict.words import as_json, burden_words, lines
 from spanprof.remarks import in_json
 from spanprof.version import Version
@@ -33,7 +33,7 @@ def parse(words):
         help="recordings (of each, its region with the most code is predicted) or texts of a region")
     add("--threads", type=numbers, metavar="P,..",
         help="predict for these numbers of threads (default: as many as were recorded, and twice as many)")
-    add("--runtime", choices=RUNTIMES, default=LLVM, help="the runtime to simulate: llvm (default), or gnu, gcc's")
+    add("--runtime", choices=RUNTIMES, help="the runtime to simulate: llvm, or gnu, gcc's (default: as recorded)")
     add("-o", "--output", metavar="BURDENED.tasks",
         help="write the burdened text of the last number of threads to this file")
     add("--json", action="store_true", help="print JSON")
@@ -47,10 +47,10 @@ def remark(one):
 
 
 def answer(chosen):
-    paths = [text_of(word, CONSOLE.tell) for word in chosen.texts]
-    for path in paths:
+    several = [text_of(word, CONSOLE.tell) for word in chosen.texts]
+    for path, *_ in several:
         check_files(path, chosen.output, "burdened text")
-    recordings, machine = by_threads(paths), read_machine(machine_file())
+    recordings, machine = by_threads(several), read_machine(machine_file())
     found = predictions(recordings, machine, chosen.threads, chosen.runtime)
     if chosen.output:
         one = found[-1][0]

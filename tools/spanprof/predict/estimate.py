@@ -11,10 +11,9 @@ from spanprof.predict.gnu import GnuSimulation
 from spanprof.predict.growth import Growth
 from spanprof.predict.interval import ALONE, AS_RECORDED, CHANGED, ON_OTHERS, spread, width
 from spanprof.predict.policy import Simulation, Spent
-from spanprof.predict.recorded import Recorded
+from spanprof.predict.recorded import GNU, LLVM, Recorded
 from spanprof.predict.times import on_threads
 
-RUNTIMES = LLVM, GNU = "llvm", "gnu"
 RUNS = 3            # simulations, which differ in whom a thread steals from
 
 
@@ -79,12 +78,13 @@ def dispatch_on(machine, threads, base=None):
 
 
 def runs_of(runtime, base, machine, threads):
-    """How a run is simulated, what a dispatch takes, what else is spent, and when the threads come. What is recorded is
-    a run with LLVM's runtime; gcc's takes its lock, and how its threads come is not known."""
+    """How a run is simulated, what a dispatch takes, what else is spent, and when the threads come, which no other
+    runtime tells. gcc's runtime takes its lock in place of a dispatch."""
     spent = spent_on(machine, threads, base)
+    came = on_threads(base.arrivals, base.threads, threads) if runtime == base.runtime else ()
     if runtime == GNU:
-        return GnuSimulation, 0, Spent(0, spent.wake), ()
-    return Simulation, dispatch_on(machine, threads, base), spent, on_threads(base.arrivals, base.threads, threads)
+        return GnuSimulation, 0, Spent(0, spent.wake), came
+    return Simulation, dispatch_on(machine, threads, base), spent, came
 
 
 def of_one(base, growth, machine, threads, runtime, seeds):
@@ -100,10 +100,11 @@ def of_one(base, growth, machine, threads, runtime, seeds):
                     growth.unmatched if growth else 0.0, runtime)
 
 
-def estimate(recordings, machine, threads, runtime=LLVM):
-    """The median by several recordings, which stand in lists by their number of threads."""
+def estimate(recordings, machine, threads, runtime=None):
+    """The median by several recordings, which stand in lists by their number of threads; on the runtime on which they
+    were made, or on this one."""
     bases, growth = base_of(recordings, threads)
-    runs = -(-RUNS // len(bases))
+    runtime, runs = runtime or bases[0].runtime, -(-RUNS // len(bases))
     found = sorted((of_one(base, growth, machine, threads, runtime, range(runs * i, runs * (i + 1)))
                     for i, base in enumerate(bases)), key=lambda one: one.time)
     middle, fewest = found[(len(found) - 1) // 2], min(map(len, recordings.values())) if growth else len(found)

@@ -5,9 +5,9 @@ from spanprof import client
 from spanprof.converting import region_text
 from spanprof.errors import Fault
 from spanprof.predict.burden import burdened_text
-from spanprof.predict.estimate import LLVM, estimate
+from spanprof.predict.estimate import estimate
 from spanprof.predict.machine import machine_file, read_machine
-from spanprof.predict.recorded import recorded, with_text
+from spanprof.predict.recorded import LLVM, recorded, with_text
 from spanprof.predict.words import changed_json, changed_words
 from spanprof.recording import folder_of, open_recording
 
@@ -15,8 +15,11 @@ SLOW = 1.15     # times as long as the quickest recording on as many threads
 
 
 def text_of(path, tell=lambda words: None):
-    """A text; or of a recording that of its region with the most code."""
-    return region_text(open_recording(path), tell=tell) if folder_of(path) else path
+    """A text, or of a recording that of its region with the most code; the name; the runtime, which no text tells."""
+    if not folder_of(path):
+        return path, path, LLVM
+    one = open_recording(path)
+    return region_text(one, tell=tell), one.name, (one.meta.get("runtime") or {}).get("name", LLVM)
 
 
 def undisturbed(several):
@@ -25,10 +28,10 @@ def undisturbed(several):
     return [one for one in several if one.elapsed <= SLOW * quickest or not quickest]
 
 
-def by_threads(paths):
-    """The recordings of one region by their numbers of threads, but for slow ones."""
+def by_threads(several):
+    """The recordings of one region, by what `text_of` tells, by their numbers of threads, but for slow ones."""
     found = {}
-    for one in map(recorded, paths):
+    for one in (recorded(*each) for each in several):
         found.setdefault(one.threads, []).append(one)
     places = {one.head.region for several in found.values() for one in several}
     if len(places) > 1:
@@ -42,7 +45,7 @@ def least_end(text, costs, threads):
     return max(numbers["span"], -(-numbers["work"] // threads))
 
 
-def predictions(recordings, machine, numbers=None, runtime=LLVM):
+def predictions(recordings, machine, numbers=None, runtime=None):
     """Pairs of an estimate and its least end; without numbers, on as many threads as recorded and on twice as many."""
     most = max(recordings)
     found = [estimate(recordings, machine, threads, runtime) for threads in numbers or [most, 2 * most]]
@@ -63,7 +66,7 @@ def of_both(path, change, threads):
     """Pairs as above of a recording's text, and of what `change` makes of it; None without a model."""
     if not os.path.exists(machine_file()):
         return None
-    machine, base = read_machine(machine_file()), recorded(text_of(path))
+    machine, base = read_machine(machine_file()), recorded(*text_of(path))
     return [of_changed(base, one, machine, threads) for one in (unchanged, change)]
 
 

@@ -14,6 +14,8 @@ from spanprof.predict.times import rows_of, times_of
 from spanprof.segment_table import read_code
 from spanprof.text import DIVIDER, has_loops
 
+RUNTIMES = LLVM, GNU = "llvm", "gnu"
+
 
 @dataclass
 class Recorded:
@@ -32,6 +34,7 @@ class Recorded:
     dispatch: Optional[int] = None  # what it took to begin a task, where the times tell it
     preempted: int = 0      # what other programs took
     is_changed: bool = False    # the text is that of a changed program
+    runtime: str = LLVM         # on which it was recorded
 
     @property
     def work(self):
@@ -103,9 +106,10 @@ def take_times(one, timed):
         one.arrivals, one.dispatch = times.arrivals(), times.dispatch()
 
 
-def recorded(path):
+def recorded(path, name="", runtime=LLVM):
     """That of a file, with the times beside it where they are there."""
-    one, timed = recorded_as(client.read(path), path), beside(path, ".timed")
+    one, timed = recorded_as(client.read(path), name or path), beside(path, ".timed")
+    one.runtime = runtime
     if timed:
         take_times(one, lines_after_the_divider(timed))
     return one

@@ -2,8 +2,8 @@
 from math import exp
 
 from spanprof.account_words import lasting
-from spanprof.predict.estimate import GNU, LLVM
 from spanprof.predict.gnu import LOCK
+from spanprof.predict.recorded import GNU, LLVM
 from spanprof.proof import proved
 
 MODEL = "predicted: by a model of LLVM's scheduling, not proved; its intervals held in three of four cases of 14 " \
@@ -99,7 +99,7 @@ def time_json(one, least):
 
 
 def changed_json(threads, before, after):
-    return {"threads": threads, "unit": "ns", "model": MODEL, "text": time_json(*before),
+    return {"threads": threads, "unit": "ns", "model": model([before]), "text": time_json(*before),
             "changed text": time_json(*after)}
 
 

@@ -75,82 +75,59 @@ void end_divided() {
   on_work(own.divided, ompt_scope_end, nullptr, own.task, 0, nullptr);
 }
 
-#define START(name)                                                                    \
-  ENTRY bool name(long from, long to, long step, long chunk, long *first, long *end) { \
-    ENTER(name, from, to, step, chunk, first, end);                                    \
-    begin_loop(from, to, step, PLACE);                                                 \
-    return got(own_##name(from, to, step, chunk, first, end), first, end);             \
+// Of an unsigned loop the runtime is told first whether it goes up.
+#define TAKES_long
+#define GIVES_long
+#define TAKES_Unsigned bool is_up,
+#define GIVES_Unsigned is_up,
+
+#define START(name, Turn)                                                                           \
+  ENTRY bool name(TAKES_##Turn Turn from, Turn to, Turn step, Turn chunk, Turn *first, Turn *end) { \
+    ENTER(name, GIVES_##Turn from, to, step, chunk, first, end);                                    \
+    begin_loop(GIVES_##Turn from, to, step, PLACE);                                                 \
+    return got(own_##name(GIVES_##Turn from, to, step, chunk, first, end), first, end);             \
   }
-#define START_ULL(name)                                                                                   \
-  ENTRY bool name(bool is_up, Unsigned from, Unsigned to, Unsigned step, Unsigned chunk, Unsigned *first, \
-                  Unsigned *end) {                                                                        \
-    ENTER(name, is_up, from, to, step, chunk, first, end);                                                \
-    begin_loop(is_up, from, to, step, PLACE);                                                             \
-    return got(own_##name(is_up, from, to, step, chunk, first, end), first, end);                         \
+// The schedule and the size of its chunks are those of OMP_SCHEDULE.
+#define START_BY_SETTING(name, Turn)                                                    \
+  ENTRY bool name(TAKES_##Turn Turn from, Turn to, Turn step, Turn *first, Turn *end) { \
+    ENTER(name, GIVES_##Turn from, to, step, first, end);                               \
+    begin_loop(GIVES_##Turn from, to, step, PLACE);                                     \
+    return got(own_##name(GIVES_##Turn from, to, step, first, end), first, end);        \
   }
 #define NEXT(name, Turn)                            \
   ENTRY bool name(Turn *first, Turn *end) {         \
     ENTER(name, first, end);                        \
     return got(own_##name(first, end), first, end); \
   }
-#define LOOP(schedule)                        \
-  START(GOMP_loop_##schedule##_start)         \
-  NEXT(GOMP_loop_##schedule##_next, long)     \
-  START_ULL(GOMP_loop_ull_##schedule##_start) \
-  NEXT(GOMP_loop_ull_##schedule##_next, Unsigned)
-LOOP(static)
-LOOP(dynamic)
-LOOP(guided)
-LOOP(nonmonotonic_dynamic)
-LOOP(nonmonotonic_guided)
-LOOP(ordered_static)
-LOOP(ordered_dynamic)
-LOOP(ordered_guided)
-
-// The schedule and the size of its chunks are those of OMP_SCHEDULE.
-#define START_BY_SETTING(name)                                             \
-  ENTRY bool name(long from, long to, long step, long *first, long *end) { \
-    ENTER(name, from, to, step, first, end);                               \
-    begin_loop(from, to, step, PLACE);                                     \
-    return got(own_##name(from, to, step, first, end), first, end);        \
-  }
-#define START_BY_SETTING_ULL(name)                                                                         \
-  ENTRY bool name(bool is_up, Unsigned from, Unsigned to, Unsigned step, Unsigned *first, Unsigned *end) { \
-    ENTER(name, is_up, from, to, step, first, end);                                                        \
-    begin_loop(is_up, from, to, step, PLACE);                                                              \
-    return got(own_##name(is_up, from, to, step, first, end), first, end);                                 \
-  }
-#define LOOP_BY_SETTING(schedule)                        \
-  START_BY_SETTING(GOMP_loop_##schedule##_start)         \
-  NEXT(GOMP_loop_##schedule##_next, long)                \
-  START_BY_SETTING_ULL(GOMP_loop_ull_##schedule##_start) \
-  NEXT(GOMP_loop_ull_##schedule##_next, Unsigned)
-LOOP_BY_SETTING(runtime)
-LOOP_BY_SETTING(nonmonotonic_runtime)
-LOOP_BY_SETTING(maybe_nonmonotonic_runtime)
-LOOP_BY_SETTING(ordered_runtime)
+#define LOOP(start, schedule)                                                       \
+  start(GOMP_loop_##schedule##_start, long) NEXT(GOMP_loop_##schedule##_next, long) \
+      start(GOMP_loop_ull_##schedule##_start, Unsigned) NEXT(GOMP_loop_ull_##schedule##_next, Unsigned)
+LOOP(START, static)
+LOOP(START, dynamic)
+LOOP(START, guided)
+LOOP(START, nonmonotonic_dynamic)
+LOOP(START, nonmonotonic_guided)
+LOOP(START, ordered_static)
+LOOP(START, ordered_dynamic)
+LOOP(START, ordered_guided)
+LOOP(START_BY_SETTING, runtime)
+LOOP(START_BY_SETTING, nonmonotonic_runtime)
+LOOP(START_BY_SETTING, maybe_nonmonotonic_runtime)
+LOOP(START_BY_SETTING, ordered_runtime)
 
 // With reductions for tasks or with memory of the construct's own. A loop without `first` finds its chunks by itself.
-#define START_WITH_MORE(name)                                                                            \
-  ENTRY bool name(long from, long to, long step, long schedule, long chunk, long *first, long *end,      \
-                  uintptr_t *reductions, void **memory) {                                                \
-    ENTER(name, from, to, step, schedule, chunk, first, end, reductions, memory);                        \
-    if (reductions) begin_group(PLACE);                                                                  \
-    if (first) begin_loop(from, to, step, PLACE);                                                        \
-    return got(own_##name(from, to, step, schedule, chunk, first, end, reductions, memory), first, end); \
+#define START_WITH_MORE(name, Turn)                                                                                   \
+  ENTRY bool name(TAKES_##Turn Turn from, Turn to, Turn step, long schedule, Turn chunk, Turn *first, Turn *end,      \
+                  uintptr_t *reductions, void **memory) {                                                             \
+    ENTER(name, GIVES_##Turn from, to, step, schedule, chunk, first, end, reductions, memory);                        \
+    if (reductions) begin_group(PLACE);                                                                               \
+    if (first) begin_loop(GIVES_##Turn from, to, step, PLACE);                                                        \
+    return got(own_##name(GIVES_##Turn from, to, step, schedule, chunk, first, end, reductions, memory), first, end); \
   }
-#define START_WITH_MORE_ULL(name)                                                                               \
-  ENTRY bool name(bool is_up, Unsigned from, Unsigned to, Unsigned step, long schedule, Unsigned chunk,         \
-                  Unsigned *first, Unsigned *end, uintptr_t *reductions, void **memory) {                       \
-    ENTER(name, is_up, from, to, step, schedule, chunk, first, end, reductions, memory);                        \
-    if (reductions) begin_group(PLACE);                                                                         \
-    if (first) begin_loop(is_up, from, to, step, PLACE);                                                        \
-    return got(own_##name(is_up, from, to, step, schedule, chunk, first, end, reductions, memory), first, end); \
-  }
-START_WITH_MORE(GOMP_loop_start)
-START_WITH_MORE(GOMP_loop_ordered_start)
-START_WITH_MORE_ULL(GOMP_loop_ull_start)
-START_WITH_MORE_ULL(GOMP_loop_ull_ordered_start)
+START_WITH_MORE(GOMP_loop_start, long)
+START_WITH_MORE(GOMP_loop_ordered_start, long)
+START_WITH_MORE(GOMP_loop_ull_start, Unsigned)
+START_WITH_MORE(GOMP_loop_ull_ordered_start, Unsigned)
 
 #define START_CROSSED(name, Turn)                                                     \
   ENTRY bool name(unsigned counts, Turn *turns, Turn chunk, Turn *first, Turn *end) { \

@@ -9,7 +9,7 @@ from spanprof.predict.gnu import LOCK
 from spanprof.predict.interval import ALONE, AS_RECORDED, ON_OTHERS, width
 from spanprof.predict.machine import Machine, Measured
 from spanprof.predict.program import read_program
-from spanprof.predict.recorded import Recorded
+from spanprof.predict.recorded import GNU, Recorded
 from spanprof.tests.columns import segments_of
 
 TASKS = "omptasks 1\n" + "task {  # a.c:1\nwork 1000\n}\n" * 8
@@ -83,9 +83,11 @@ class Estimates(unittest.TestCase):
     def test_gccs_runtime(self):
         """Each of eight tasks waits for the lock; the times of LLVM's runtime do not count."""
         one = recording(2, dispatch=100, arrivals=(0, 2200))
-        found = estimate({2: [one]}, machine(dispatch=50, steal=400), 2, estimating.GNU)
-        self.assertEqual((found.runtime, found.dispatch), (estimating.GNU, 0))
+        found = estimate({2: [one]}, machine(dispatch=50, steal=400), 2, GNU)
+        self.assertEqual((found.runtime, found.dispatch), (GNU, 0))
         self.assertEqual(found.time, 4 * 1000 + 5 * LOCK)
+        one.runtime = GNU   # where it was recorded that is simulated, and the second thread comes late
+        self.assertEqual(estimate({2: [one]}, machine(), 2).time, 5 * 1000 + 5 * LOCK)
 
     def test_a_lock(self):
         found = estimate({2: [recording(2, held=3000)]}, machine(), 4)
