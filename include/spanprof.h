@@ -16,6 +16,8 @@
 #include <stddef.h>
 #include <stdint.h>
 
+#define SPANPROF_VERSION "0.1.0"
+
 #ifdef __cplusplus
 extern "C" {
 #endif

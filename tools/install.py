@@ -19,6 +19,8 @@ SPANPROF = os.path.join(TOOLS, "..", "crates", "spanprof", "out", "spanprof")
 LARGE = os.path.join(TOOLS, "..", "crates", "spanprof_large", "out", "spanprof_large")
 VERSION = "share/spanprof/VERSION"
 LIBRARY = os.path.join(TOOLS, "..", "out", "library")
+PACKAGING = os.path.join(TOOLS, "..", "packaging")
+OF_CMAKE = ("spanprof-config.cmake", "spanprof-config-version.cmake")
 LIST = os.path.join("share", "spanprof", "installed")
 COMMANDS = ("spanprof-record", "spanprof-convert", "spanprof-report", "spanprof-path", "spanprof-whatif",
             "spanprof-predict", "spanprof-conformance")     # links to spanprof
@@ -26,7 +28,7 @@ PROGRAM, LARGE_PROGRAM = "libexec/spanprof/spanprof", "libexec/spanprof/spanprof
 EXECUTABLE = ("bin/", "libexec/", "lib/spanprof/convert_log", "lib/spanprof/calibrate")
 SHARED = ("*.py", "spanprof/**/*.py", "spanprof/report/template/*", "conformance/*.txt",
           "conformance/directed/*.tasks", "conformance/harness/*", "conformance/mutants/*")
-LEFT_OUT = ("install.py", "/tests/")
+LEFT_OUT = ("install.py", "wheel.py", "/tests/")
 
 
 def programs(variables, proved=(SPANPROF, LARGE)):
@@ -54,6 +56,8 @@ def of_library(folder):
     return [(shared, "lib/libspanprof.so"), (shared, "lib/libspanprof.so.0"),
             (os.path.join(folder, "libspanprof.a"), "lib/libspanprof.a"),
             (os.path.join(TOOLS, "..", "include", "spanprof.h"), "include/spanprof.h"),
+            (os.path.join(PACKAGING, "spanprof.pc"), "lib/pkgconfig/spanprof.pc"),
+            *((os.path.join(PACKAGING, name), "lib/cmake/spanprof/" + name) for name in OF_CMAKE),
             (os.path.join(TOOLS, "man", "spanprof.3"), "share/man/man3/spanprof.3")]
 
 

@@ -1,6 +1,8 @@
 #!/usr/bin/env bash
-# Makes the packages of a release: a tarball that runs from anywhere, a .deb, and their checksums. The programs are
-# those that the gate has left in crates/*/out, with their checksums; SPANPROF and SPANPROF_LARGE name others.
+# Makes the packages of a release: a tarball that runs from anywhere, a .deb, a wheel, and their checksums. The programs
+# are those that the gate has left in crates/*/out, with their checksums; SPANPROF and SPANPROF_LARGE name others. The
+# C library goes in where tools/library.sh has built it. What is built on a system runs on it and on newer ones, of any
+# distribution: packaging/Containerfile takes an old one. The .deb and the wheel say which glibc they need.
 #
 #     tools/release.sh [FOLDER]      where they go; out/release without it
 #
@@ -42,6 +44,11 @@ sha256sum --status -c spanprof.sha256 spanprof_large.sha256 2> /dev/null ||
 { echo "$logic"; sha256sum spanprof spanprof_large; } > "$doc/proofs"
 cd "$top"
 
+# The newest version of glibc's functions that a file of the release calls.
+glibc=$({ find "$usr" -type f \( -perm /111 -o -name '*.so' \) -exec readelf -V {} + 2> /dev/null || true; } |
+    grep -oE '\bGLIBC_[0-9.]+' | sort -uV | tail -n 1)
+glibc=${glibc#GLIBC_}
+
 mkdir -p "$out"
 name=spanprof-$version-linux-$(uname -m)
 cp -a "$usr" "$stage/$name"
@@ -56,7 +63,7 @@ Version: $version
 Architecture: $architecture
 Maintainer: the spanprof project <spanprof@localhost>
 Installed-Size: $(du -sk "$usr" | cut -f1)
-Depends: libc6, libgcc-s1, libstdc++6, python3 (>= 3.9)
+Depends: libc6 (>= $glibc), libgcc-s1, python3 (>= 3.9)
 Recommends: binutils, libomp5-16 | libomp5-19 | libomp5-14
 Section: devel
 Priority: optional
@@ -67,4 +74,6 @@ Description: proved profiler for programs of OpenMP tasks
 C
 (cd "$root" && find usr -type f -print0 | sort -z | xargs -0 md5sum) > "$root/DEBIAN/md5sums"
 dpkg-deb --root-owner-group -Zxz --build "$root" "$out/spanprof_${version}_$architecture.deb" > /dev/null
-(cd "$out" && sha256sum "$name.tar.gz" "spanprof_${version}_$architecture.deb" > SHA256SUMS && cat SHA256SUMS)
+python3 -B "$top/tools/wheel.py" "$usr" "$out" "$glibc"
+(cd "$out" && sha256sum "$name.tar.gz" "spanprof_${version}_$architecture.deb" spanprof*.whl > SHA256SUMS &&
+    cat SHA256SUMS)

@@ -1,6 +1,6 @@
 #!/usr/bin/env bash
 # Makes the packages of a release (tools/release.sh), unpacks the tarball, installs the .deb by `dpkg -i` on a fresh
-# root, runs the programs from both, and removes the package again. Build spanprof and spanprof_large first; other
+# root and the wheel by pip in a fresh environment, runs the programs from all three, and removes the package again. Build spanprof and spanprof_large first; other
 # programs may be named.
 set -euo pipefail
 cd "$(dirname "$0")/../.."
@@ -50,13 +50,21 @@ mkdir "$folder/unpacked"
 tar -xzf "$folder"/release/*.tar.gz -C "$folder/unpacked"
 runs "$(echo "$folder"/unpacked/*)" "the tarball"
 
+if python3 -m venv "$folder/python" > "$folder/told" 2>&1; then
+    "$folder/python/bin/pip" install --quiet --no-index --no-deps "$folder"/release/*.whl > "$folder/told" 2>&1 ||
+        { fail "pip install"; cat "$folder/told"; }
+    runs "$folder/python" "the wheel"
+fi
+
 root=$folder/root
 mkdir -p "$root/var/lib/dpkg/info" "$root/var/lib/dpkg/updates"
 touch "$root/var/lib/dpkg/status"
 on_root() { $as_root dpkg --root="$root" --force-depends --log=/dev/null "$@"; }
 on_root -i "$folder"/release/*.deb > "$folder/told" 2>&1 || { fail "dpkg -i"; cat "$folder/told"; }
 runs "$root/usr" "the package"
-dpkg --admindir="$root/var/lib/dpkg" -s spanprof | grep -q "^Version: $version$" || fail "dpkg -s"
+dpkg --admindir="$root/var/lib/dpkg" -s spanprof > "$folder/told"
+grep -q "^Version: $version$" "$folder/told" || fail "dpkg -s"
+grep -q "^Depends: libc6 (>= 2\.[0-9]*)" "$folder/told" || fail "the package does not say which glibc it needs"
 on_root -r spanprof > "$folder/told" 2>&1 || { fail "dpkg -r"; cat "$folder/told"; }
 left=$(find "$root" -path "$root/var" -prune -o ! -type d -print)
 [ -z "$left" ] || fail "dpkg -r leaves $left"

@@ -69,7 +69,8 @@ class Library(InFolder):
         self.write("libspanprof.so")
         places = [path for _, path in install.plan(library=self.folder)]
         for path in ("lib/libspanprof.so", "lib/libspanprof.so.0", "lib/libspanprof.a", "include/spanprof.h",
-                     "share/man/man3/spanprof.3"):
+                     "share/man/man3/spanprof.3", "lib/pkgconfig/spanprof.pc",
+                     "lib/cmake/spanprof/spanprof-config.cmake"):
             self.assertIn(path, places)
 
     def test_checksums_go_with_proved_programs(self):

@@ -5,31 +5,20 @@
 """
 import os
 import pathlib
+import shutil
 import subprocess
 import sys
 import zipfile
 
 from documented import TOP, examples
 
-PARTS = ("setuptools", "wheel", "pip")  # in this order, since pip brings another distutils
-
-
-def python():
-    """A Python that can build a wheel: this one, or the system's; None where neither can."""
-    for one in (sys.executable, "/usr/bin/python3"):
-        words = [one, "-c", "import " + ", ".join(PARTS)]
-        if os.access(one, os.X_OK) and not subprocess.run(words, capture_output=True, check=False).returncode:
-            return one
-    return None
-
 
 def main(library, folder):
-    one, wheels = python(), pathlib.Path(folder, "wheels")
-    if one is None:
-        print("no wheel: no Python here has %s" % ", ".join(PARTS))
-        return 0
-    subprocess.run([TOP / "tools" / "wheel.sh", wheels, pathlib.Path(library, "libspanprof.so")], check=True,
-                   env=dict(os.environ, PYTHON=one))
+    prefix, wheels = pathlib.Path(folder, "prefix"), pathlib.Path(folder, "wheels")
+    shutil.copytree(TOP / "tools" / "spanprof", prefix / "share" / "spanprof" / "spanprof")
+    (prefix / "lib").mkdir()
+    shutil.copy(pathlib.Path(library, "libspanprof.so"), prefix / "lib")
+    subprocess.run([TOP / "tools" / "wheel.py", prefix, wheels, "2.17"], check=True)
     [wheel] = wheels.glob("*.whl")
     with zipfile.ZipFile(wheel) as packed:
         packed.extractall(pathlib.Path(folder, "unpacked"))

@@ -59,15 +59,22 @@ def is_of_ranks(calls):
     return OF_MPI.match(calls[-1]) is not None
 
 
-def calls_of(path, names):
-    """A line of the file has a segment, what it did, how long and in which calls: `12 ran 8000 main;sort;compare`."""
-    found = Sampled(defaultdict(Counter), defaultdict(Counter))
+def samples_in(path):
+    """A line of the file has a segment, what it did, microseconds, and in which calls: `12 ran 8000 main;sort;compare`."""
     if path:
         with reading(path), open(path, encoding="utf-8", errors="replace") as lines:
             for line in lines:
                 number, did, time, calls = line.rstrip("\n").split(" ", 3)
-                if 0 <= int(number) < len(names):
-                    getattr(found, did)[names[int(number)]][known(calls)] += int(time)
+                if did not in Sampled._fields:
+                    raise ValueError("a thread neither ran nor slept: " + did)
+                yield int(number), did, int(time), known(calls)
+
+
+def calls_of(path, names):
+    found = Sampled(defaultdict(Counter), defaultdict(Counter))
+    for number, did, time, calls in samples_in(path):
+        if 0 <= number < len(names):
+            getattr(found, did)[names[number]][calls] += time
     return Sampled(dict(found.ran), dict(found.slept))
 
 

@@ -2,6 +2,8 @@
 import os
 import re
 
+from spanprof.recording import ENDING
+
 # Each rank with how many there are: of OpenMPI, MVAPICH, MPICH and Intel MPI, and of a step of Slurm.
 VARIABLES = (("OMPI_COMM_WORLD_RANK", "OMPI_COMM_WORLD_SIZE"), ("MV2_COMM_WORLD_RANK", "MV2_COMM_WORLD_SIZE"),
              ("PMI_RANK", "PMI_SIZE"), ("SLURM_PROCID", "SLURM_STEP_NUM_TASKS"))
@@ -20,6 +22,12 @@ def rank_of(variables):
 def of_rank(out, rank):
     """The name of a rank's recording, as the recorder has it."""
     return out if rank is None else "%s.rank%d" % (out, rank)
+
+
+def rank_in(folder):
+    """The rank whose recording this is, or None."""
+    found = re.search(r"\.rank([0-9]+)%s$" % re.escape(ENDING), folder)
+    return int(found[1]) if found else None
 
 
 def is_launcher(path):

@@ -18,6 +18,7 @@ from spanprof.record.console import tell
 from spanprof.record.ranks import is_child
 from spanprof.record.summary import named, other_region, remark_lines, summary, title
 from spanprof.record.summary_json import run_json, summary_json, write_json
+from spanprof.record.waits import told as told_of_waits, waited_for, waits_of
 from spanprof.regions import program_of
 
 MORE = "spanprof-report %s"
@@ -47,9 +48,14 @@ def print_unmeasured(recording, news):
     show([title(told)] + named("warnings", remark_lines(told, [client.HOW] + list(news))))
 
 
-def print_rank(session, all_answers, news):
+def rank_line(recording, answers):
+    waits = waits_of(recording)
+    return other_region(answers) + (", waits %s in calls of MPI" % waits.shown if waits else "")
+
+
+def print_rank(session, pairs, news):
     """Of one process of MPI a line, since another tells its own beside it."""
-    show([other_region(one) for one in all_answers] + ["%s: %s" % (session.work.name, one) for one in news])
+    show([rank_line(*pair) for pair in pairs] + ["%s: %s" % (session.work.name, one) for one in news])
 
 
 def diagnosed(recording):
@@ -88,14 +94,17 @@ def print_summary(session, recording, answers, others, news, scale):
 
 
 def print_measured(session, pairs, news, scale):
-    """Of recordings and what is answered of them: of that with the most work a summary, and of the others a line each.
-    Answers which recording that is."""
+    """Of recordings and what is answered of them: a summary of the rank that the others wait for, or of that with the
+    most work, and of the others a line each. Answers which recording that is."""
     if session.rank is not None:
-        print_rank(session, [answers for _, answers in pairs], news)
+        print_rank(session, pairs, news)
         return pairs[0][0]
-    first = max(pairs, key=lambda pair: pair[1].work)
-    others = [other_region(pair[1]) for pair in pairs if pair is not first]
+    waits = list(filter(None, (waits_of(recording) for recording, _ in pairs)))
+    late, ranks = waited_for(waits), told_of_waits(waits)
+    first = max(pairs, key=lambda pair: (late is not None and waits_of(pair[0]) == late, pair[1].work))
+    others = [rank_line(*pair) for pair in pairs if pair is not first]
     print_summary(session, *first, others, news, scale)
+    show(["rank  " + ranks] if ranks else [])
     return first[0]
 
 

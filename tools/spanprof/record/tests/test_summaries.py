@@ -84,6 +84,14 @@ class Printed(InFolder):
         self.assertTrue(told[0].startswith("mine.rank1.spanprof, the whole program"))
         self.assertEqual(told[-1], "other ranks   mine.rank0.spanprof, the whole program: work 100 us, span 70 us")
 
+    def test_the_rank_that_others_wait_for(self):
+        folders = [recording(self.folder, "mine.rank%d" % rank, calls="0 ran %d main;MPI_Recv\n0 ran 90000 sort\n" % time)
+                   for rank, time in enumerate((80000, 2000, 90000))]
+        self.works["mine.rank0.spanprof"] = 200
+        told = self.told(*folders)
+        self.assertTrue(told[0].startswith("mine.rank1.spanprof, the whole program"))
+        self.assertEqual(told[-1], "rank  the others wait for rank 1: 80.0 ms to 90.0 ms in calls of MPI, it 2.00 ms")
+
     def test_children_have_no_summary(self):
         told = self.told(recording(self.folder), recording(self.folder, "mine.child1"))
         self.assertEqual([line for line in told if "child1" in line], [])

@@ -1,0 +1,10 @@
+# find_package(spanprof) has the targets spanprof::spanprof and spanprof::static.
+get_filename_component(spanprof_prefix "${CMAKE_CURRENT_LIST_DIR}/../../.." ABSOLUTE)
+foreach(kind spanprof static)
+  if(NOT TARGET spanprof::${kind})
+    add_library(spanprof::${kind} UNKNOWN IMPORTED)
+    set_target_properties(spanprof::${kind} PROPERTIES INTERFACE_INCLUDE_DIRECTORIES "${spanprof_prefix}/include")
+  endif()
+endforeach()
+set_target_properties(spanprof::spanprof PROPERTIES IMPORTED_LOCATION "${spanprof_prefix}/lib/libspanprof.so")
+set_target_properties(spanprof::static PROPERTIES IMPORTED_LOCATION "${spanprof_prefix}/lib/libspanprof.a")
