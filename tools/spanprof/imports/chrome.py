@@ -14,7 +14,7 @@ from spanprof.imports.tasks import Told
 BLANKS = re.compile(r"[\s,]*")
 EVENTS = re.compile(r'"traceEvents"\s*:\s*\[')
 MICROSECOND = 1000
-FLOWS = "stf"
+FLOWS = ("s", "t", "f")
 
 
 class Event(NamedTuple):

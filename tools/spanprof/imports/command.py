@@ -4,7 +4,7 @@ import os
 
 from spanprof.account_words import lasting
 from spanprof.answers import Answers
-from spanprof.command import Console, end_with, show
+from spanprof.command import Console, end_with
 from spanprof.errors import Fault
 from spanprof.head import counted
 from spanprof.imports.folder import write
@@ -16,7 +16,7 @@ from spanprof.text_file import TextFile
 from spanprof.version import Version
 from spanprof.whatif.numbers import numbers_of
 
-CONSOLE = Console("spanprof import")
+CONSOLE = Console("spanprof-import")
 DESCRIPTION = """Makes a recording of what another tool has written: a log of ninja with the output of `ninja -t graph`,
 a trace in Chrome's JSON with flows, or the file tasks.rec of StarPU. Prints work, span, critical path, and greedy
 schedules on more threads."""
@@ -26,7 +26,7 @@ MOST_PLACES = 3
 
 
 def parse(words):
-    parser = argparse.ArgumentParser(prog="spanprof import", description=DESCRIPTION, epilog=AFTER, allow_abbrev=False,
+    parser = argparse.ArgumentParser(prog="spanprof-import", description=DESCRIPTION, epilog=AFTER, allow_abbrev=False,
                                      usage="%(prog)s [options] FILE [GRAPH]")
     add = parser.add_argument
     add("file", metavar="FILE", help=".ninja_log, a trace (also packed by gzip), or tasks.rec")
@@ -83,8 +83,8 @@ def answer(chosen):
     out = chosen.out or name_of(chosen.file)
     told = read(form, chosen.file, more)
     why = write(chosen.file, out, told, chosen.force)
-    notes = told.notes + ["without the times of the run: " + why] * bool(why)
-    show(["spanprof import: " + note for note in notes])
+    for note in told.notes + ["without the times of the run: " + why] * bool(why):
+        CONSOLE.say(note)
     answers = Answers(os.path.join(out + ENDING, TEXT))
     print(first_line(os.path.basename(out), sum(task.begin is not None for task in told.tasks), answers),
           curve_line(answers), path_line(answers), "more: spanprof report %s" % (out + ENDING), sep="\n")

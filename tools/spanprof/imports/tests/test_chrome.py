@@ -50,6 +50,10 @@ class Chrome(InFolder):
         self.assertEqual([one[3] for one in self.told(SLICES + [third, FLOW[0], end])], [[], [], [0]])
         self.assertEqual([one[3] for one in self.told(again + SLICES + [third])], [[], [], [0]])
 
+    def test_other_events_are_passed_over(self):
+        others = [{"ph": "M", "name": "thread_name"}, {"name": "no kind"}, {"ph": 7}, {"ph": ["s"]}]
+        self.assertEqual(len(self.told(others + SLICES)), 2)
+
     def test_other_names_are_other_flows(self):
         with self.assertRaisesRegex(Fault, "t.json:5: the flow 7, which did not begin before"):
             self.told(SLICES + [FLOW[0], dict(FLOW[1], name="g")])

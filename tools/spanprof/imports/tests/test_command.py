@@ -71,7 +71,7 @@ class Command(InFolder):
 
     def test_times_that_contradict_the_graph_are_left_out(self):
         status, out, errors = self.told(rec=TOO_SOON)
-        self.assertEqual((status, errors), (0, "spanprof import: without the times of the run: trsm begins before "
+        self.assertEqual((status, errors), (0, "spanprof-import: without the times of the run: trsm begins before "
                                                "potrf has ended, for which it waits\n"))
         self.assertTrue(out.startswith("mine: 2 tasks; work"))
         self.assertEqual(open_recording(self.recording).times, "")

@@ -7,7 +7,8 @@ from spanprof.report.folded import folded
 from spanprof.tests.in_folder import InFolder
 from spanprof.tests.recordings import recording
 
-CALLS = "0 ran 4000 main;sort;less<a, b>\n3 ran 8000 main;sort;less<a, b>\n3 ran 1000 main;sort\n1 slept 50 main;read@libc\n"
+CALLS = "0 ran 4000 main;sort;less<a, b>\n3 ran 8000 main;sort;less<a, b>\n" \
+    "3 ran 1000 main;sort\n1 slept 50 main;read@libc\n"
 
 
 class Folded(InFolder):
