@@ -23,7 +23,7 @@ PACKAGING = os.path.join(TOOLS, "..", "packaging")
 OF_CMAKE = ("spanprof-config.cmake", "spanprof-config-version.cmake")
 LIST = os.path.join("share", "spanprof", "installed")
 COMMANDS = ("spanprof-record", "spanprof-convert", "spanprof-report", "spanprof-path", "spanprof-whatif",
-            "spanprof-predict", "spanprof-conformance")     # links to spanprof
+            "spanprof-predict", "spanprof-import", "spanprof-conformance")     # links to spanprof
 PROGRAM, LARGE_PROGRAM = "libexec/spanprof/spanprof", "libexec/spanprof/spanprof_large"
 EXECUTABLE = ("bin/", "libexec/", "lib/spanprof/convert_log", "lib/spanprof/calibrate")
 SHARED = ("*.py", "spanprof/**/*.py", "spanprof/report/template/*", "conformance/*.txt",

@@ -60,6 +60,7 @@ spanprof-report mi|mine.tasks
 spanprof-report mine.tasks --source so|sources
 spanprof-path mi|mine.tasks
 spanprof-path mine.tasks --cs|--csv
+spanprof-import --from st|starpu
 spanprof-predict mi|mine.tasks
 spanprof-predict mine.tasks --ru|--runtime
 spanprof-whatif mi|mine.tasks
@@ -71,11 +72,11 @@ spanprof-conformance run --pre|--preload
 LINES
 
 every=$(in_bash 'spanprof ')
-for command in record report whatif predict path graph convert test span show slack greedy curve certify check run \
-    replay bounds account; do
+for command in record report whatif predict path graph convert import test span show slack greedy curve certify check \
+    run replay bounds account; do
     [[ " $every " = *" $command "* ]] || { echo "  bash: no $command"; wrong=$((wrong + 1)); }
 done
-for name in record report path whatif; do
+for name in record report path whatif import; do
     listed=$(spanprof-$name --help | grep -oE -e '(^| )--[a-z-]+' | tr -d ' ' | sort -u)
     expect bash "$(in_bash "spanprof-$name --" | tr ' ' '\n' | grep -e '--.' | sort -u)" "$listed" "spanprof-$name --"
     for option in $listed; do

@@ -49,7 +49,7 @@ grep -q 'work 11, span 9, .*, 3 of 4 segments' found || { fail "spanprof-path"; 
 installed spanprof --help | grep -q '^Usage: spanprof COMMAND' || fail "spanprof --help"
 installed spanprof-whatif worked.tasks --drop-wait taskwait > found 2> told || fail "spanprof-whatif fails"
 grep -q '^span *9 *8 ' found || { fail "spanprof-whatif"; cat found told; }
-for name in spanprof spanprof-record spanprof-convert spanprof-report spanprof-path spanprof-predict spanprof-whatif spanprof-conformance; do
+for name in spanprof spanprof-record spanprof-convert spanprof-report spanprof-path spanprof-predict spanprof-import spanprof-whatif spanprof-conformance; do
     [ "$(man -M "$prefix/share/man" -w $name)" = "$prefix/share/man/man1/$name.1" ] || fail "man $name"
     [ -e "$prefix/share/bash-completion/completions/$name" ] || fail "no completion of $name"
 done

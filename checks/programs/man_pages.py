@@ -14,7 +14,7 @@ TOP = os.path.dirname(os.path.dirname(os.path.dirname(os.path.abspath(__file__))
 TOOLS = os.path.join(TOP, "tools")
 CONFORMANCE = ("run", "mutants", "shrink", "emit", "judge", "list")
 HELP = {"spanprof-record": [[]], "spanprof-convert": [[]], "spanprof-report": [[]], "spanprof-path": [[]],
-        "spanprof-predict": [[]], "spanprof-whatif": [[]],
+        "spanprof-predict": [[]], "spanprof-whatif": [[]], "spanprof-import": [[]],
         "spanprof-conformance": [[]] + [[word] for word in CONFORMANCE]}
 NAME = re.compile(r"\b(?:[A-Z][a-z]+){2,}\b|\bUnclosed\b|\bUnopened\b|\bBroken\b")
 STATUS = re.compile(r"(?<![\w(])\d+(?![\w)])")    # and no section of a page, as in spanprof(1)

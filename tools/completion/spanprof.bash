@@ -30,7 +30,7 @@ _spanprof() {
     local current=${COMP_WORDS[COMP_CWORD]} before=${COMP_WORDS[COMP_CWORD - 1]}
     if [ "$COMP_CWORD" -gt 1 ]; then
         case ${COMP_WORDS[1]} in
-            record | convert | report | path | predict | whatif) _spanprof_tool "${COMP_WORDS[1]}"; return ;;
+            record | convert | report | path | predict | whatif | import) _spanprof_tool "${COMP_WORDS[1]}"; return ;;
             test | conformance) _spanprof_tool conformance; return ;;
         esac
     fi
@@ -40,7 +40,7 @@ _spanprof() {
         account) _spanprof_among "$current" --rows --path ;;
         bounds) _spanprof_among "$current" --upto ;;
         spanprof | */spanprof | help)
-            _spanprof_among "$current" record report whatif predict path graph convert test \
+            _spanprof_among "$current" record report whatif predict path graph convert import test \
                 span show slack greedy curve certify check run replay bounds account help ;;
         --dot) _spanprof_files "$current" .tasks ;;
         greedy) _spanprof_among "$current" --threads ;;
@@ -115,6 +115,7 @@ _spanprof_report() {
     case $before in
         -o | --output) _spanprof_files "$current" .html ;;
         --trace) _spanprof_files "$current" .json ;;
+        --folded) _spanprof_files "$current" ;;
         --source) _spanprof_folders "$current" ;;
         --threads) ;;
         *) case $current in
@@ -129,6 +130,18 @@ _spanprof_path() {
     case $current in
         -*) _spanprof_among "$current" "$(_spanprof_options "${COMP_WORDS[0]}")" ;;
         *) _spanprof_files "$current" .tasks ;;
+    esac
+}
+
+_spanprof_import() {
+    local current=${COMP_WORDS[COMP_CWORD]} before=${COMP_WORDS[COMP_CWORD - 1]}
+    case $before in
+        --from) _spanprof_among "$current" ninja chrome starpu ;;
+        --process) ;;
+        *) case $current in
+            -*) _spanprof_among "$current" "$(_spanprof_options "${COMP_WORDS[0]}")" ;;
+            *) _spanprof_files "$current" ;;
+        esac ;;
     esac
 }
 
@@ -186,5 +199,6 @@ complete -F _spanprof_convert spanprof-convert
 complete -F _spanprof_report spanprof-report
 complete -F _spanprof_path spanprof-path
 complete -F _spanprof_predict spanprof-predict
+complete -F _spanprof_import spanprof-import
 complete -F _spanprof_whatif spanprof-whatif
 complete -F _spanprof_conformance spanprof-conformance

@@ -14,6 +14,7 @@ CASES = {  # by tool, words and the status with which they end it; {text} and {l
     "predict": (("--nothing", 2), ("{none}", 1), ("{log}", 1)),
     "whatif": (("--nothing", 2), ("{text}", 2), ("{none} --places", 1), ("{log} --places", 1),
                ("{text} --places -o x", 2)),
+    "import": (("--nothing", 2), ("{none}", 1), ("{text}", 1), ("{log}", 1)),
     "path": (("--nothing", 2), ("{none}", 1), ("{log}", 1)),
     "conformance": (("--nothing", 2), ("emit {none}", 2), ("emit {log}", 2), ("run --cc {none}", 2)),
 }

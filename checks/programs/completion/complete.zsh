@@ -5,7 +5,7 @@ folder=$1 line=$2 answer=
 zpty shell "zsh -f -i"
 for words in "PROMPT= RPROMPT= PS2=; unsetopt zle_bracketed_paste prompt_cr; stty -echo; fpath=($folder \$fpath)" \
     "autoload -Uz compinit; compinit -u -d $folder/zcompdump; bindkey '^I' complete-word" \
-    'for name in spanprof spanprof_large spanprof-record spanprof-report spanprof-path spanprof-predict spanprof-whatif spanprof-conformance; do
+    'for name in spanprof spanprof_large spanprof-record spanprof-report spanprof-path spanprof-predict spanprof-import spanprof-whatif spanprof-conformance; do
         functions[$name]="print -r -- \"<$name \$*>\""; done; print ready'; do
     zpty -w shell $words
 done

@@ -82,6 +82,7 @@ class Facts:
     inner: List[Region] = field(default_factory=list)       # with threads of their own
     nested: int = 0                     # threads at once, with those of inner regions
     is_of_gcc: bool = False             # some constructs have the line of a statement before them
+    is_imported: bool = False           # of another tool's tasks
     waits_of_some_turns: set = field(default_factory=set)   # in an `if` of the loop that makes the tasks
     usage: Optional[dict] = None
     coverage: Optional[float] = None
@@ -271,6 +272,7 @@ def set_meta(facts, meta):
     facts.asked, facts.processors = threads.get("asked"), meta.get("processors")
     facts.runtime = runtime_name(meta.get("runtime") or {})
     facts.is_of_gcc = facts.is_of_gcc or facts.runtime.startswith(RUNTIMES["gnu"])
+    facts.is_imported = bool(meta.get("imported"))
     facts.runs = len(meta.get("runs") or [1])
     facts.usage = usage or None
     facts.true_one, facts.true_many = meta.get("true_one"), meta.get("true_many")

@@ -6,7 +6,7 @@ from spanprof.diagnosis.calls import NO_NAME, OFFSET, innermost, plain
 from spanprof.diagnosis.directives import construct_of, directive_line, is_of_some_turns, own_item
 from spanprof.diagnosis.places import OF_THREADS, OWN, SERIAL, lines_between
 from spanprof.source_lines import LONGEST, STRING, after_directive, code_lines, line_of, statement_end
-from spanprof.text import BEGINNING
+from spanprof.text import BEGINNING, where
 
 FUNCTION = re.compile(r"^[A-Za-z_][\w\s:*&<>,~]*\b%s\s*\(")
 COMMENT = re.compile(r"\s*//.*")
@@ -109,7 +109,9 @@ class Names:
         return next((lock for lock in found if name and name in (lock.place, lock.kind)), None)
 
     def spelt(self, name):
-        """With the line of its directive, or the name of its function."""
+        """With the line of its directive, or the name of its function; of another tool's task its name."""
+        if self.facts.is_imported:
+            return where(name) or name
         line, function = self.begin(name, name), code_at(name)
         if line:
             return LINE.sub("%s:%d" % line, name)

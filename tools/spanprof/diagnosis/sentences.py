@@ -293,6 +293,8 @@ def unsure(found, names):
     facts, lost = found.facts, lost_lines(found, names)
     if is_nameless(facts) or any(OFFSET.search(word) for line in lost for word in line.replace(":", " ").split()):
         return "the names of its functions: build it with -g, or install its debug symbols"
+    if facts.is_imported:
+        return ""
     if facts.target == 1:
         return "what more threads would bring: record on more"
     if facts.cost_on_one is None and facts.true_one is None and facts.threads > 1:

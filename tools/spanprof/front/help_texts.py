@@ -11,6 +11,7 @@ Record an OpenMP program and look at its recording:
   path          list the places in the source with most of the span
   graph         print the graph of its segments, as CSV or for Graphviz
   convert       make the text of a recording again, or that of a region
+  import        make a recording of a build by ninja, a trace, or tasks of StarPU
   test          test an OpenMP runtime
 
 Ask about a program text on standard input, of up to 4,096 tasks:

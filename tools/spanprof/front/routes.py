@@ -10,7 +10,7 @@ LARGE_COMMANDS = ("bounds", "account", "graph")     # that spanprof_large has al
 TOOLS = {
     "record": "spanprof.record.command", "convert": "spanprof.record.convert_command",
     "report": "spanprof.report.command", "path": "spanprof.path.command", "whatif": "spanprof.whatif.command",
-    "predict": "spanprof.predict.command", "graph": "spanprof.graph.command",
+    "predict": "spanprof.predict.command", "graph": "spanprof.graph.command", "import": "spanprof.imports.command",
     "conformance": "spanprof.conformance.command"}
 OTHER_NAMES = {"test": "conformance"}
 CHANGE = re.compile(r"[0-9]+=[0-9]+")

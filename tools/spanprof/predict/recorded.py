@@ -9,8 +9,8 @@ from spanprof.errors import Fault
 from spanprof.head import Head, comments, read_head
 from spanprof.predict.burden import text_with
 from spanprof.predict.program import Program, read_program
-from spanprof.recording import beside
 from spanprof.predict.times import rows_of, times_of
+from spanprof.recording import document, open_recording
 from spanprof.segment_table import read_code
 from spanprof.text import DIVIDER, has_loops
 
@@ -108,7 +108,7 @@ def take_times(one, timed):
 
 def recorded(path, name="", runtime=LLVM):
     """That of a file, with the times beside it where they are there."""
-    one, timed = recorded_as(client.read(path), name or path), beside(path, ".timed")
+    one, timed = recorded_as(client.read(path), name or path), document(open_recording(path))
     one.runtime = runtime
     if timed:
         take_times(one, lines_after_the_divider(timed))

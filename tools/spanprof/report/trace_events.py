@@ -9,6 +9,7 @@ from spanprof.report.graph import kind_of
 from spanprof.report.timeline_data import or_none
 
 FLOWS_OF_A_RUN = 10 ** 7    # numbers of flows are of one run each
+GOES_ON = "goes on"
 
 
 class Run(NamedTuple):
@@ -50,19 +51,20 @@ def bars(view, run, scale):
 
 def flow(view, run, scale, p, s, number):
     """An arrow from inside the bar of `p`, since it belongs to the bar that its moment lies in, to the start of `s`."""
-    shared = {"name": kind_of(view.answers.code, p, s), "cat": "edge", "id": run.process * FLOWS_OF_A_RUN + number,
-              "pid": run.process}
+    code, rows = view.answers.code, view.answers.rows
+    kind = GOES_ON if rows[p].task == rows[s].task else kind_of(code, p, s)
+    shared = {"name": kind, "cat": "edge", "id": run.process * FLOWS_OF_A_RUN + number, "pid": run.process}
     middle = (run.starts[p] + run.ends[p]) / 2
     yield dict(shared, ph="s", ts=middle * scale, tid=run.threads[p])
     yield dict(shared, ph="f", bp="e", ts=run.starts[s] * scale, tid=run.threads[s])
 
 
 def flows(view, run, scale):
-    """An arrow for each edge between tasks: a creation, a dependence or a wait."""
-    rows, number = view.answers.rows, 0
+    """An arrow for each edge: a creation, a dependence, a wait, or what a task does next."""
+    number = 0
     for s, before in enumerate(view.answers.predecessors):
         for p in before:
-            if rows[p].task != rows[s].task and run.shows(p) and run.shows(s):
+            if run.shows(p) and run.shows(s):
                 number += 1
                 yield from flow(view, run, scale, p, s, number)
 

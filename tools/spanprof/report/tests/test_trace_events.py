@@ -53,7 +53,7 @@ class Form(unittest.TestCase):
 
     def test_arrows_say_what_they_are(self):
         events = events_of("mesh")
-        self.assertEqual({flow["name"] for flow in of_kind(events, "s", 2)}, {"creates", "depends", "waits"})
+        self.assertEqual({flow["name"] for flow in of_kind(events, "s", 2)}, {"creates", "depends", "waits", "goes on"})
 
     def test_numbers_of_arrows_are_of_one_run_each(self):
         numbers = [flow["id"] for flow in self.events if flow["ph"] == "s"]

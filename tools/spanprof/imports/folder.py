@@ -1,0 +1,65 @@
+"""Tasks of another tool as a recording: the folder NAME.spanprof with a text, and with times where these are of one
+run."""
+import os
+import shutil
+from datetime import datetime, timezone
+
+from spanprof.command import naming
+from spanprof.errors import Fault
+from spanprof.imports.program import body, head, unit_of
+from spanprof.imports.tasks import in_order
+from spanprof.imports.times import run_of
+from spanprof.record.files import check_folder
+from spanprof.record.meta import write_meta
+from spanprof.recording import ENDING, TEXT, TIMES
+from spanprof.record.work import PART
+
+
+def date_of(path):
+    """When the file was written."""
+    return datetime.fromtimestamp(os.stat(path).st_mtime, timezone.utc).strftime("%Y-%m-%dT%H:%M:%SZ")
+
+
+def write_lines(path, lines):
+    with naming(path), open(path, "w", encoding="utf-8", errors="replace") as file:
+        file.writelines(lines)
+
+
+def facts_of(told, run):
+    """For recording.json."""
+    facts = {"imported": told.tool or "a trace", "runtime": {"name": told.tool} if told.tool else None}
+    return {**facts, **({"elapsed_ns": run.elapsed, "threads": {"most": run.threads}} if run else {})}
+
+
+def fill(folder, path, name, told):
+    """Writes what the file at `path` tells; answers why there are no times."""
+    tasks = in_order(told.tasks)
+    run, why = (None, told.no_times) if told.no_times else run_of(tasks)
+    unit = unit_of(tasks)
+    numbers = (run.threads, run.elapsed) if run else ()
+    lines = head(name, os.path.basename(path), date_of(path), unit, *numbers)
+    write_lines(os.path.join(folder, TEXT), [*lines, *body(tasks, unit)])
+    if run:
+        write_lines(os.path.join(folder, TIMES), run.lines())
+    write_meta(folder, facts_of(told, run))
+    return why
+
+
+def write(path, out, told, is_forced=False):
+    """The recording NAME.spanprof for the NAME `out`, whole or not at all; answers why there are no times."""
+    check_folder(out)
+    final = out + ENDING
+    part = final + PART
+    if os.path.exists(final) and not is_forced:
+        raise Fault("%s is there already; --force replaces it, and --out names another" % final)
+    shutil.rmtree(part, ignore_errors=True)
+    with naming(part):
+        os.mkdir(part)
+    try:
+        why = fill(part, path, os.path.basename(out), told)
+        if os.path.exists(final):
+            shutil.rmtree(final)
+        os.rename(part, final)
+    finally:
+        shutil.rmtree(part, ignore_errors=True)
+    return why
