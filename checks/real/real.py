@@ -1,9 +1,11 @@
 """Runs programs of the distribution as they are and recorded, each in its own folder, and compares what comes of it.
 
 real.py PROGRAMS RECORDER [WORD ..]: those of a list whose command has one of the words, or all. A program is right
-where its status, what it prints and the files that it writes are as without the recorder, and the summary names the
-runtime. Lines that tell times are left out. Status 1: a program is wrong.
+where its status, what it prints and the files that it writes are as without the recorder; the summary names the
+runtime; the time breakdown adds up; no sentence says what cannot be so; and the diagnosis has a change, or a reason for
+none. Lines that tell times are left out. Status 1: a program is wrong.
 """
+import json
 import os
 import re
 import shlex
@@ -19,6 +21,12 @@ SECONDS = 240
 VARIES = re.compile(rb"time|second|\bsec\b|date|speedup|memory|\d:\d\d|\d s\b", re.I)
 RUNTIME = re.compile(r"threads? of ((?:gcc|LLVM) \d+)")
 OUTPUT = "standard output"
+NEVER = re.compile(r"account not told|clocks differ|Traceback|\bnan\b|(?<=\s)-\d")
+OF_BARRIERS = re.compile("after the barrier of")     # in the place of what code has behind it
+OF_TASKS = re.compile(r"\b(cutoff|fold|taskwait|grainsize|depend|(too few|uneven|small|longest) tasks)\b")
+NO_TASKS = re.compile(r"^tasks +0,", re.M)
+FIRST_LINES = 8
+REASONS = ("machine", "efficient")      # causes of which nobody changes the program
 
 
 @dataclass
@@ -82,14 +90,53 @@ def faults(plain, again, recorded):
         yield "the summary names no runtime: %s" % recorded.said.strip()
 
 
+def forbidden(said):
+    """Sentences that cannot be so."""
+    first = "\n".join(said.split("\n")[:FIRST_LINES])
+    told = [(NEVER, said), (OF_BARRIERS, first)] + [(OF_TASKS, first)] * bool(NO_TASKS.search(said))
+    yield from ("it says '%s'" % found[0] for pattern, words in told for found in pattern.finditer(words))
+    for threads, busy in re.findall(r"on (\d+) threads: ([\d.]+) of them busy", said):
+        if float(busy) > int(threads):
+            yield "%s of %s threads are busy" % (busy, threads)
+
+
+def account_faults(told):
+    account = told["account"]
+    if not account:
+        yield "no account: %s" % told["no account"]
+    elif sum(account["parts"].values()) != account["threads"] * account["elapsed"]:
+        yield "the account does not add up"
+
+
+def diagnosis_faults(told):
+    causes = told["diagnosis"]
+    if not causes:
+        yield "no diagnosis"
+    elif causes[0]["kind"] not in REASONS and not causes[0]["change"]:
+        yield "no change for '%s'" % causes[0]["what"]
+
+
+def told_faults(said, path):
+    """Of what is told, in words and as JSON."""
+    yield from forbidden(said)
+    if os.path.exists(path):
+        with open(path, encoding="utf-8") as file:
+            told = json.load(file)
+        yield from account_faults(told)
+        yield from diagnosis_faults(told)
+
+
 def try_program(words, recorder):
-    """What is wrong, and the runtime's name."""
+    """What is wrong, the runtime's name, and what costs time."""
     environment = dict(os.environ, OMP_NUM_THREADS="2", OMP_WAIT_POLICY="passive")
     plain, again = run(words, environment), run(words, environment)
     with tempfile.TemporaryDirectory() as out:
-        recorded = run([recorder, "--out", os.path.join(out, "run"), "--", *words], environment)
-    named = RUNTIME.search(recorded.said)
-    return list(faults(plain, again, recorded)), "status %s, on %s" % (plain.status, named[1] if named else "nothing")
+        path = os.path.join(out, "told")
+        options = ["--all", "--json", path, "--out", os.path.join(out, "run")]
+        recorded = run([recorder, *options, "--", *words], environment)
+        found = [*faults(plain, again, recorded), *told_faults(recorded.said, path)]
+    named, lost = RUNTIME.search(recorded.said), re.search(r"^lost +(.*)", recorded.said, re.M)
+    return found, "status %s, on %s: %s" % (plain.status, named[1] if named else "nothing", lost[1] if lost else "")
 
 
 def main(listing, recorder, *wanted):

@@ -3,7 +3,8 @@ import tempfile
 import unittest
 
 import inputs
-from real import OUTPUT, Left, differences, entries, faults, new_files, steady
+from real import (OUTPUT, Left, account_faults, diagnosis_faults, differences, entries, faults, forbidden, new_files,
+                  steady)
 
 SUMMARY = "gm: 49.6 ms on 2 threads of gcc 12. At best 30.7 ms.\n"
 
@@ -40,6 +41,27 @@ class RealTest(unittest.TestCase):
         self.assertEqual(list(faults(same, same, other)), [OUTPUT + " differs"])
         self.assertEqual(list(faults(same, other, other)), [])
         self.assertIn("names no runtime", list(faults(same, same, left(said="spanprof", **{OUTPUT: b"1"})))[0])
+
+    def test_forbidden_sentences(self):
+        loops = SUMMARY + "do  a lower cutoff\nsure 1 run\ntasks         0, 1,000 pieces of loops\n"
+        self.assertEqual(list(forbidden(loops)), ["it says 'cutoff'"])
+        self.assertEqual(list(forbidden(loops.replace("0, 1", "10, 1"))), [])
+        self.assertEqual(list(forbidden("gm: -5 ms on 2 threads")), ["it says '-5'"])
+        self.assertEqual(list(forbidden("elapsed 1 s on 2 threads: 3.01 of them busy")), ["3.01 of 2 threads are busy"])
+        self.assertEqual(list(forbidden(SUMMARY)), [])
+
+    def test_account(self):
+        account = {"threads": 2, "elapsed": 5, "parts": {"code": 7, "starved": 3}}
+        self.assertEqual(list(account_faults({"account": account})), [])
+        self.assertEqual(len(list(account_faults({"account": dict(account, elapsed=6)}))), 1)
+        self.assertEqual(list(account_faults({"account": None, "no account": "why"})), ["no account: why"])
+
+    def test_a_change_or_a_reason(self):
+        self.assertEqual(list(diagnosis_faults({"diagnosis": [{"kind": "machine", "change": None}]})), [])
+        self.assertEqual(list(diagnosis_faults({"diagnosis": [{"kind": "serial", "change": {"what": "divide"}}]})), [])
+        without = {"kind": "serial", "change": None, "what": "main runs on one thread"}
+        self.assertEqual(list(diagnosis_faults({"diagnosis": [without]})), ["no change for 'main runs on one thread'"])
+        self.assertEqual(list(diagnosis_faults({"diagnosis": []})), ["no diagnosis"])
 
 
 if __name__ == "__main__":

@@ -184,7 +184,8 @@ std::optional<Passed> ThreadLog::passed_since_lock(const Moment &now, bool has_s
   int64_t lasted = wall_time_at(now.at) - wall_time_at(std::exchange(held_since, 0));
   std::optional<Passed> passed = both.at_record(times(now));
   if (!passed || has_stood) return {};
-  return Passed{passed->slept, lasted, lasted - std::min(lasted, passed->off()), passed->taken};
+  int64_t off = std::min(lasted, passed->off());
+  return Passed{passed->slept, lasted, lasted - off, passed->taken, std::min(off, passed->put_off)};
 }
 
 // Where switches are known, clocks that agree say nothing.
@@ -197,8 +198,18 @@ void ThreadLog::compare_clocks(Moment &now) {
   if (passed && (passed->is_off() || !kept.is_known())) tell_passed(now, *passed);
 }
 
-void ThreadLog::tell_passed(const Moment &now, const Passed &passed) {
+// Where the thread both slept and lost its processor, each by itself.
+void ThreadLog::tell_passed(const Moment &now, Passed passed) {
   is_slow = true;
+  if (passed.slept && passed.taken && passed.put_off < passed.off()) {
+    passed.wall -= passed.put_off;
+    passed.taken = false;
+    put_passed(now, {false, passed.put_off, 0, true});
+  }
+  put_passed(now, passed);
+}
+
+void ThreadLog::put_passed(const Moment &now, const Passed &passed) {
   auto processor = static_cast<uint64_t>(passed.processor);
   uint64_t wall = std::min(static_cast<uint64_t>(passed.wall), log_form::code_mask);
   unsigned off = (passed.slept ? log_form::slept : 0U) | (passed.taken ? log_form::taken : 0U);

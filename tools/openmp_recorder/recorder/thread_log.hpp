@@ -201,7 +201,8 @@ class alignas(64) ThreadLog {
   void read_anew(Moment &now);
   void compare_clocks(Moment &now);
   std::optional<Passed> passed_since_lock(const Moment &now, bool has_stood);
-  void tell_passed(const Moment &now, const Passed &passed);
+  void tell_passed(const Moment &now, Passed passed);
+  void put_passed(const Moment &now, const Passed &passed);
   uint64_t own_time_since(const Moment &began) const;
   // False where the log has stopped, and then the record is dropped. It allocates and calls the system.
   bool grow();

@@ -1,8 +1,34 @@
 #include "clocks.hpp"
 
+#include <errno.h>
+#include <fcntl.h>
 #include <sys/resource.h>
+#include <sys/syscall.h>
+#include <unistd.h>
 
+#include <algorithm>
+#include <cstdlib>
 #include <utility>
+
+namespace {
+constexpr int64_t worth_reading = 200000;  // nanoseconds off the processor; to read how long it was put off takes 3,000
+
+// How long the thread could have run, and others did, so far; -1 where the kernel does not say. The calls are made
+// directly, since functions of these names may be this library's, and end a thread that is cancelled.
+int64_t put_off_so_far() {
+  int before = errno;
+  char line[64] = "";
+  long file = syscall(SYS_openat, AT_FDCWD, "/proc/thread-self/schedstat", O_RDONLY | O_CLOEXEC, 0);
+  if (file >= 0) {
+    syscall(SYS_read, file, line, sizeof line - 1);
+    syscall(SYS_close, file);
+  }
+  errno = before;
+  char *behind = line;
+  std::strtoll(line, &behind, 10);  // how long it ran
+  return behind == line ? -1 : std::strtoll(behind, nullptr, 10);
+}
+}  // namespace
 
 int64_t read_clock(clockid_t id) {
   timespec t;
@@ -14,12 +40,15 @@ Look look_now() {
   Look now{{wall_time(), processor_time()}};
   rusage use;
   if (!getrusage(RUSAGE_THREAD, &use)) now.given_up = use.ru_nvcsw, now.taken = use.ru_nivcsw;
+  now.put_off = put_off_so_far();
   return now;
 }
 
 Passed passed_between(const Look &first, const Look &last) {
-  return {last.given_up != first.given_up, last.at.wall - first.at.wall, last.at.processor - first.at.processor,
-          last.taken != first.taken};
+  Passed since{last.given_up != first.given_up, last.at.wall - first.at.wall, last.at.processor - first.at.processor,
+               last.taken != first.taken};
+  since.put_off = last.put_off < 0 ? since.off() : std::clamp(last.put_off - first.put_off, int64_t{0}, since.off());
+  return since;
 }
 
 void BothClocks::begin_at(const Look &first) {
@@ -27,6 +56,7 @@ void BothClocks::begin_at(const Look &first) {
   before_wait = {};
   given_up = first.given_up;
   taken = first.taken;
+  put_off = first.put_off;
 }
 
 // By the processor's clock both are read at each call: what passed before the last of them is left out where the way
@@ -49,6 +79,11 @@ void BothClocks::count_switches(Passed &since) {
   if (getrusage(RUSAGE_THREAD, &use)) return;
   since.slept = use.ru_nvcsw != std::exchange(given_up, use.ru_nvcsw);
   since.taken = use.ru_nivcsw != std::exchange(taken, use.ru_nivcsw);
+  since.put_off = since.off();
+  if (since.put_off < worth_reading) return;
+  // What passed where it was not read is in it too.
+  if (int64_t now = put_off_so_far(); now >= 0)
+    since.put_off = std::clamp(now - std::exchange(put_off, now), int64_t{0}, since.put_off);
 }
 
 std::optional<Passed> BothClocks::at_record(const Times &now) {

@@ -24,8 +24,9 @@ struct Passed {
   bool slept = false;  // the thread gave its processor up: it slept, or waited for something
   int64_t wall = 0, processor = 0;
   bool taken = false;  // the kernel gave its processor to another thread
+  int64_t put_off = 0;  // where it did both: how long it could have run, and others did
   int64_t off() const { return wall > processor ? wall - processor : 0; }
-  bool preempted() const { return taken || !slept; }  // where it did both, how long which took is not known
+  bool preempted() const { return taken || !slept; }
   bool is_off() const { return off() >= shortest_switch && off() > wall / rates_apart; }
   bool differ() const { return off() > wall / 20; }
 };
@@ -36,10 +37,11 @@ struct Times {
   int64_t wall = 0, processor = 0;
 };
 
-// Both clocks of the calling thread, and how often it had lost its processor, in both ways.
+// Both clocks of the calling thread, how often it had lost its processor, in both ways, and how long it was put off.
 struct Look {
   Times at;
   long given_up = 0, taken = 0;
+  int64_t put_off = 0;
 };
 Look look_now();
 Passed passed_between(const Look &first, const Look &last);
@@ -64,6 +66,7 @@ class BothClocks {
   int64_t apart;
   Times last, at, before_wait;  // as both were read last; at the call of the recorder; passed before a wait
   long given_up = 0, taken = 0;  // how often the thread lost its processor in both ways, so far
+  int64_t put_off = 0;  // as it was read last
   bool is_far(const Times &now);
   void count_switches(Passed &since);
 };

@@ -59,6 +59,15 @@ TEST(a_sleep_before_the_first_record_counts) {
   EXPECT(passed.slept, true);
 }
 
+TEST(how_long_it_was_put_off_beside_a_sleep) {
+  auto put_off = [](int64_t first, int64_t last) {
+    return passed_between({{1000, 100}, 1, 1, first}, {{2000, 200}, 2, 2, last}).put_off;
+  };
+  EXPECT(put_off(50, 150), 100);
+  EXPECT(put_off(50, 5000), 900);  // no longer than it was off
+  EXPECT(put_off(50, -1), 900);  // where the kernel does not say
+}
+
 TEST(a_sleep_counts_where_it_was) {
   BothClocks both(false);
   both.at_record(times(wall));

@@ -121,19 +121,19 @@ TEST(time_before_the_first_record_is_appended_behind_it) {
   EXPECT(passed->passed.taken, false);
 }
 
-// By no other clock: by the wall clock it is told, and counts.
+// By no other clock: by the wall clock it is told, and counts. What it slept beside that counts too.
 TEST(what_others_took_of_the_processor_is_left_out) {
   for (log_form::Costs costs : {log_form::Costs::Wall, log_form::Costs::Own}) {
     for (long taken : {0, 1}) {
       Appended made(costs);
       ThreadLog log(0);
       made.append(log, 0);
-      Look before{{1000, 300}, 1, 0}, after{{1000 + 2 * far_apart, 500}, 2, taken};
+      Look before{{1000, 300}, 1, 0}, after{{1000 + 2 * far_apart, 500}, 2, taken, taken * far_apart};
       log.look_back(before, after, {beginning, 0});
       ThreadReader reader(place.folder + "/thread.0", 0, made.head);
       reader.next();
       bool is_left_out = taken && costs == log_form::Costs::Own;
-      EXPECT(reader.next()->stood_still, is_left_out ? 2 * far_apart - 200 : 0);
+      EXPECT(reader.next()->stood_still, is_left_out ? far_apart : 0);
     }
   }
 }
