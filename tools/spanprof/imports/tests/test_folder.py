@@ -26,7 +26,7 @@ class Folder(InFolder):
     def test_predictions_take_its_text_and_times(self):
         text = text_of(self.made(Told("ninja", TASKS)))
         with mock.patch("spanprof.client.read", side_effect=lambda path: pathlib.Path(path).read_text("utf-8")):
-            found = recorded(text)
+            found = recorded(*text)
         self.assertEqual((found.work, found.threads, found.elapsed, found.outside, found.is_timed),
                          (10000, 2, 6000, 0, True))
 
