@@ -89,6 +89,31 @@ def naming(path):
         raise Fault("%s: %s" % (path, wrong.strerror or wrong)) from wrong
 
 
+def writing_there(path, how):
+    """A device or a pipe, which nothing replaces; or standard output, for `-`."""
+    return open(sys.stdout.fileno(), "w", closefd=False, **how) if path == "-" else open(path, "w", **how)
+
+
+@contextmanager
+def writing(path, **how):
+    """A text file that gets its name once it is whole; where it cannot be written the one of that name stays."""
+    how.setdefault("encoding", "utf-8")
+    path = os.path.realpath(path) if path != "-" else path
+    with naming(path):
+        if path == "-" or os.path.exists(path) and not os.path.isfile(path):
+            with writing_there(path, how) as file:
+                yield file
+            return
+        part = "%s.part%d" % (path, os.getpid())
+        try:
+            with open(part, "w", **how) as file:
+                yield file
+            os.replace(part, path)
+        finally:
+            if os.path.exists(part):
+                os.remove(part)
+
+
 def end_by(number, _):
     """Ends this process by the signal, once the files that live as long as it are gone."""
     atexit._run_exitfuncs()

@@ -4,7 +4,7 @@ import json
 import os
 import sys
 
-from spanprof.command import Console, check_files, count, end_with, naming, percent, show
+from spanprof.command import Console, check_files, count, end_with, percent, show, writing
 from spanprof.diagnosis.compare import as_json as comparison_json, compared, is_slower, lines as comparison_lines
 from spanprof.diagnosis.tell import told_of
 from spanprof.errors import Fault
@@ -70,7 +70,7 @@ def check_words(parser, chosen):
 
 
 def write(path, text):
-    with naming(path), open(path, "w", encoding="utf-8", errors="replace") as file:   # a file's name may be no UTF-8
+    with writing(path, errors="replace") as file:   # a file's name may be no UTF-8
         file.write(text)
 
 
