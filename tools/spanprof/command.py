@@ -71,7 +71,7 @@ def percent(word):
 
 def check_files(text, output=None, what="changed text"):
     """Whether the text is there, and is not what would be written."""
-    if text != "-" and not os.path.exists(text):
+    if not os.path.exists(text):
         raise Fault("%s: no such file" % (text or "''"))
     refuse_folder(text)
     if not os.path.isfile(text):

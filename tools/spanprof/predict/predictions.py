@@ -9,14 +9,14 @@ from spanprof.predict.estimate import LLVM, estimate
 from spanprof.predict.machine import machine_file, read_machine
 from spanprof.predict.recorded import recorded, with_text
 from spanprof.predict.words import changed_json, changed_words
-from spanprof.recording import folder_of, open_recording
+from spanprof.recording import folder_of, open_recording, text_of as plain_text
 
 SLOW = 1.15     # times as long as the quickest recording on as many threads
 
 
 def text_of(path, tell=lambda words: None):
     """A text; or of a recording that of its region with the most code."""
-    return region_text(open_recording(path), tell=tell) if folder_of(path) else path
+    return region_text(open_recording(path), tell=tell) if folder_of(path) else plain_text(path)
 
 
 def undisturbed(several):

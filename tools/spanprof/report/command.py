@@ -24,7 +24,9 @@ MOST_THREADS = 1024
 
 
 def beside(text):
-    """The page's name where none is given; never the text's own."""
+    """The page's name where none is given; never the text's own. Of standard input it goes to standard output."""
+    if text == "-":
+        return text
     stem, ending = os.path.splitext(text.rstrip(os.sep))
     return stem + ".html" if ending != ".html" else text + ".html"
 
@@ -105,7 +107,7 @@ def write_the_rest(chosen, progress):
     for path, what in written:
         write(path, page(views) if what == "page" else trace_text(views[0]))
     progress.end([path for path, _ in written])
-    if chosen.output and views[0].diagnosis:
+    if chosen.output not in (None, "-") and views[0].diagnosis:
         show(views[0].diagnosis.lines(), sys.stdout)
 
 

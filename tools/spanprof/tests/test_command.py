@@ -71,8 +71,8 @@ class Files(InFolder):
             check_files(text, os.path.join(self.folder, ".", "mine.tasks"), "burdened text")
         with self.assertRaisesRegex(Fault, "^'': no such file$"):
             check_files("")
-        with self.assertRaisesRegex(Fault, "^-: write the text to a file first"):
-            check_files("-")
+        with self.assertRaisesRegex(Fault, "^/dev/null: write the text to a file first"):
+            check_files("/dev/null")
         with self.assertRaisesRegex(Fault, "not a recording, which is a folder NAME.spanprof$"):
             check_files(self.folder)
         self.write("head")
