@@ -77,7 +77,8 @@ def write(path, files, record):
     with zipfile.ZipFile(path, "w", zipfile.ZIP_DEFLATED) as wheel:
         for name, words, mode in files + [(record, lines.encode(), PLAIN)]:
             about = zipfile.ZipInfo(name, date)
-            about.external_attr, about.compress_type = mode << 16, zipfile.ZIP_DEFLATED
+            setattr(about, "external_attr", mode << 16)
+            about.compress_type = zipfile.ZIP_DEFLATED
             wheel.writestr(about, words)
 
 

@@ -71,7 +71,7 @@ def percent(word):
 
 def check_files(text, output=None, what="changed text"):
     """Whether the text is there, and is not what would be written."""
-    if text != "-" and not os.path.exists(text):
+    if not os.path.exists(text):
         raise Fault("%s: no such file" % (text or "''"))
     refuse_folder(text)
     if not os.path.isfile(text):
@@ -87,6 +87,31 @@ def naming(path):
         yield
     except OSError as wrong:
         raise Fault("%s: %s" % (path, wrong.strerror or wrong)) from wrong
+
+
+def writing_there(path, how):
+    """A device or a pipe, which nothing replaces; or standard output, for `-`."""
+    return open(sys.stdout.fileno(), "w", closefd=False, **how) if path == "-" else open(path, "w", **how)
+
+
+@contextmanager
+def writing(path, **how):
+    """A text file that gets its name once it is whole; where it cannot be written the one of that name stays."""
+    how.setdefault("encoding", "utf-8")
+    path = os.path.realpath(path) if path != "-" else path
+    with naming(path):
+        if path == "-" or os.path.exists(path) and not os.path.isfile(path):
+            with writing_there(path, how) as file:
+                yield file
+            return
+        part = "%s.part%d" % (path, os.getpid())
+        try:
+            with open(part, "w", **how) as file:
+                yield file
+            os.replace(part, path)
+        finally:
+            if os.path.exists(part):
+                os.remove(part)
 
 
 def end_by(number, _):

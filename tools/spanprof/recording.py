@@ -6,6 +6,7 @@ import json
 import os
 import re
 import shutil
+import sys
 import tempfile
 from dataclasses import dataclass, field
 
@@ -143,8 +144,19 @@ def open_recording(path):
     return in_folder(folder) if folder else Recording(path, beside(path, ".timed"))
 
 
+@functools.lru_cache(maxsize=None)
+def given_text():
+    """Standard input in a file, since a text is read more than once."""
+    path = os.path.join(made_folder(), "standard_input.tasks")
+    with open(path, "wb") as file:
+        shutil.copyfileobj(sys.stdin.buffer, file, PIECE)
+    return path
+
+
 def text_of(path):
-    """The text that a tool reads where a recording's folder or a text is named."""
+    """The text that a tool reads where a recording's folder, a text, or `-` for standard input is named."""
+    if path == "-":
+        return given_text()
     folder = folder_of(path)
     return in_folder(folder).text if folder else path
 

@@ -14,6 +14,7 @@ DIVIDER = re.compile(r"---\r?\n?")
 AT_EVENT = re.compile(r"error: event (\d+): (\w+)(?: (\d+))?")
 CLOSEST = 0.6       # how alike a word has to be to one that is meant
 LONGEST_SHOWN = 100
+LONGEST_WORD = 31
 MOST_ASKED = 1 << 22    # bytes of a text in which the wrong token is looked for
 KINDS = {
     "TooLong": "the text has too many bytes: one of version 2 has 4,194,304 at most, and 4,000,000,000 lines where its "
@@ -94,7 +95,9 @@ def open_brace(lines, number):
 
 
 def meant(word):
-    """A hint at the word of the language that is most like this one."""
+    """That the word is too long, or a hint at the word of the language that is most like this one."""
+    if len(word) > LONGEST_WORD:
+        return ", a word of %d bytes; the most is %d" % (len(word), LONGEST_WORD)
     alike = difflib.get_close_matches(word, STATEMENTS, n=1, cutoff=CLOSEST)
     return "; did you mean `%s`?" % alike[0] if alike and alike[0] != word else ""
 

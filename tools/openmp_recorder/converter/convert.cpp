@@ -58,7 +58,7 @@ const char *word_of(Stopped why) {
 
 // Where the log ends, if that is not where the program did.
 void tell_ending(const LogFolder &log, const Ending &ending) {
-  int64_t recorded = ending.last - log.head.first.wall;
+  int64_t recorded = std::max<int64_t>(0, ending.last - log.head.first.wall);
   if (ending.full) Line("stopped").put("why", word_of(log.head.stopped)).put("recorded", recorded);
   else if (log.is_running()) Line("running").put("recorded", recorded);
   else if (ending.killed) Line("killed").put("recorded", recorded).put("inside", ending.wall != 0);

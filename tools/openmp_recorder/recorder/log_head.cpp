@@ -57,8 +57,8 @@ Head *map_head(const std::string &path) {
   flock(file, LOCK_SH);
   locked = file;
   void *page = MAP_FAILED;
-  if (!posix_fallocate(file, 0, sizeof(Head)))
-    page = mmap(nullptr, sizeof(Head), PROT_READ | PROT_WRITE, MAP_SHARED, file, 0);
+  errno = posix_fallocate(file, 0, sizeof(Head));
+  if (!errno) page = mmap(nullptr, sizeof(Head), PROT_READ | PROT_WRITE, MAP_SHARED, file, 0);
   return page == MAP_FAILED ? nullptr : static_cast<Head *>(page);
 }
 
@@ -180,7 +180,7 @@ ThreadLog *make_thread_log() {
     return thread_log;
   }
   if (!is_made && !make_log()) {
-    stop_log(Stopped::Unwritable);
+    stop_log(why_unwritten());
     return nullptr;
   }
   is_made = true;

@@ -1,5 +1,7 @@
 // The log of the process, from its beginning to its end: its folder, its head, and its threads.
 #pragma once
+#include <errno.h>
+
 #include <atomic>
 #include <cstdint>
 #include <string>
@@ -50,6 +52,10 @@ uint32_t new_region();  // from 1, in the order of time
 // Whether a call needs no more than a record with the time-stamp counter, as most do; not where recording has stopped.
 // A thread may see it late, and then writes a few more records into its block, which do no harm.
 extern std::atomic<uint32_t> only_records;
+inline log_form::Stopped why_unwritten() {
+  bool is_full = errno == ENOSPC || errno == EDQUOT || errno == EFBIG;
+  return is_full ? log_form::Stopped::Full : log_form::Stopped::Unwritable;
+}
 inline bool is_stopped() { return log_stopped.load(std::memory_order_relaxed) != log_form::Stopped::Not; }
 inline ThreadLog *own_log() { return __builtin_expect(thread_log != nullptr, true) ? thread_log : make_thread_log(); }
 

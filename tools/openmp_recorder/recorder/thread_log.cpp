@@ -23,9 +23,11 @@ char *map_block(const std::string &path) {
   int file = open(path.c_str(), O_RDWR | O_CREAT | O_CLOEXEC, 0666);
   if (file < 0) return nullptr;
   void *pages = MAP_FAILED;
-  if (is_allowed(log_form::block_bytes) && !posix_fallocate(file, 0, log_form::block_bytes))
-    pages = mmap(nullptr, log_form::block_bytes, PROT_READ | PROT_WRITE, MAP_SHARED | MAP_POPULATE, file, 0);
+  errno = is_allowed(log_form::block_bytes) ? posix_fallocate(file, 0, log_form::block_bytes) : EFBIG;
+  if (!errno) pages = mmap(nullptr, log_form::block_bytes, PROT_READ | PROT_WRITE, MAP_SHARED | MAP_POPULATE, file, 0);
+  int why = errno;
   close(file);
+  errno = why;
   return pages == MAP_FAILED ? nullptr : static_cast<char *>(pages);
 }
 
@@ -42,10 +44,9 @@ log_form::Stopped append(const std::string &path, const char *bytes, uint64_t at
     if (more > 0) done += static_cast<uint64_t>(more);
     else if (more == 0 || errno != EINTR) break;
   }
-  bool is_full = more == 0 || errno == ENOSPC || errno == EDQUOT || errno == EFBIG;
+  log_form::Stopped why = more == 0 ? log_form::Stopped::Full : why_unwritten();
   close(file);
-  if (done == log_form::block_bytes) return log_form::Stopped::Not;
-  return is_full ? log_form::Stopped::Full : log_form::Stopped::Unwritable;
+  return done == log_form::block_bytes ? log_form::Stopped::Not : why;
 }
 
 // Records that go nowhere, to see how long one takes.
@@ -130,7 +131,7 @@ bool ThreadLog::grow() {
   if (!block)
     block = map_block(this_log().folder + log_form::thread_file + std::to_string(number) + log_form::last_block);
   if (!block) {
-    stop_log(log_form::Stopped::Unwritable);
+    stop_log(why_unwritten());
     return false;
   }
   next = block;

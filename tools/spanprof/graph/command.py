@@ -3,7 +3,7 @@ import argparse
 
 from spanprof import client
 from spanprof.answers import Answers
-from spanprof.command import Console, check_files, end_with, naming
+from spanprof.command import Console, check_files, end_with, writing
 from spanprof.graph.dot import lines
 from spanprof.recording import text_of
 from spanprof.text_file import TextFile
@@ -43,7 +43,7 @@ def answer(options):
     if not options.output:
         print(*told, sep="\n")
         return
-    with naming(options.output), open(options.output, "w", encoding="utf-8") as out:
+    with writing(options.output) as out:
         print(*told, sep="\n", file=out)
 
 

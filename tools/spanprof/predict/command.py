@@ -2,7 +2,7 @@
 import argparse
 import json
 
-from spanprof.command import Console, check_files, count, end_with, naming
+from spanprof.command import Console, check_files, count, end_with, writing
 from spanprof.predict.burden import burdened_text
 from spanprof.predict.machine import machine_file, read_machine
 from spanprof.predict.predictions import by_threads, predictions, text_of
@@ -54,7 +54,7 @@ def answer(chosen):
     found = predictions(recordings, machine, chosen.threads, chosen.runtime)
     if chosen.output:
         one = found[-1][0]
-        with naming(chosen.output), open(chosen.output, "w", encoding="utf-8") as file:
+        with writing(chosen.output) as file:
             file.write(burdened_text(one.base.text, one.costs, remark(one)))
     told = recordings[max(recordings)], machine, found
     print(json.dumps(as_json(*told), indent=2) if chosen.json else "\n".join(lines(*told)))

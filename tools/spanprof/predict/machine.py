@@ -5,6 +5,7 @@ import statistics
 from dataclasses import dataclass
 from typing import Dict
 
+from spanprof.command import naming, writing
 from spanprof.errors import Fault
 
 COSTS = ("creation", "dispatch", "steal", "wake_up")
@@ -78,10 +79,8 @@ def read_machine(path):
 
 
 def write_machine(machine, path):
-    try:
+    with naming(path):
         os.makedirs(os.path.dirname(os.path.abspath(path)), exist_ok=True)
-        with open(path, "w", encoding="utf-8") as file:
-            json.dump(as_json(machine), file, indent=1)
-            file.write("\n")
-    except OSError as wrong:
-        raise Fault("%s: %s" % (path, wrong.strerror)) from wrong
+    with writing(path) as file:
+        json.dump(as_json(machine), file, indent=1)
+        file.write("\n")

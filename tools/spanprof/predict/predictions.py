@@ -9,7 +9,7 @@ from spanprof.predict.estimate import estimate
 from spanprof.predict.machine import machine_file, read_machine
 from spanprof.predict.recorded import LLVM, RUNTIMES, recorded, with_text
 from spanprof.predict.words import changed_json, changed_words
-from spanprof.recording import open_recording
+from spanprof.recording import folder_of, open_recording, text_of as plain_text
 
 SLOW = 1.15     # times as long as the quickest recording on as many threads
 
@@ -17,10 +17,12 @@ SLOW = 1.15     # times as long as the quickest recording on as many threads
 def text_of(path, tell=lambda words: None):
     """A text, or of a recording that of its region with the most code, or the only one where it has no log; the name;
     the runtime, which no text tells."""
+    if not folder_of(path):
+        return plain_text(path), path, LLVM
     one = open_recording(path)
     runtime = (one.meta.get("runtime") or {}).get("name")
-    text, name = region_text(one, tell=tell) if one.log else one.text, one.name if one.folder else path
-    return text, name, runtime if runtime in RUNTIMES else LLVM
+    text = region_text(one, tell=tell) if one.log else one.text
+    return text, one.name, runtime if runtime in RUNTIMES else LLVM
 
 
 def undisturbed(several):

@@ -1,30 +1,32 @@
 """spanprof-convert: makes the text of a recording anew from its log, or a text of a part of it."""
+import argparse
 import os
 import shutil
 import sys
 
-from spanprof.command import Console, end_with, naming
+from spanprof.command import Console, end_with, naming, writing
 from spanprof.converting import (convert, convert_into, converter, has_failed, made_text, no_region, of_region)
-from spanprof.errors import OWN_FAULT, Fault
+from spanprof.errors import Fault
 from spanprof.recording import ENDING, LOG, META, is_recording, made_folder, open_recording
 from spanprof.record.files import check_folder
 from spanprof.record.meta import old_meta, write_meta
-from spanprof.record.options import Parser, check_name, unit
+from spanprof.record.options import check_name, unit
 from spanprof.record.told import in_words
 from spanprof.text import HEADER
 from spanprof.version import Version
 
 CONSOLE = Console("spanprof-convert")
+BYTES = "surrogateescape"   # which keeps them, whatever they encode
 DESCRIPTION = """Makes the text of a recording again from its log; with --region, the text of one parallel region:
 NAME.tasks, and NAME.timed with its times."""
-AFTER = "Exit status 125: wrong arguments, a log that cannot be converted, or a text that cannot be written."
+AFTER = "Exit status 1: a log that cannot be converted, or a text that cannot be written; 2: wrong arguments."
 MOST_LINES, LONGEST = 1000, 1000    # of the comments before a text's first word
 WANTED = "; a recording is the folder NAME.spanprof that spanprof-record leaves"
 
 
 def parser():
-    out = Parser(prog="spanprof-convert", description=DESCRIPTION, epilog=AFTER, allow_abbrev=False,
-                 usage="spanprof-convert [options] NAME.spanprof")
+    out = argparse.ArgumentParser(prog="spanprof-convert", description=DESCRIPTION, epilog=AFTER,
+                                  allow_abbrev=False, usage="spanprof-convert [options] NAME.spanprof")
     add = out.add_argument
     add("--out", metavar="NAME", help="write another recording, NAME.spanprof, with a link to the log; with --region, "
         "write NAME.tasks")
@@ -82,7 +84,7 @@ def tell_all(told, made="", name=""):
     for one in told:
         CONSOLE.say(in_words(one).replace(made, name) if made else in_words(one))
     if has_failed(told):
-        raise Fault("nothing is written; --out names a recording elsewhere", OWN_FAULT)
+        raise Fault("nothing is written; --out names a recording elsewhere")
 
 
 def target(chosen, log):
@@ -104,6 +106,8 @@ def write_recording(chosen, program, log):
     folder = target(chosen, log)
     facts = {**old_meta(chosen.recording), "unit": variables(chosen, chosen.recording).get("SPANPROF_UNIT", "ns")}
     told = convert_into(program, log, folder, variables(chosen, chosen.recording))
+    if has_failed(told) and folder != chosen.recording.rstrip(os.sep):
+        shutil.rmtree(folder)
     if not has_failed(told):
         if os.path.exists(os.path.join(folder, META)):
             os.remove(os.path.join(folder, META))
@@ -146,8 +150,9 @@ def write_part(chosen, program, log):
     for ending in (".tasks", ".timed"):
         part = made.removesuffix(".tasks") + ending
         if os.path.exists(part):
-            with naming(name + ending):
-                shutil.move(part, name + ending)
+            with open(part, encoding="utf-8", errors=BYTES) as text, writing(name + ending, errors=BYTES) as file:
+                shutil.copyfileobj(text, file)
+            os.remove(part)
             CONSOLE.say("written: " + name + ending)
 
 
@@ -164,4 +169,4 @@ def answer(chosen):
 
 
 def main(words):
-    end_with(CONSOLE, lambda: answer(parse(words)), status=OWN_FAULT)
+    end_with(CONSOLE, lambda: answer(parse(words)))

@@ -2,7 +2,8 @@
 import json
 import os
 
-from spanprof.errors import DAMAGE, Fault
+from spanprof.command import writing
+from spanprof.errors import DAMAGE
 from spanprof.head import head_of
 from spanprof.record.facts import facts_of_program
 from spanprof.record.runtime_name import runtimes_of
@@ -47,13 +48,9 @@ def write_meta(folder, facts):
     told["runtime"] = runtime_of(folder) or told.get("runtime")
     told["files"] = {name: checksum(os.path.join(folder, name)) for name in files_in(folder)}
     path = os.path.join(folder, META)
-    try:
-        with open(path + ".new", "w", encoding="utf-8") as file:
-            json.dump(told, file, indent=1)
-            file.write("\n")
-        os.replace(path + ".new", path)
-    except OSError as wrong:
-        raise Fault("%s: %s" % (path, wrong.strerror)) from wrong
+    with writing(path) as file:
+        json.dump(told, file, indent=1)
+        file.write("\n")
     return told
 
 

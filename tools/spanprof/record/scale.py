@@ -50,7 +50,7 @@ def record_scale(session):
     found = Scale(runs, times, os.path.basename(session.preload), len(os.sched_getaffinity(0)))
 
     def more(folder):
-        write_json(os.path.join(folder, SCALE), scale_json(found), "")
+        write_json(os.path.join(folder, SCALE), scale_json(found))
         return full_facts(session, folder, times)
     rewind()
     session.options.threads = numbers[-1]

@@ -58,17 +58,19 @@ def print_rank(session, pairs, news):
     show([rank_line(*pair) for pair in pairs] + ["%s: %s" % (session.work.name, one) for one in news])
 
 
-def diagnosed(recording):
-    """None where there is no diagnosis, and why."""
+def diagnosed(recording, is_cut=False):
+    """None where there is no diagnosis, and why: a log that was cut short has the beginning of the run alone."""
+    if is_cut:
+        return None, "no diagnosis, as the run is recorded in part"
     try:
         return told_of(recording), ""
     except (Fault, OSError) as wrong:
         return None, "no diagnosis: %s" % wrong
 
 
-def print_diagnosis(session, recording, news):
+def print_diagnosis(session, recording, news, is_cut):
     """And how it differs from an earlier recording; answers it, or none and why."""
-    diagnosis, why = diagnosed(recording)
+    diagnosis, why = diagnosed(recording, is_cut)
     if diagnosis:
         paths = os.path.relpath(recording.folder), os.path.abspath(recording.folder)
         show(diagnosis.lines(MORE % shlex.quote(min(paths, key=len)), news))
@@ -78,13 +80,15 @@ def print_diagnosis(session, recording, news):
     return diagnosis, why
 
 
-def print_summary(session, recording, answers, others, news, scale):
+def print_summary(session, recording, answers, others, news, scale, is_cut):
     options = session.options
-    diagnosis, why = print_diagnosis(session, recording, news)
-    if diagnosis and not (options.all or options.json):
+    diagnosis, why = print_diagnosis(session, recording, news, is_cut)
+    if is_cut and not options.all:
+        show(["%s: %s" % (recording.name, words) for words in news + [why]])
+    if (diagnosis or is_cut) and not (options.all or options.json):
         return
     account, no_account = account_beside(answers)
-    if options.all or not diagnosis:
+    if options.all or not (diagnosis or is_cut):
         show(summary(answers, news + [why] * bool(why), others, lines_of(account, no_account),
                      program_of(recording.text)))
         show(named("losses", diagnosis.sum_lines() if diagnosis else []))
@@ -93,7 +97,7 @@ def print_summary(session, recording, answers, others, news, scale):
         write_json(options.json, summary_json(diagnosis and diagnosis.json(), run, scale))
 
 
-def print_measured(session, pairs, news, scale):
+def print_measured(session, pairs, news, scale, is_cut):
     """Of recordings and what is answered of them: a summary of the rank that the others wait for, or of that with the
     most work, and of the others a line each. Answers which recording that is."""
     if session.rank is not None:
@@ -103,7 +107,7 @@ def print_measured(session, pairs, news, scale):
     late, ranks = waited_for(waits), told_of_waits(waits)
     first = max(pairs, key=lambda pair: (late is not None and waits_of(pair[0]) == late, pair[1].work))
     others = [rank_line(*pair) for pair in pairs if pair is not first]
-    print_summary(session, *first, others, news, scale)
+    print_summary(session, *first, others, news, scale, is_cut)
     show(["rank  " + ranks] if ranks else [])
     return first[0]
 
@@ -116,6 +120,6 @@ def print_summaries(session, recorded, scale=None):
     remarks = {remark for _, answers in pairs for remark in answers.head.remarks}
     news = session.notes + recorded.said.news(session.out, [one.text for one in found], remarks)
     if pairs:
-        return print_measured(session, pairs, news, scale)
+        return print_measured(session, pairs, news, scale, recorded.said.is_cut)
     print_unmeasured(found[0], news)
     return None

@@ -2,7 +2,7 @@
 import json
 
 from spanprof.account_words import as_json
-from spanprof.errors import Fault
+from spanprof.command import writing
 from spanprof.record.scale_words import scale_json
 
 
@@ -19,10 +19,7 @@ def summary_json(diagnosis, whole, scale):
     return {**(diagnosis or {}), **whole, "scale": scale_json(scale) if scale else None}
 
 
-def write_json(path, told, option="--json "):
-    try:
-        with open(path, "w", encoding="utf-8", errors="replace") as file:
-            json.dump(told, file, indent=2)
-            file.write("\n")
-    except OSError as wrong:
-        raise Fault("%s%s: %s" % (option, path, wrong.strerror)) from wrong
+def write_json(path, told):
+    with writing(path, errors="replace") as file:
+        json.dump(told, file, indent=2)
+        file.write("\n")

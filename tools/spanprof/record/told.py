@@ -74,6 +74,11 @@ class Told:
                          if isinstance(value, str) and value.startswith(old)), value)
         return Told(self.loaded, [{name: new(value) for name, value in one.items()} for one in self.things])
 
+    @property
+    def is_cut(self):
+        """Whether the recorder stopped before the program did."""
+        return any(one["told"] == "stopped" for one in self.things)
+
     def without(self, texts):
         """All but that these were written."""
         return Told(self.loaded, [one for one in self.things

@@ -4,7 +4,7 @@ import json
 import os
 import sys
 
-from spanprof.command import Console, check_files, count, end_with, naming, percent, show
+from spanprof.command import Console, check_files, count, end_with, percent, show, writing
 from spanprof.diagnosis.compare import as_json as comparison_json, compared, is_slower, lines as comparison_lines
 from spanprof.diagnosis.tell import told_of
 from spanprof.errors import Fault
@@ -25,7 +25,9 @@ MOST_THREADS = 1024
 
 
 def beside(text):
-    """The page's name where none is given; never the text's own."""
+    """The page's name where none is given; never the text's own. Of standard input it goes to standard output."""
+    if text == "-":
+        return text
     stem, ending = os.path.splitext(text.rstrip(os.sep))
     return stem + ".html" if ending != ".html" else text + ".html"
 
@@ -75,7 +77,7 @@ def check_words(parser, chosen):
 
 
 def write(path, text):
-    with naming(path), open(path, "w", encoding="utf-8", errors="replace") as file:   # a file's name may be no UTF-8
+    with writing(path, errors="replace") as file:   # a file's name may be no UTF-8
         file.write(text)
 
 
@@ -112,7 +114,7 @@ def write_the_rest(chosen, progress):
     for path, what in written:
         write(path, made[what]())
     progress.end([path for path, _ in written])
-    if chosen.output and views[0].diagnosis:
+    if chosen.output not in (None, "-") and views[0].diagnosis:
         show(views[0].diagnosis.lines(), sys.stdout)
 
 

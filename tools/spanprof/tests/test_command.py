@@ -2,6 +2,7 @@
 import contextlib
 import io
 import os
+import re
 import signal
 import subprocess
 import sys
@@ -9,7 +10,7 @@ import unittest
 from unittest import mock
 
 from spanprof import folders
-from spanprof.command import INTERRUPTED, Console, check_files, end_with, leave, naming, show
+from spanprof.command import INTERRUPTED, Console, check_files, end_with, leave, naming, show, writing
 from spanprof.errors import Fault
 from spanprof.tests.in_folder import InFolder, answered
 
@@ -70,8 +71,8 @@ class Files(InFolder):
             check_files(text, os.path.join(self.folder, ".", "mine.tasks"), "burdened text")
         with self.assertRaisesRegex(Fault, "^'': no such file$"):
             check_files("")
-        with self.assertRaisesRegex(Fault, "^-: write the text to a file first"):
-            check_files("-")
+        with self.assertRaisesRegex(Fault, "^/dev/null: write the text to a file first"):
+            check_files("/dev/null")
         with self.assertRaisesRegex(Fault, "not a recording, which is a folder NAME.spanprof$"):
             check_files(self.folder)
         self.write("head")
@@ -112,6 +113,27 @@ class Signals(unittest.TestCase):
                                   cwd=folders.TOOLS, check=False)
             self.assertEqual(done.returncode, -signal.Signals[name])
             self.assertFalse(os.path.exists(done.stdout.strip()))
+
+
+class Writing(InFolder):
+    def test_a_file_has_its_name_once_it_is_whole(self):
+        path = os.path.join(self.folder, "page")
+        with writing(path) as file:
+            file.write("whole")
+            self.assertFalse(os.path.exists(path))
+        with self.assertRaises(ValueError), writing(path) as file:
+            file.write("half")
+            raise ValueError
+        with open(path, encoding="utf-8") as file:
+            self.assertEqual(file.read(), "whole")
+        self.assertEqual(os.listdir(self.folder), ["page"])
+
+    def test_what_cannot_be_written(self):
+        with self.assertRaisesRegex(Fault, "^%s/no/x: No such file or directory$" % re.escape(self.folder)), \
+                writing(os.path.join(self.folder, "no", "x")):
+            pass
+        with self.assertRaisesRegex(Fault, "^/dev/full: No space left on device$"), writing("/dev/full") as file:
+            file.write("words")
 
 
 if __name__ == "__main__":

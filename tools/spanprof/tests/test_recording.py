@@ -1,6 +1,8 @@
 """Which folders are recordings, whole and of one run."""
+import io
 import os
 import unittest
+from unittest import mock
 
 from spanprof import recording
 from spanprof.errors import Fault
@@ -83,6 +85,16 @@ class PlainTexts(InFolder):
     def test_a_text_of_that_name_alone(self):
         text = self.write("program.tasks", TEXT)
         self.assertEqual(recording.folder_of(text), "")
+
+
+class Given(unittest.TestCase):
+    def test_standard_input_is_a_text(self):
+        recording.given_text.cache_clear()
+        with mock.patch("sys.stdin", io.TextIOWrapper(io.BytesIO(b"omptasks 1\n"))):
+            path = recording.text_of("-")
+        with open(path, "rb") as file:
+            self.assertEqual(file.read(), b"omptasks 1\n")
+        self.assertEqual(recording.text_of("-"), path)
 
 
 if __name__ == "__main__":

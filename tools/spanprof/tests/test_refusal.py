@@ -80,6 +80,10 @@ class NumbersAndBytes(unittest.TestCase):
             place = "mine.tasks:2:%d: BadNumber: " % (line.index(wrong) + 1)
             self.assertIn(place + words, self.of("BadNumber", line, wrong))
 
+    def test_a_name_that_is_too_long(self):
+        name = "a" * 32
+        self.assertIn("`, a word of 32 bytes; the most is 31", self.of("BadWord", "task depend(in: %s)" % name, name))
+
     def test_which_bytes_begin_no_word(self):
         for line, wrong, words in (("work -5", "-", "without a sign or a point"),
                                    ("work 1.5", ".", "without a sign or"),

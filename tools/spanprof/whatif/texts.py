@@ -1,6 +1,6 @@
 """The text in a file, and the changed one."""
 from spanprof import client
-from spanprof.command import naming
+from spanprof.command import writing
 from spanprof.head import head_text, read_head
 from spanprof.remarks import in_json
 from spanprof.marks import Marks, marks_of_file
@@ -43,6 +43,6 @@ def changed_head(text, made):
 
 def write(path, text, found, made):
     """The changed text."""
-    with naming(path), open(path, "w", **ENCODING) as file:
+    with writing(path, **ENCODING) as file:
         file.writelines("# %s\n" % words for words in changed_head(text, made))
         file.write(as_statements(found).text(text.version))

@@ -30,9 +30,9 @@ class Converts(InFolder):
                 mock.patch("signal.signal"):
             return answered(convert_command.main, list(words))
 
-    def refused(self, *words):
+    def refused(self, *words, by=1):
         status, _, errors = self.convert(*words)
-        self.assertEqual(status, 125)
+        self.assertEqual(status, by)
         return errors.splitlines()[-1]
 
     def names(self):
@@ -84,7 +84,7 @@ class Converts(InFolder):
         failing = self.program("failing", "#!/bin/sh\necho half > $2.tasks\nkill -9 $$\n")
         for words in ((), ("--region", "mine.c:9")):
             status, _, errors = self.convert(*words, self.recording, converter=failing)
-            self.assertEqual(status, 125)
+            self.assertEqual(status, 1)
             self.assertIn("log cannot be converted: its converter died: it was killed", errors)
         os.remove(failing)
         self.assertEqual((self.names(), sorted(os.listdir(self.recording))), before)
@@ -100,7 +100,7 @@ class Converts(InFolder):
             self.assertEqual(self.refused(path), "spanprof-convert: " + what + wanted)
 
     def test_arguments_that_exclude_each_other(self):
-        self.assertIn("--out x/: the name of a recording, and no folder", self.refused("--out", "x/", self.recording))
+        self.assertIn("--out x/: the name of a recording, and no folder", self.refused("--out", "x/", self.recording, by=2))
 
     def test_a_folder_that_is_not_there(self):
         self.assertIn("there is no folder /none", self.refused("--out", "/none/x", self.recording))

@@ -92,6 +92,13 @@ class Printed(InFolder):
         self.assertTrue(told[0].startswith("mine.rank1.spanprof, the whole program"))
         self.assertEqual(told[-1], "rank  the others wait for rank 1: 80.0 ms to 90.0 ms in calls of MPI, it 2.00 ms")
 
+    def test_no_diagnosis_of_what_was_recorded_in_part(self):
+        self.diagnosed.side_effect = lambda _, is_cut: (None, "no diagnosis") if is_cut else self.fail("diagnosed")
+        stopped = {"told": "stopped", "why": "full", "recorded": 1500000}
+        told = self.told(recording(self.folder), things=[stopped], all=False)
+        self.assertEqual(told, ["mine.spanprof: a note", "mine.spanprof: the disk was full 1.5 ms after recording began, "
+                                "and what followed is not recorded", "mine.spanprof: no diagnosis"])
+
     def test_children_have_no_summary(self):
         told = self.told(recording(self.folder), recording(self.folder, "mine.child1"))
         self.assertEqual([line for line in told if "child1" in line], [])

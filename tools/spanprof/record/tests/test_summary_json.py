@@ -34,7 +34,7 @@ class Told(unittest.TestCase):
             write_json(path, {"a": 1})
             with open(path, encoding="utf-8") as file:
                 self.assertEqual(json.load(file), {"a": 1})
-            with self.assertRaisesRegex(Fault, "^--json %s/no/x: No such file or directory$" % folder):
+            with self.assertRaisesRegex(Fault, "^%s/no/x: No such file or directory$" % folder):
                 write_json(os.path.join(folder, "no", "x"), {})
 
 
