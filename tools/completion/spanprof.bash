@@ -115,7 +115,7 @@ _spanprof_report() {
     case $before in
         -o | --output) _spanprof_files "$current" .html ;;
         --trace) _spanprof_files "$current" .json ;;
-        --folded) _spanprof_files "$current" ;;
+        --folded | --pprof) _spanprof_files "$current" ;;
         --source) _spanprof_folders "$current" ;;
         --threads) ;;
         *) case $current in

@@ -89,24 +89,24 @@ def naming(path):
         raise Fault("%s: %s" % (path, wrong.strerror or wrong)) from wrong
 
 
-def writing_there(path, how):
+def writing_there(path, mode, how):
     """A device or a pipe, which nothing replaces; or standard output, for `-`."""
-    return open(sys.stdout.fileno(), "w", closefd=False, **how) if path == "-" else open(path, "w", **how)
+    return open(sys.stdout.fileno(), mode, closefd=False, **how) if path == "-" else open(path, mode, **how)
 
 
 @contextmanager
-def writing(path, **how):
-    """A text file that gets its name once it is whole; where it cannot be written the one of that name stays."""
-    how.setdefault("encoding", "utf-8")
+def writing(path, mode="w", **how):
+    """A file that gets its name once it is whole; where it cannot be written the one of that name stays."""
+    how = how if "b" in mode else {"encoding": "utf-8", **how}
     path = os.path.realpath(path) if path != "-" else path
     with naming(path):
         if path == "-" or os.path.exists(path) and not os.path.isfile(path):
-            with writing_there(path, how) as file:
+            with writing_there(path, mode, how) as file:
                 yield file
             return
         part = "%s.part%d" % (path, os.getpid())
         try:
-            with open(part, "w", **how) as file:
+            with open(part, mode, **how) as file:
                 yield file
             os.replace(part, path)
         finally:

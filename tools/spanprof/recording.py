@@ -18,7 +18,6 @@ ENDING = ".spanprof"
 META, TEXT, TIMES, LOG, REGIONS = "recording.json", "program.tasks", "times", "log", "regions"
 SCALE = "scale.json"    # of spanprof-record --scale: times of unrecorded runs
 CHECKED = (TEXT, TIMES, REGIONS, "off", "locks", "calls")    # the log is checked by its converter
-AGAIN = "spanprof-convert %s writes it anew"
 PIECE = 1 << 20
 
 
@@ -61,8 +60,18 @@ def is_recording(path):
                                     os.path.exists(os.path.join(path, LOG, "head")))
 
 
+def log_of(folder):
+    log = os.path.join(folder, LOG)
+    return log if os.path.isdir(log) else ""
+
+
+def how_again(folder):
+    """What makes a damaged recording whole."""
+    return "spanprof-convert %s writes it anew" % folder if log_of(folder) else "record or import it again"
+
+
 def read_meta(folder):
-    again = AGAIN % folder
+    again = how_again(folder)
     try:
         with open(os.path.join(folder, META), encoding="utf-8") as file:
             meta = json.load(file)
@@ -86,10 +95,10 @@ def check_file(path, folder, expected):
     """Ends with a fault where a file is missing, or is another one than the folder was made of."""
     name = os.path.basename(path)
     if not os.path.exists(path):
-        raise Fault("%s: the recording is not complete: %s is missing; %s" % (folder, name, AGAIN % folder))
+        raise Fault("%s: the recording is not complete: %s is missing; %s" % (folder, name, how_again(folder)))
     if checksum(path) != expected:
         raise Fault("%s: %s is not the file that was recorded: its checksum differs; %s" % (
-            folder, name, AGAIN % folder))
+            folder, name, how_again(folder)))
 
 
 def check_files_of(folder, meta):
@@ -98,17 +107,12 @@ def check_files_of(folder, meta):
             check_file(os.path.join(folder, name), folder, expected)
 
 
-def log_of(folder):
-    log = os.path.join(folder, LOG)
-    return log if os.path.isdir(log) else ""
-
-
 def in_folder(folder):
     meta = read_meta(folder)
     check_files_of(folder, meta)
     text = os.path.join(folder, TEXT)
     if TEXT not in meta["files"]:
-        raise Fault("%s: the recording has a log and no text; %s" % (folder, AGAIN % folder))
+        raise Fault("%s: the recording has a log and no text; %s" % (folder, how_again(folder)))
     times = os.path.join(folder, TIMES) if TIMES in meta["files"] else ""
     return Recording(text, times, folder, log_of(folder), meta)
 

@@ -33,7 +33,8 @@ def table_lines(path):
 
 def dot_lines(path):
     answers = Answers(path)
-    return lines(zip(answers.code.places, answers.code.cost, answers.predecessors), list(answers.path_segments))
+    code = answers.code
+    return lines(zip(code.task, code.places, code.cost, answers.predecessors), list(answers.path_segments))
 
 
 def answer(options):

@@ -15,10 +15,14 @@ def edge(first, second, is_on_path):
 
 def lines(segments, path):
     """The text, line by line: a box for each segment with its place and cost, an arrow for each kept edge. `segments`
-    has place, cost and predecessors of each, `path` those of the critical path in their order."""
-    members, steps = set(path), set(zip(path, path[1:]))
+    has task, place, cost and predecessors of each, `path` those of the critical path in their order. What the root does
+    at no cost before all else, such as creating tasks, is left out."""
+    members, steps, left_out = set(path), set(zip(path, path[1:])), set()
     yield from BEGIN
-    for number, (place, cost, predecessors) in enumerate(segments):
+    for number, (task, place, cost, predecessors) in enumerate(segments):
+        if not task and not cost and left_out.issuperset(predecessors):
+            left_out.add(number)
+            continue
         yield node(number, place, cost, number in members)
-        yield from (edge(first, number, (first, number) in steps) for first in predecessors)
+        yield from (edge(first, number, (first, number) in steps) for first in predecessors if first not in left_out)
     yield "}"

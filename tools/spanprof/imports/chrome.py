@@ -4,7 +4,7 @@ import gzip
 import json
 import re
 from collections import defaultdict
-from dataclasses import dataclass
+from dataclasses import dataclass, field
 from typing import NamedTuple, Tuple
 
 from spanprof.errors import Fault
@@ -15,6 +15,7 @@ BLANKS = re.compile(r"[\s,]*")
 EVENTS = re.compile(r'"traceEvents"\s*:\s*\[')
 MICROSECOND = 1000
 FLOWS = ("s", "t", "f")
+MOST_WRONG = 0.1    # of all flows
 
 
 class Event(NamedTuple):
@@ -59,6 +60,8 @@ class Trace:
     slices: dict
     flows: list
     unended: int = 0
+    wrong: list = field(default_factory=list)   # what is wrong with flows, of which there are so many
+    flow_ends: int = 0
 
     def at(self, event):
         return "%s:%d" % (self.path, event.line)
@@ -112,12 +115,14 @@ def take_flow(trace, event, met):
     here = trace.at(event), thread_of(event), trace.moment(event)
     if step == "s":
         met[key] = here
-    elif key not in met:
-        raise Fault("%s: the flow %s, which did not begin before" % (here[0], event.get("id")))
-    else:
+        return
+    trace.flow_ends += 1
+    if key in met:
         is_inside = step == "t" or event.get("bp") == "e"
         trace.flows.append(Flow(here[0], met[key][1:], here[1:], is_inside))
         met[key] = here
+    else:
+        trace.wrong.append("%s: the flow %s did not begin before" % (here[0], event.get("id")))
 
 
 def trace_in(path, process=None):
@@ -136,10 +141,23 @@ def trace_in(path, process=None):
     return trace
 
 
+def notes_on(trace):
+    """What is left out. A trace that was cut has a few flows without a begin or a slice; of one with many the graph is
+    wrong."""
+    if len(trace.wrong) > MOST_WRONG * trace.flow_ends:
+        raise Fault(trace.wrong[0])
+    if trace.wrong:
+        yield "%d of %d flows are left out, such as %s" % (len(trace.wrong), trace.flow_ends, trace.wrong[0])
+    if trace.unended:
+        yield "%d slices without a begin or an end are left out" % trace.unended
+    if not trace.flows:
+        yield "without flows: the slices of a thread follow each other"
+
+
 def read(path, process=None):
     trace = trace_in(path, process)
     if not any(trace.slices.values()):
         raise Fault("%s: no slices (events `X`, or `B` and `E`)%s" % (path, " of this process" * (process is not None)))
-    notes = ["%d slices without a begin or an end are left out" % trace.unended] * bool(trace.unended)
-    notes += ["without flows: the slices of a thread follow each other"] * (not trace.flows)
-    return Told("", tasks_of(trace.slices, trace.flows), notes=notes)
+    tasks, wrong = tasks_of(trace.slices, trace.flows)
+    trace.wrong += wrong
+    return Told("", tasks, notes=list(notes_on(trace)))

@@ -5,6 +5,7 @@ import os
 from spanprof.account_words import lasting
 from spanprof.answers import Answers
 from spanprof.command import Console, end_with
+from spanprof.diagnosis.sentences import shortened
 from spanprof.errors import Fault
 from spanprof.head import counted
 from spanprof.imports.folder import write
@@ -22,7 +23,7 @@ a trace in Chrome's JSON with flows, or the file tasks.rec of StarPU. Prints wor
 schedules on more threads."""
 AFTER = "Exit status 1: a file is missing or damaged, or its tasks wait for each other in a cycle; 2: wrong arguments."
 THREADS = 4, 16, 64
-MOST_PLACES = 3
+MOST_PLACES, LONGEST_NAME = 3, 60
 
 
 def parse(words):
@@ -67,8 +68,8 @@ def curve_line(answers):
 def path_line(answers):
     """The places with most of the span."""
     found = sorted((place for place in find_path(answers) if place.critical_cost), key=lambda one: -one.critical_cost)
-    shown = ["%s (%s)" % (where(one.name) or one.name, lasting(one.critical_cost * answers.head.nanoseconds))
-             for one in found[:MOST_PLACES]]
+    shown = ["%s (%s)" % (shortened(where(one.name) or one.name, LONGEST_NAME),
+                          lasting(one.critical_cost * answers.head.nanoseconds)) for one in found[:MOST_PLACES]]
     more = ["%d more" % (len(found) - MOST_PLACES)] * (len(found) > MOST_PLACES)
     return "critical path: " + ", ".join(shown + more)
 

@@ -166,10 +166,22 @@ def add_pieces(tasks, outer, bounds, worker, last):
     return last
 
 
+def waits_of(threads, flows):
+    """Those of flows with a slice at each end; and of the others what is wrong with each."""
+    waits, wrong = [], []
+    for flow in flows:
+        try:
+            waits.append(wait_of(threads, flow))
+        except Fault as fault:
+            wrong.append(str(fault))
+    return waits, wrong
+
+
 def tasks_of(slices, flows):
-    """`slices` by thread. Without flows the outermost slices of a thread follow each other."""
+    """Of slices by thread; and what is wrong with flows that are left out. Without flows the outermost slices of a
+    thread follow each other."""
     threads, tasks = {thread: Thread(some) for thread, some in slices.items()}, []
-    waits = [wait_of(threads, flow) for flow in flows]
+    waits, wrong = waits_of(threads, flows)
     for wait in waits:
         wait.cut()
     bounds = {id(outer): outer.bounds for thread in threads.values() for outer in thread.outermost}
@@ -181,4 +193,4 @@ def tasks_of(slices, flows):
         first, then = wait.pieces(bounds)
         if first < then or wait.source is not wait.target:
             tasks[then].before.append(first)
-    return tasks
+    return tasks, wrong

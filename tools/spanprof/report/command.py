@@ -9,8 +9,8 @@ from spanprof.diagnosis.compare import as_json as comparison_json, compared, is_
 from spanprof.diagnosis.tell import told_of
 from spanprof.errors import Fault
 from spanprof.recording import open_recording, text_of
-from spanprof.report.folded import folded
 from spanprof.report.page import page
+from spanprof.report.stacks import folded, pprof, stacks
 from spanprof.report.trace_events import trace_text
 from spanprof.report.view import View
 from spanprof.version import Version
@@ -34,8 +34,8 @@ def beside(text):
 
 def outputs(chosen):
     """The files that are asked for, and what each is."""
-    asked = (chosen.output, "page"), (chosen.trace, "trace"), (chosen.folded, "stacks")
-    return [(path, what) for path, what in asked if path]
+    asked = {"page": chosen.output, "trace": chosen.trace, "stacks": chosen.folded, "profile": chosen.pprof}
+    return [(path, what) for what, path in asked.items() if path]
 
 
 def arguments(words):
@@ -56,6 +56,7 @@ def arguments(words):
     add("--trace", metavar="FILE.json", help="write a trace for ui.perfetto.dev and speedscope.app")
     add("--folded", metavar="FILE",
         help="write the samples of calls as folded stacks for flamegraph.pl and speedscope.app")
+    add("--pprof", metavar="FILE.pb.gz", help="write them in the format of pprof")
     add("--json", action="store_true", help="print the diagnosis as JSON")
     add("--version", action=Version)
     chosen = parser.parse_args(words)
@@ -73,12 +74,13 @@ def check_words(parser, chosen):
         chosen.output = beside(chosen.program)
     paths = [os.path.realpath(path) for path, _ in outputs(chosen)]
     if len(set(paths)) < len(paths):
-        parser.error("-o, --trace and --folded are for different files")
+        parser.error("-o, --trace, --folded and --pprof are for different files")
 
 
 def write(path, text):
-    with writing(path, errors="replace") as file:   # a file's name may be no UTF-8
-        file.write(text)
+    data = text if isinstance(text, bytes) else text.encode("utf-8", "replace")     # a file's name may be no UTF-8
+    with writing(path, "wb") as file:
+        file.write(data)
 
 
 class Progress:
@@ -110,7 +112,8 @@ def write_the_rest(chosen, progress):
     if chosen.trace and views[0].is_long:
         raise Fault("%s: the text is beyond the limits of spanprof, and has no --trace" % chosen.program)
     made = {"page": lambda: page(views), "trace": lambda: trace_text(views[0]),
-            "stacks": lambda: folded(open_recording(chosen.program))}
+            "stacks": lambda: folded(stacks(open_recording(chosen.program))),
+            "profile": lambda: pprof(stacks(open_recording(chosen.program)))}
     for path, what in written:
         write(path, made[what]())
     progress.end([path for path, _ in written])

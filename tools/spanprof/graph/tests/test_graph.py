@@ -21,7 +21,7 @@ TEXT = "omptasks 1\nwork 5\ntask {  # a.c:3\nwork 3\n}\nwork 2\ntaskwait\nwork 1
 
 class Dot(unittest.TestCase):
     def test_boxes_and_arrows(self):
-        told = list(lines([("the beginning", 5, []), ('task at "a".c:3', 3, [0]), ("after", 2, [0])], [0, 1]))
+        told = list(lines([(0, "the beginning", 5, []), (1, 'task at "a".c:3', 3, [0]), (0, "after", 2, [0])], [0, 1]))
         self.assertEqual(told[0], "digraph spanprof {")
         self.assertEqual(told[3:], [
             '  s0 [label="0: the beginning\\n5", color=red, penwidth=2];',
@@ -30,6 +30,15 @@ class Dot(unittest.TestCase):
             '  s2 [label="2: after\\n2"];',
             "  s0 -> s2;",
             "}"])
+
+
+    def test_what_the_root_does_at_no_cost_before_all_else_is_left_out(self):
+        told = list(lines([(0, "the beginning", 0, []), (1, "a", 0, [0]), (0, "after", 0, [0]), (2, "b", 3, [1, 2]),
+                           (0, "after a taskwait", 0, [2, 3])], [0, 1, 3]))
+        self.assertEqual(told[3:], ['  s1 [label="1: a\\n0", color=red, penwidth=2];',
+                                    '  s3 [label="3: b\\n3", color=red, penwidth=2];',
+                                    "  s1 -> s3 [color=red, penwidth=2];",
+                                    '  s4 [label="4: after a taskwait\\n0"];', "  s3 -> s4;", "}"])
 
 
 class Command(InFolder):

@@ -55,8 +55,19 @@ class Chrome(InFolder):
         self.assertEqual(len(self.told(others + SLICES)), 2)
 
     def test_other_names_are_other_flows(self):
-        with self.assertRaisesRegex(Fault, "t.json:5: the flow 7, which did not begin before"):
+        with self.assertRaisesRegex(Fault, "t.json:5: the flow 7 did not begin before"):
             self.told(SLICES + [FLOW[0], dict(FLOW[1], name="g")])
+
+    def test_a_few_wrong_flows_are_left_out_and_told(self):
+        events = SLICES + FLOW * 10 + [dict(FLOW[1], id=8, ts=4.5), dict(FLOW[1], tid=9)]
+        for count in (1, 2):
+            path = self.trace(events[:-1] if count == 1 else events, "[%s]")
+            if count == 1:
+                self.assertEqual(read(path).notes, [
+                    "1 of 11 flows are left out, such as %s:24: the flow 8 did not begin before" % path])
+            else:
+                with self.assertRaisesRegex(Fault, "t.json:24: the flow 8 did not begin before"):
+                    read(path)
 
     def test_one_process(self):
         other = {"name": "z", "ph": "X", "pid": 2, "tid": 1, "ts": 0, "dur": 9}

@@ -45,6 +45,12 @@ class Folder(InFolder):
         self.assertEqual((recording.times, self.why), ("", "the log is of several builds"))
         self.assertIsNone(head_of(recording.text).threads)
 
+    def test_one_that_is_damaged_can_be_imported_again(self):
+        folder = self.made(Told("ninja", TASKS))
+        self.write(os.path.join(folder, "times"), "times 2 0 1\n")
+        with self.assertRaisesRegex(Fault, "its checksum differs; record or import it again$"):
+            open_recording(folder)
+
     def test_where_nothing_can_be_written(self):
         with self.assertRaisesRegex(Fault, "there is no folder"):
             write(self.write("mine.log"), os.path.join(self.folder, "none", "x"), Told("ninja", TASKS))
