@@ -114,6 +114,7 @@ _spanprof_report() {
     local current=${COMP_WORDS[COMP_CWORD]} before=${COMP_WORDS[COMP_CWORD - 1]}
     case $before in
         -o | --output) _spanprof_files "$current" .html ;;
+        --flame) _spanprof_files "$current" ;;
         --trace) _spanprof_files "$current" .json ;;
         --source) _spanprof_folders "$current" ;;
         --threads) ;;

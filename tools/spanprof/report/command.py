@@ -9,6 +9,7 @@ from spanprof.diagnosis.compare import as_json as comparison_json, compared, is_
 from spanprof.diagnosis.tell import told_of
 from spanprof.errors import Fault
 from spanprof.recording import open_recording, text_of
+from spanprof.report.flame import flame_text
 from spanprof.report.page import page
 from spanprof.report.trace_events import trace_text
 from spanprof.report.view import View
@@ -31,7 +32,8 @@ def beside(text):
 
 def outputs(chosen):
     """The files that are asked for, and what each is."""
-    return [(path, what) for path, what in ((chosen.output, "page"), (chosen.trace, "trace")) if path]
+    named = ((chosen.output, "page"), (chosen.trace, "trace"), (chosen.flame, "flame graph"))
+    return [(path, what) for path, what in named if path]
 
 
 def arguments(words):
@@ -43,13 +45,15 @@ def arguments(words):
         help="a recording of the changed program: prints whether it is faster, where, and what was predicted")
     add("--fail-above", type=percent, metavar="5%", help="exit with status 3 if AFTER is slower by more than this")
     add("-o", "--output", metavar="MINE.html",
-        help="write the page to this file (default: MINE.html, unless --trace or --json is given)")
+        help="write the page to this file (default: MINE.html, unless another output is asked for)")
     add("--with", dest="other", metavar="OTHER.spanprof", help="show a second recording on the page, too")
     add("--threads", type=count(1, MOST_THREADS), metavar="P",
         help="threads of the greedy schedule (default: as many as were recorded)")
     add("--source", action="append", metavar="FOLDER",
         help="look for sources here, too (default: next to the recording, and the current folder)")
     add("--trace", metavar="FILE.json", help="write a trace for ui.perfetto.dev and speedscope.app")
+    add("--flame", metavar="FILE",
+        help="write the samples as stacks, for a flame graph by speedscope.app or flamegraph.pl")
     add("--json", action="store_true", help="print the diagnosis as JSON")
     add("--version", action=Version)
     chosen = parser.parse_args(words)
@@ -63,10 +67,11 @@ def check_words(parser, chosen):
         parser.error("--fail-above compares two recordings: name a second one")
     if chosen.after:
         return
-    if not (chosen.output or chosen.trace or chosen.json):
+    if not (outputs(chosen) or chosen.json):
         chosen.output = beside(chosen.program)
-    if chosen.output and chosen.trace and os.path.realpath(chosen.output) == os.path.realpath(chosen.trace):
-        parser.error("-o and --trace are for different files")
+    paths = [os.path.realpath(path) for path, _ in outputs(chosen)]
+    if len(paths) > len(set(paths)):
+        parser.error("-o, --trace and --flame are for different files")
 
 
 def write(path, text):
@@ -97,14 +102,17 @@ def write_the_rest(chosen, progress):
     """What was asked for; what was written is told."""
     if chosen.json:
         print(json.dumps(told_of(open_recording(chosen.program), chosen.source or ()).json(), indent=2))
-    written = outputs(chosen)
-    texts = ((chosen.program, ""), (chosen.other, "other ")) if written else ()
+    if chosen.flame:
+        write(chosen.flame, flame_text(open_recording(chosen.program)))
+    texts = ((chosen.program, ""), (chosen.other, "other ")) if chosen.output or chosen.trace else ()
     views = [View(text, chosen.threads, chosen.source, prefix, progress) for text, prefix in texts if text]
     if chosen.trace and views[0].is_long:
         raise Fault("%s: the text is beyond the limits of spanprof, and has no --trace" % chosen.program)
-    for path, what in written:
-        write(path, page(views) if what == "page" else trace_text(views[0]))
-    progress.end([path for path, _ in written])
+    if chosen.output:
+        write(chosen.output, page(views))
+    if chosen.trace:
+        write(chosen.trace, trace_text(views[0]))
+    progress.end([path for path, _ in outputs(chosen)])
     if chosen.output and views[0].diagnosis:
         show(views[0].diagnosis.lines(), sys.stdout)
 
