@@ -102,7 +102,7 @@ _spanprof_convert() {
     case $before in
         --unit) _spanprof_among "$current" ns us ms ;;
         --out) _spanprof_files "$current" ;;
-        --region) ;;
+        --region | --from | --until) ;;
         *) case $current in
             -*) _spanprof_among "$current" "$(_spanprof_options "${COMP_WORDS[0]}")" ;;
             *) _spanprof_folders "$current" ;;

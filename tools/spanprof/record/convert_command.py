@@ -11,8 +11,10 @@ from spanprof.recording import ENDING, LOG, META, is_recording, made_folder, ope
 from spanprof.record.files import check_folder
 from spanprof.record.meta import old_meta, write_meta
 from spanprof.record.options import check_name, unit
+from spanprof.record.stretch import moment, write_part as write_part_of_run
 from spanprof.record.told import in_words
 from spanprof.text import HEADER
+from spanprof.text_file import TextFile
 from spanprof.version import Version
 
 CONSOLE = Console("spanprof-convert")
@@ -21,6 +23,7 @@ DESCRIPTION = """Makes the text of a recording again from its log; with --region
 NAME.tasks, and NAME.timed with its times."""
 AFTER = "Exit status 1: a log that cannot be converted, or a text that cannot be written; 2: wrong arguments."
 MOST_LINES, LONGEST = 1000, 1000    # of the comments before a text's first word
+OF_A_PART = ("threads", "processors", "arguments", "unit", "runtime")     # what a recording tells of all its run
 WANTED = "; a recording is the folder NAME.spanprof that spanprof-record leaves"
 
 
@@ -34,6 +37,9 @@ def parser():
     add("--region", metavar="FILE:LINE",
         help="make the text of the region there; of several, of the one with the median work")
     add("--text", action="store_true", help="print the text instead of writing it")
+    add("--from", dest="begin", metavar="WHEN", help="write a recording of a part of the run, NAME.part.spanprof: from "
+        "the region that begins then, at a number of seconds, FILE:LINE or a function")
+    add("--until", metavar="WHEN", help="leave out of it what begins then or later")
     add("--version", action=Version)
     add("recording", metavar="NAME.spanprof", help="a recording, or the folder of a log")
     return out
@@ -156,7 +162,23 @@ def write_part(chosen, program, log):
             CONSOLE.say("written: " + name + ending)
 
 
+def write_run_part(chosen):
+    recording = open_recording(chosen.recording)
+    if not recording.times or TextFile(recording.text).has_loops():
+        raise Fault("%s: only a recording with times has parts of its run" % recording.name)
+    begin = moment(chosen.begin, recording.text) if chosen.begin else 0
+    end = moment(chosen.until, recording.text, begin + 1) if chosen.until else sys.maxsize
+    folder = (chosen.out or recording.stem + ".part") + ENDING
+    check_folder(folder)
+    write_part_of_run(recording, folder, begin, end)
+    write_meta(folder, {name: value for name, value in recording.meta.items() if name in OF_A_PART})
+    CONSOLE.say("written: " + folder)
+
+
 def answer(chosen):
+    if chosen.begin or chosen.until:
+        write_run_part(chosen)
+        return
     if chosen.text and not (chosen.region or chosen.unit):
         print_text(open_recording(chosen.recording).text)
         return

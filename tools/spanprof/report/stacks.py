@@ -5,6 +5,7 @@ from collections import Counter
 from spanprof.errors import Fault, reading
 
 ASLEEP = ";[asleep]"
+DID = "ran", "slept"
 BYTES = 2       # how a message of protobuf says that a field is one of bytes
 
 
@@ -16,7 +17,8 @@ def stacks(recording):
     with reading(path), open(path, encoding="utf-8", errors="replace") as lines:
         for line in lines:
             _, did, time, calls = line.rstrip("\n").split(" ", 3)
-            found[calls + ASLEEP * (did == "slept")] += int(time)
+            if did in DID:
+                found[calls + ASLEEP * (did == "slept")] += int(time)
     return found
 
 
