@@ -47,6 +47,8 @@ def fill(folder, path, name, told):
 
 def write(path, out, told, is_forced=False):
     """The recording NAME.spanprof for the NAME `out`, whole or not at all; answers why there are no times."""
+    if all(task.begin is None for task in told.tasks):
+        raise Fault("%s: no task in it has times" % path)
     check_folder(out)
     final = out + ENDING
     part = final + PART

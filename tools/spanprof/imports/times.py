@@ -81,10 +81,8 @@ def too_soon(tasks, rows):
 
 
 def run_of(tasks):
-    """The run, and why there is none; one of them is empty."""
+    """The run, and why there is none; one of them is empty. Some task has times."""
     timed = [task for task in tasks if task.begin is not None]
-    if not timed:
-        return None, "no task has times"
     first = min(task.begin for task in timed)
     rows = rows_of(tasks, first)
     run = Run(max(row[0] for row in rows) + 1, first, max(task.end for task in timed), rows)

@@ -31,7 +31,6 @@ class Dot(unittest.TestCase):
             "  s0 -> s2;",
             "}"])
 
-
     def test_what_the_root_does_at_no_cost_before_all_else_is_left_out(self):
         told = list(lines([(0, "the beginning", 0, []), (1, "a", 0, [0]), (0, "after", 0, [0]), (2, "b", 3, [1, 2]),
                            (0, "after a taskwait", 0, [2, 3])], [0, 1, 3]))

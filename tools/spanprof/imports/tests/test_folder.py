@@ -51,6 +51,10 @@ class Folder(InFolder):
         with self.assertRaisesRegex(Fault, "its checksum differs; record or import it again$"):
             open_recording(folder)
 
+    def test_without_any_times_there_is_no_recording(self):
+        with self.assertRaisesRegex(Fault, "mine.log: no task in it has times"):
+            self.made(Told("StarPU", [Task("sync")]))
+
     def test_where_nothing_can_be_written(self):
         with self.assertRaisesRegex(Fault, "there is no folder"):
             write(self.write("mine.log"), os.path.join(self.folder, "none", "x"), Told("ninja", TASKS))

@@ -31,7 +31,6 @@ class Run(unittest.TestCase):
 
     def test_why_there_is_none(self):
         for tasks, why in (
-                ([Task()], "no task has times"),
                 ([task(0, 5), task(4, 6, 0)], "4 to 6 begins before 0 to 5 has ended, for which it waits"),
                 ([task(0, 5, worker=1), task(4, 6, worker=1)], "4 to 6 begins while 0 to 5 runs on its worker"),
                 ([task(0, 5, worker=n) for n in range(1025)], "it has more than 1024 threads, or is longer"),
