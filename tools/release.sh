@@ -39,8 +39,11 @@ mkdir -p "$doc"
 install -m 644 "$top/LICENSE" "$doc/copyright"
 install -m 644 "$top/CHANGELOG.md" "$top/README.md" "$doc/"
 cd "$usr/libexec/spanprof"
-sha256sum --status -c spanprof.sha256 spanprof_large.sha256 2> /dev/null ||
+claim="Its answers about the recorded text are proved."
+sha256sum --status -c spanprof.sha256 spanprof_large.sha256 2> /dev/null || {
     logic="programs without their checksums: nothing is said of their proofs"
+    claim="Of the programs in this package nothing is proved."
+}
 { echo "$logic"; sha256sum spanprof spanprof_large; } > "$doc/proofs"
 cd "$top"
 
@@ -67,10 +70,10 @@ Depends: libc6 (>= $glibc), libgcc-s1, python3 (>= 3.9)
 Recommends: binutils, libomp5-16 | libomp5-19 | libomp5-14
 Section: devel
 Priority: optional
-Description: proved profiler for programs of OpenMP tasks
+Description: profiler for programs of OpenMP tasks
  spanprof records a run of an OpenMP program, and says how much faster it could
- run on more threads and what stands in the way. Its answers about the recorded
- text are proved.
+ run on more threads and what stands in the way.
+ $claim
 C
 (cd "$root" && find usr -type f -print0 | sort -z | xargs -0 md5sum) > "$root/DEBIAN/md5sums"
 dpkg-deb --root-owner-group -Zxz --build "$root" "$out/spanprof_${version}_$architecture.deb" > /dev/null

@@ -17,7 +17,7 @@ AFTER = "Exit status 1: the text is refused, or spanprof_large is not found; 2: 
 
 def parse(words):
     parser = argparse.ArgumentParser(prog="spanprof graph", description=DESCRIPTION, epilog=AFTER, allow_abbrev=False)
-    parser.add_argument("text", metavar="FILE", help="a recording, or a program text (MINE.tasks)")
+    parser.add_argument("text", metavar="FILE", help="a recording, a program text, or - for standard input")
     parser.add_argument("--dot", action="store_true", help="print it for Graphviz (`| dot -Tsvg > graph.svg`), with "
                         "places in the source and the critical path in red")
     parser.add_argument("-o", "--output", help="write to this file")

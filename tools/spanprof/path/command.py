@@ -21,7 +21,7 @@ VERDICT = "proved of this text: its work, span and this critical path (spanprof_
 
 def parse(words):
     parser = argparse.ArgumentParser(prog="spanprof-path", description=DESCRIPTION, epilog=AFTER, allow_abbrev=False)
-    parser.add_argument("text", metavar="MINE.spanprof", help="a recording, or a program text (MINE.tasks)")
+    parser.add_argument("text", metavar="MINE.spanprof", help="a recording, a program text, or - for standard input")
     parser.add_argument("--csv", action="store_true", help="print a row for each place: span,work,segments,place")
     parser.add_argument("--version", action=Version)
     return parser.parse_args(words)

@@ -42,7 +42,7 @@ def arguments(words):
     parser = argparse.ArgumentParser(prog="spanprof-report", usage="%(prog)s [options] MINE.spanprof [AFTER.spanprof]",
                                      description=DESCRIPTION, epilog=AFTER, allow_abbrev=False)
     add = parser.add_argument
-    add("program", metavar="MINE.spanprof", help="a recording, or a program text (MINE.tasks)")
+    add("program", metavar="MINE.spanprof", help="a recording, a program text, or - for standard input")
     add("after", metavar="AFTER.spanprof", nargs="?",
         help="a recording of the changed program: prints whether it is faster, where, and what was predicted")
     add("--fail-above", type=percent, metavar="5%", help="exit with status 3 if AFTER is slower by more than this")

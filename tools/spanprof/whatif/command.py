@@ -45,7 +45,7 @@ def parse(words):
     parser = argparse.ArgumentParser(prog="spanprof-whatif", usage="%(prog)s [options] MINE.spanprof",
                                      description=DESCRIPTION, epilog=AFTER, allow_abbrev=False)
     add = parser.add_argument
-    add("text", metavar="MINE.spanprof", help="a recording, or a program text (MINE.tasks)")
+    add("text", metavar="MINE.spanprof", help="a recording, a program text, or - for standard input")
     for option, metavar, words_of_help in OPTIONS:
         add("--" + option, dest="requests", action="append", type=request(option), metavar=metavar, default=[],
             help=words_of_help)
