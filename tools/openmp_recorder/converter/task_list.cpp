@@ -4,7 +4,7 @@
 #include <new>
 
 namespace {
-constexpr uint32_t least_room = 8, most_room = 512;
+constexpr uint32_t least_room = 2, most_room = 512;  // each region begins a block, and most have few tasks
 }  // namespace
 
 TaskList::Block TaskList::new_block(uint32_t room) {
