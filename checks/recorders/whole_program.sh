@@ -21,4 +21,9 @@ trap 'rm -rf "$folder"' EXIT
 echo "LLVM $llvm"
 make -s -C tools/openmp_recorder LLVM="$llvm"
 python3 -B checks/recorders/whole_program/judge.py "$folder/shapes" "$@"
-[ $# -gt 0 ] || python3 -B checks/recorders/whole_program/covering.py
+[ $# -eq 0 ] || exit 0
+python3 -B checks/recorders/whole_program/covering.py
+echo "gcc, but for shapes with loops that its code divides by itself"
+gcc -O1 -g -fopenmp checks/recorders/whole_program/shapes.c -o "$folder/shapes"
+python3 -B checks/recorders/whole_program/judge.py "$folder/shapes" chunks steps one_region outside doacross \
+    before_the_wait wavefront in_order
