@@ -87,10 +87,10 @@ void leave_for_wait(const void *lock) {
     if (__builtin_expect(status != EBUSY, true)) return status; \
     return wait_for(lock, own_##name.get(), kind, PLACE);       \
   }
-#define UNLOCK(name, type, kind)                                \
-  ENTRY int name(type *lock) {                                  \
-    auto systems = own_##name.get();                            \
-    bool is_told = __builtin_expect(held.count, 0);             \
+#define UNLOCK(name, type, kind)                                 \
+  ENTRY int name(type *lock) {                                   \
+    auto systems = own_##name.get();                             \
+    bool is_told = __builtin_expect(held.count, 0);              \
     return is_told ? leave(lock, systems, kind) : systems(lock); \
   }
 LOCK(pthread_mutex_lock, pthread_mutex_trylock, pthread_mutex_t, system_mutex)

@@ -36,9 +36,9 @@ constexpr ShortRecord make_short(uint64_t ticks, unsigned what, uint32_t other) 
   return short_bit | uint64_t{what} << (other_bits + short_ticks) | ticks << other_bits | other;
 }
 
-// What a short record tells: below 63 that the thread goes to another task, with this status; at 63 that it lets the lock
-// go that it got last. Else it is like the thread's last long record that has this slot, which those have that make a
-// task, begin or end a wait, or get a lock.
+// What a short record tells: below 63 that the thread goes to another task, with this status; at 63 that it lets the
+// lock go that it got last. Else it is like the thread's last long record that has this slot, which those have that
+// make a task, begin or end a wait, or get a lock.
 constexpr unsigned slots = 64, lock_left = slots - 1;
 constexpr unsigned slot_of(uint64_t code, unsigned kind) {
   constexpr unsigned apart = 27;  // so that those of one place have slots of their own

@@ -241,8 +241,9 @@ TEST(items_follow_their_dependences) {
 
 TEST(time_in_the_recorder_and_for_locks_is_not_the_threads) {
   MadeLog log;
-  log.last({raw(10, Told::Schedule, 1, 2), raw(40, Told::StoodStill, 30), raw(80, Told::LockGot, 7, log_form::wait_of(20), 99, 1),
-            raw(90, Told::LockLeft, 7), raw(100, Told::Schedule, 2, 1)});
+  log.last({raw(10, Told::Schedule, 1, 2), raw(40, Told::StoodStill, 30),
+            raw(80, Told::LockGot, 7, log_form::wait_of(20), 99, 1), raw(90, Told::LockLeft, 7),
+            raw(100, Told::Schedule, 2, 1)});
   LogFolder folder = log.open();
   Records &thread = *folder.threads.at(0);
   thread.next();
@@ -258,7 +259,8 @@ TEST(short_records_of_a_lock_name_the_one_of_their_slot) {
   unsigned like = log_form::slots + log_form::slot_of(99, static_cast<unsigned>(Told::LockGot));
   Block block;
   block.add(raw(1000, Told::Schedule, 1, 2)).add(raw(1100, Told::LockGot, 7, log_form::wait_of(20), 99, 1));
-  block.add(log_form::make_short(30, log_form::lock_left, 0)).add(log_form::make_short(50, like, log_form::wait_of(40)));
+  block.add(log_form::make_short(30, log_form::lock_left, 0))
+      .add(log_form::make_short(50, like, log_form::wait_of(40)));
   block.add(log_form::make_short(30, log_form::lock_left, 0)).add(log_form::make_short(10, 7, 1));
   log.last(block.records());
   LogFolder folder = log.open();
