@@ -15,32 +15,26 @@ struct LockUse {
   void add(const LockUse &more);
 };
 
-using LockName = uint64_t;
+using LockName = uint32_t;
 using LockPlace = std::pair<const void *, int>;  // where it was asked for, and its kind
 
-struct Called {  // when the runtime called
-  int64_t own, wall;  // clock of the thread's code, which stands still where it runs none; wall clock
+struct HeldLock {
+  LockName name;
+  int kind;
+  const void *code;  // where it was asked for
+  int64_t since, waited;  // by the clock of the thread's code, which stands still where it runs none; by the wall clock
+  size_t records;  // of the thread, until then
 };
 
 class Locks {
  public:
-  void ask(int kind, LockName name, const void *code, Called now);
-  int64_t get(LockName name, Called now, size_t records);  // the own clock where it was asked for
+  void get(const HeldLock &one) { held.push_back(one); }
   void leave(LockName name, uint32_t region, int64_t own_clock, size_t records);
   const std::map<std::pair<uint32_t, LockName>, LockUse> &uses() const { return used; }  // by region and name
   const std::map<LockPlace, LockUse> &by_place() const { return at_places; }
 
  private:
-  struct Held {
-    LockName name;
-    int kind;
-    const void *code;
-    int64_t since;
-    int64_t wall;  // when it was asked for, and then how long the thread waited
-    size_t records = 0;  // of the thread, so far
-  };
-  Held asked{};  // a thread waits for one at a time
-  std::vector<Held> held;
+  std::vector<HeldLock> held;
   std::map<std::pair<uint32_t, LockName>, LockUse> used;
   std::map<LockPlace, LockUse> at_places;
 };

@@ -76,6 +76,12 @@ bool RecordsLookedAt::is_length(int64_t time) const {
   return time <= longest_time && time >= -static_cast<int64_t>(back);
 }
 
+void RecordsLookedAt::add_wait(float ticks) {
+  bool is_time = ticks >= 0 && ticks <= static_cast<float>(most);
+  if (!is_time || (waited += static_cast<uint64_t>(ticks)) > most)
+    throw DamagedLog("it waited for longer than the run");
+}
+
 // No thread stands still for longer than it runs.
 void RecordsLookedAt::add_up(int64_t stands_still) {
   if (!is_length(stands_still) || (stood_still += stands_still) > longest_time)
@@ -88,6 +94,7 @@ void RecordsLookedAt::look_at(const log_form::RawRecord &record, int64_t process
   if (told == Told::Items) return;  // an address is in the place of the time
   if (told == Told::StoodStill) return add_up(static_cast<int64_t>(wide));  // told at its end, which may be later
   look_at_times(record.at, processor);
+  if (told == Told::LockGot) add_wait(log_form::ticks_waited(record.other));
   if (told == Told::Passed && !is_length(static_cast<int64_t>(wide)))
     throw DamagedLog("more processor time passed than the run has");
 }

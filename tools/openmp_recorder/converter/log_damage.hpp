@@ -36,7 +36,9 @@ class RecordsLookedAt {
   bool by_processor;
   int64_t last_processor = 0;
   int64_t stood_still = 0;
+  uint64_t waited = 0;  // ticks
   bool is_length(int64_t time) const;  // of a part of the run
   void look_at_times(uint64_t ticks, int64_t processor);
   void add_up(int64_t stands_still);
+  void add_wait(float ticks);  // for a lock
 };

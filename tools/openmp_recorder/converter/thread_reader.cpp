@@ -100,13 +100,14 @@ void ThreadReader::read_short(log_form::ShortRecord record) {
   if (by_processor) refuse("it is shorter than this clock's");
   ticks += record >> log_form::other_bits & (log_form::ticks_too_long - 1);
   unsigned what = record >> (log_form::other_bits + log_form::short_ticks) & ((1U << log_form::what_bits) - 1);
-  bool goes_on = what < log_form::slots;
-  uint64_t word =
-      goes_on ? log_form::make_word(0, static_cast<unsigned>(Told::Schedule), what) : words[what - log_form::slots];
-  if (!word) refuse("no record before it is like it");
-  raw.record = {ticks, current, static_cast<uint32_t>(record), word};
-  if (goes_on) current = raw.record.other;
-  if (!looked_at.takes(ticks)) look_at();
+  auto other = static_cast<uint32_t>(record);
+  Like like{log_form::make_word(0, static_cast<unsigned>(Told::Schedule), what), current};
+  if (what == log_form::lock_left) like = got;
+  if (what >= log_form::slots) like = liked[what - log_form::slots];
+  if (!like.word) refuse("no record before it is like it");
+  raw.record = {ticks, names_task(log_form::told_by(like.word)) ? current : like.task, other, like.word};
+  if (what < log_form::lock_left) current = other;
+  if (!looked_at.takes(ticks) || raw.told() == Told::LockGot) look_at();
 }
 
 // What short records leave out.
@@ -115,8 +116,8 @@ void ThreadReader::keep_long() {
   ticks = raw.record.at;
   if (raw.told() == Told::Schedule) current = raw.record.other;
   if (!has_slot(raw.told())) return;
-  current = raw.record.task;
-  words[log_form::slot_of(raw.code(), static_cast<unsigned>(raw.told()))] = raw.record.word;
+  if (names_task(raw.told())) current = raw.record.task;
+  liked[log_form::slot_of(raw.code(), static_cast<unsigned>(raw.told()))] = {raw.record.word, raw.record.task};
 }
 
 // One record; none where the thread has written no more.
@@ -157,15 +158,19 @@ void ThreadReader::end_region() {
   }
 }
 
-// The thread's own clock stands still from when it asks for a lock until it has it.
-void ThreadReader::use_lock() {
-  Called now{cost_clock() - log.stood_still, time.wall(raw.record.at)};
-  uint64_t name = raw.wide();
-  switch (raw.told()) {
-    case Told::LockAsked: return log.locks.ask(static_cast<int>(raw.detail()), name, raw.place(), now);
-    case Told::LockGot: log.stood_still += now.own - log.locks.get(name, now, told); break;
-    default: log.locks.leave(name, teams.empty() ? 0 : teams.back().region, now.own, told);
-  }
+// The thread's own clock stands still while it waits; what the processor's went then is told apart.
+void ThreadReader::get_lock() {
+  int64_t waited = time.nanoseconds(log_form::ticks_waited(raw.record.other));
+  if (!by_processor) log.stood_still += waited;
+  auto kind = static_cast<int>(raw.detail());
+  log.locks.get({raw.record.task, kind, raw.place(), cost_clock() - log.stood_still, waited, told});
+  log.stood_still += in_a_record;
+  got = {log_form::make_word(0, static_cast<unsigned>(Told::LockLeft), raw.detail()), raw.record.task};
+}
+
+void ThreadReader::leave_lock() {
+  uint32_t region = teams.empty() ? 0 : teams.back().region;
+  log.locks.leave(raw.record.task, region, cost_clock() - log.stood_still, told);
   log.stood_still += in_a_record;
 }
 
@@ -187,9 +192,8 @@ bool ThreadReader::take() {
       log.stood_still += by_processor ? static_cast<int64_t>(raw.wide()) : time.nanoseconds(raw.wide());
       return false;
     case Told::Passed: leave_out(passed()); return true;
-    case Told::LockAsked: use_lock(); return false;
-    case Told::LockGot:
-    case Told::LockLeft: use_lock(); return raw.detail() == order_of_turns;
+    case Told::LockGot: get_lock(); return raw.detail() == order_of_turns;
+    case Told::LockLeft: leave_lock(); return raw.detail() == order_of_turns;
     case Told::Divided:
       log.divided[{raw.record.other, static_cast<Divided>(raw.detail())}].add(raw.place());
       return true;

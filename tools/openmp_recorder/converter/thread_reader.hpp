@@ -50,7 +50,12 @@ class ThreadReader : public Records {
     bool is_initial;  // the code outside of regions
   };
   std::vector<Team> teams;  // that the thread is in, innermost last
-  std::array<uint64_t, log_form::slots> words{};  // of long records, by their slots
+  struct Like {
+    uint64_t word;
+    uint32_t task;
+  };
+  std::array<Like, log_form::slots> liked{};  // of long records, by their slots
+  Like got{};  // of the lock that it got last
   uint64_t ticks = 0;  // of the record before
   uint32_t current = 0;  // the task that the thread is in
   Raw raw{};
@@ -76,7 +81,8 @@ class ThreadReader : public Records {
   bool is_in_a_region() const;
   void begin_region();
   void end_region();
-  void use_lock();
+  void get_lock();
+  void leave_lock();
   void fill_record();
   const Record &tell();
   const Record &tell_plain();

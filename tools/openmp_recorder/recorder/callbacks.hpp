@@ -4,6 +4,8 @@
 
 #include <cstdint>
 
+#include "thread_log.hpp"
+
 // All of these run on the thread that they concern, between two instructions of the program, and may allocate and write
 // files. They never call the runtime, and are not for handlers of signals.
 void on_thread_begin(ompt_thread_t, ompt_data_t *);
@@ -30,7 +32,9 @@ void on_cancel(ompt_data_t *task, int flags, const void *code);
 void on_lock_asked(ompt_mutex_t kind, unsigned, unsigned, ompt_wait_id_t name, const void *code);
 void on_lock_got(ompt_mutex_t kind, ompt_wait_id_t name, const void *);
 void on_lock_left(ompt_mutex_t kind, ompt_wait_id_t name, const void *);
-void on_leaving_lock(ompt_mutex_t kind, ompt_wait_id_t name);  // it is held until then, and no clocks are looked at
+// Before a lock is let go, and after that: others may wait for it until then.
+Release release_begins();
+void on_let_go(ompt_mutex_t kind, ompt_wait_id_t name, const Release &when);
 
 // As OpenMP 5.2 has them, and LLVM 16: the header of 14 has fewer.
 constexpr int dispatched_section = 2, dispatched_chunk = 3;

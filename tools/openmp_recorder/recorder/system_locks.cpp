@@ -65,13 +65,18 @@ __attribute__((noinline)) int wait_for(Lock *lock, int (*systems)(Lock *), unsig
   return status;
 }
 
-__attribute__((noinline)) void tell_left(const void *lock, unsigned kind) {
-  if (let_go(lock) && thread_log) on_leaving_lock(static_cast<ompt_mutex_t>(kind), name_of(lock));
+template <class Lock>
+__attribute__((noinline)) int leave(Lock *lock, int (*systems)(Lock *), unsigned kind) {
+  if (!let_go(lock)) return systems(lock);
+  Release when = release_begins();
+  int status = systems(lock);
+  on_let_go(static_cast<ompt_mutex_t>(kind), name_of(lock), when);
+  return status;
 }
 }  // namespace
 
 void leave_for_wait(const void *lock) {
-  if (held.count) tell_left(lock, system_mutex);
+  if (held.count && let_go(lock)) on_lock_left(static_cast<ompt_mutex_t>(system_mutex), name_of(lock), nullptr);
 }
 
 // A free lock is only tried: neither the clock is read nor a record made. PLACE must stand in the entry itself.
@@ -82,10 +87,11 @@ void leave_for_wait(const void *lock) {
     if (__builtin_expect(status != EBUSY, true)) return status; \
     return wait_for(lock, own_##name.get(), kind, PLACE);       \
   }
-#define UNLOCK(name, type, kind)                                \
-  ENTRY int name(type *lock) {                                  \
-    if (__builtin_expect(held.count, 0)) tell_left(lock, kind); \
-    return own_##name.get()(lock);                              \
+#define UNLOCK(name, type, kind)                                 \
+  ENTRY int name(type *lock) {                                   \
+    auto systems = own_##name.get();                             \
+    bool is_told = __builtin_expect(held.count, 0);              \
+    return is_told ? leave(lock, systems, kind) : systems(lock); \
   }
 LOCK(pthread_mutex_lock, pthread_mutex_trylock, pthread_mutex_t, system_mutex)
 UNLOCK(pthread_mutex_unlock, pthread_mutex_t, system_mutex)

@@ -105,6 +105,7 @@ void ThreadLog::begin_thread() {
   // The counts of context switches and the processor's clock of the thread before mean nothing here.
   kept.begin_thread();
   begin_clocks();
+  lock = {};
   is_slow = true;
   begin_chunk(0);
 }
@@ -158,11 +159,15 @@ void ThreadLog::follow(const log_form::RawRecord &told) {
   Told kind = log_form::told_by(told.word);
   // Items have an address where others have the time, so they must not become the base of the next difference.
   if (kind == Told::Items) return;
-  uint64_t passed = told.at - looked;
   last = told.at;
-  left = std::min(passed < far_ticks ? far_ticks - passed : 0, log_form::ticks_too_long);
+  renew_left();
   if (kind == Told::Schedule) current = told.other;
-  if (has_slot(kind)) current = told.task;
+  if (names_task(kind)) current = told.task;
+}
+
+void ThreadLog::renew_left() {
+  uint64_t passed = last - looked;
+  left = std::min(passed < far_ticks ? far_ticks - passed : 0, log_form::ticks_too_long);
 }
 
 Times ThreadLog::times(const Moment &now) const {
@@ -231,12 +236,11 @@ void ThreadLog::wait_begins(Moment &now) {
   both.wait_begins(times(now));
 }
 
-// Others wait for the lock, so where switches are known the clocks are read with the thread's next record: until then
-// the word says whether it was switched out since.
+// Others wait for the lock, so where switches are known the clocks are read once it is let go: until then the word says
+// whether the thread was switched out since.
 void ThreadLog::wait_ends(Moment &now) {
   if (kept.is_known()) {
     if (kept.stands()) return;
-    both.forget_switches();
     kept.set();
     now.at = held_since = read_ticks();
     looked = now.at - far_ticks;
@@ -245,6 +249,46 @@ void ThreadLog::wait_ends(Moment &now) {
   if (!costs_by_processor && now.at - looked < far_ticks) return;
   look(now.at);
   both.wait_ends(times(now));
+}
+
+void ThreadLog::get_lock(Moment now, uint32_t name, unsigned kind) {
+  wait_ends(now);
+  if (lock.name != name) lock = {nullptr, name, kind, now};
+  lock.got = now;
+  left = 0;  // so the next record tells it first
+  if (costs_by_processor) tell_got();
+}
+
+// Its task is none that the thread is in, so only the first record of a block must be long.
+bool ThreadLog::put_short_of_lock(uint64_t at, unsigned what, uint32_t other) {
+  uint64_t ticks = at - last;
+  if (costs_by_processor || next == block || ticks >= log_form::ticks_too_long || !has_room()) return false;
+  put_short(ticks, what, other);
+  renew_left();
+  return true;
+}
+
+void ThreadLog::tell_got() {
+  Moment got = std::exchange(lock.got, {});
+  auto waited = static_cast<float>(std::max<int64_t>(static_cast<int64_t>(got.at - lock.asked.at), 0));
+  uint32_t wait = log_form::wait_of(waited);
+  if (costs_by_processor) tell_stood_still(static_cast<uint64_t>(got.processor - lock.asked.processor));
+  unsigned slot = LikeRecords::slot(Told::LockGot, lock.place);
+  bool is_like = like.has(Told::LockGot, lock.place, lock.key());
+  if (is_like && put_short_of_lock(got.at, log_form::slots + slot, wait)) return;
+  put(got, Told::LockGot, lock.name, wait, reinterpret_cast<uint64_t>(lock.place), lock.kind);
+  like.add(Told::LockGot, lock.place, lock.key());
+}
+
+// Where the thread lost its processor while it had the lock, that is told first.
+void ThreadLog::leave_lock(const Release &when, uint32_t name, unsigned kind) {
+  bool is_last = lock.got.at && lock.name == name;
+  tell_lock();
+  Moment now = when.now;
+  if (!when.has_stood) look_at_clocks(now);
+  if (!is_last || !put_short_of_lock(now.at, log_form::lock_left, 0)) put(now, Told::LockLeft, name, 0, 0, kind);
+  if (kept.is_known()) look_at_clocks(now);
+  if (is_slow) tell_slow(now);
 }
 
 uint64_t time_since(const Moment &began) {

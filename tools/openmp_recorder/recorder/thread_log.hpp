@@ -22,6 +22,21 @@ struct Moment {
   int64_t processor = 0;
 };
 
+// A lock that a thread waits for, or holds while no record tells it yet.
+struct OwnLock {
+  const void *place = nullptr;  // where it is asked for
+  uint32_t name = 0;
+  unsigned kind = 0;
+  Moment asked{}, got{};  // 0 while it waits
+  uint64_t key() const { return uint64_t{name} << 8 | kind; }
+};
+
+// A lock is about to be let go: when, and whether the thread has kept its processor so far.
+struct Release {
+  Moment now;
+  bool has_stood;
+};
+
 struct Open {
   uint64_t region;
   const void *place;
@@ -41,13 +56,13 @@ void take_numbers(OwnNumbers &of);  // where none are left; there may be no more
 class LikeRecords {
  public:
   LikeRecords() { forget(); }
-  bool has(Told told, const void *code, uint32_t detail) const {
+  bool has(Told told, const void *code, uint64_t detail) const {
     const One &one = all[slot(told, code)];
     return one.code == code && one.detail == detail;
   }
   // The converter expands a short record by the last long one of its slot. So each long record of a kind with slots
   // must be followed by `remove`, and by `add` only where a short one may stand for it: `Entry::keep` does both.
-  void add(Told told, const void *code, uint32_t detail) { all[slot(told, code)] = {code, detail}; }
+  void add(Told told, const void *code, uint64_t detail) { all[slot(told, code)] = {code, detail}; }
   void remove(Told told, const void *code) { all[slot(told, code)] = {this, 0}; }
   // Due where a region begins or ends, since the places of open regions decide which places are the program's own.
   // A null `code` must match no entry, so an empty one holds an address at which no code can lie.
@@ -61,7 +76,7 @@ class LikeRecords {
  private:
   struct One {
     const void *code;
-    uint32_t detail;
+    uint64_t detail;
   };
   std::array<One, log_form::slots> all;
 };
@@ -115,6 +130,7 @@ class alignas(64) ThreadLog {
   // processor's clock goes in before `put_long` publishes the record.
   void put(const Moment &now, Told told, uint32_t task, uint32_t other, uint64_t code, unsigned detail) {
     if (!costs_by_processor) return put_by_wall(now.at, told, task, other, code, detail);
+    tell_lock();
     if (!has_room() && !grow()) return;
     *reinterpret_cast<int64_t *>(next + log_form::bytes_by_wall) = now.processor;
     put_long({now.at, task, other, log_form::make_word(code, static_cast<unsigned>(told), detail)},
@@ -122,8 +138,9 @@ class alignas(64) ThreadLog {
   }
   // Only where costs are read on the wall clock: it leaves no room for the other clock.
   void put_by_wall(uint64_t at, Told told, uint32_t task, uint32_t other, uint64_t code, unsigned detail) {
+    tell_lock();
     if (__builtin_expect(!has_room(), false) && !grow()) return;
-    if (told == Told::Schedule && takes_short(at - last, task) && detail < log_form::slots)
+    if (told == Told::Schedule && takes_short(at - last, task) && detail < log_form::lock_left)
       return go_on(at - last, detail, other);
     put_long({at, task, other, log_form::make_word(code, static_cast<unsigned>(told), detail)},
              log_form::bytes_by_wall);
@@ -170,9 +187,16 @@ class alignas(64) ThreadLog {
   }
   // Called by the new thread itself, with the lock of `make_thread_log` held.
   void begin_thread();  // another one goes on with it
-  // Around a wait for a lock, in place of `look_at_clocks`, so that the wait is no code's on either clock.
+  // Before a wait for a lock, in place of `look_at_clocks`, so that the wait is no code's on either clock.
   void wait_begins(Moment &now);
-  void wait_ends(Moment &now);
+  // Others may wait while a lock is held: so the counter alone is read then, and records are made once it is let go, or
+  // by the thread's next record.
+  void ask_for_lock(const OwnLock &one) { lock = one; }
+  void get_lock(Moment now, uint32_t name, unsigned kind);
+  void leave_lock(const Release &when, uint32_t name, unsigned kind);  // also of one that records tell already
+  void tell_lock() {  // that the thread has, where no record tells it yet
+    if (__builtin_expect(lock.got.at, false)) tell_got();
+  }
   // The last record of a call: whatever the recorder does after it counts as the program's code.
   void tell_slow(const Moment &began);  // how long until now
   void tell_stood_still(uint64_t took);
@@ -186,6 +210,10 @@ class alignas(64) ThreadLog {
   // The bytes that say that a record is there come last, and before them what follows is cleared.
   void put_long(const log_form::RawRecord &record, uint32_t bytes);
   void follow(const log_form::RawRecord &record);
+  void renew_left();
+  bool put_short_of_lock(uint64_t at, unsigned what, uint32_t other);
+  void tell_got();
+  void wait_ends(Moment &now);
   void look(uint64_t at) { looked = at, left = 0; }
   // One store: after a kill there is the old value or 0.
   static void clear(char *place) { __atomic_store_n(reinterpret_cast<uint64_t *>(place), 0, __ATOMIC_RELEASE); }
@@ -195,6 +223,7 @@ class alignas(64) ThreadLog {
   char *block = nullptr;
   uint64_t written = 0;  // bytes of full blocks
   BothClocks both;
+  OwnLock lock;
   uint64_t held_since = 0;  // ticks: a lock, for which the thread was switched out; 0 where clocks were read since
 
   void begin_clocks();

@@ -3,13 +3,14 @@
 // and the last block, which is mapped while the thread fills it.
 #pragma once
 #include <cstdint>
+#include <cstring>
 #include <string>
 
 #include "told.hpp"
 
 namespace log_form {
 constexpr char magic[8] = {'S', 'P', 'A', 'N', 'P', 'L', 'O', 'G'};
-constexpr uint32_t version = 5;
+constexpr uint32_t version = 6;
 constexpr const char *log_folder = "/log";  // of a recording
 constexpr const char *head_file = "/head", *modules_file = "/modules", *thread_file = "/thread.", *last_block = ".last";
 constexpr const char *paths_file = "/paths";  // of creations, where call paths were asked for
@@ -35,12 +36,28 @@ constexpr ShortRecord make_short(uint64_t ticks, unsigned what, uint32_t other) 
   return short_bit | uint64_t{what} << (other_bits + short_ticks) | ticks << other_bits | other;
 }
 
-// What a short record tells: below 64 that the thread goes to another task, with this status. Else it is like the
-// thread's last long record that has this slot, which those have that make a task, or begin or end a wait.
-constexpr unsigned slots = 64;
+// What a short record tells: below 63 that the thread goes to another task, with this status; at 63 that it lets the
+// lock go that it got last. Else it is like the thread's last long record that has this slot, which those have that
+// make a task, begin or end a wait, or get a lock.
+constexpr unsigned slots = 64, lock_left = slots - 1;
 constexpr unsigned slot_of(uint64_t code, unsigned kind) {
   constexpr unsigned apart = 27;  // so that those of one place have slots of their own
   return static_cast<unsigned>((code >> 2) + kind * apart) % slots;
+}
+
+// A lock by 32 bits: no two are alike within 16 GB, and others by chance.
+constexpr uint32_t lock_name(uint64_t address) { return static_cast<uint32_t>(address >> 2 ^ address >> 34); }
+
+inline uint32_t wait_of(float ticks) {  // as the record of a lock has it
+  uint32_t bits;
+  static_assert(sizeof bits == sizeof ticks, "as LOG.md has it");
+  std::memcpy(&bits, &ticks, sizeof bits);
+  return bits;
+}
+inline float ticks_waited(uint32_t bits) {
+  float ticks;
+  std::memcpy(&ticks, &bits, sizeof ticks);
+  return ticks;
 }
 
 constexpr uint32_t block_bytes = 8 * 12288;  // whole pages

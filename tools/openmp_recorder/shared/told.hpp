@@ -19,7 +19,6 @@ enum class Told : uint8_t {
   WaitEnd,
   Cancel,
   Divided,  // code that is divided among a region's threads, each of which meets it
-  LockAsked,
   LockGot,
   LockLeft,
   Items,  // one or two of the dependences before
@@ -30,8 +29,11 @@ enum class Told : uint8_t {
   Sample  // of a thread's calls, between its records
 };
 
-// Whether short records that follow may be like such a one.
-constexpr bool has_slot(Told told) { return told == Told::Create || told == Told::SyncBegin || told == Told::SyncEnd; }
+// Whether its task is the one that the thread is in; whether short records that follow may be like such a one.
+constexpr bool names_task(Told told) {
+  return told == Told::Create || told == Told::SyncBegin || told == Told::SyncEnd;
+}
+constexpr bool has_slot(Told told) { return names_task(told) || told == Told::LockGot; }
 
 // Details of a record: of Create what is set of the first five, of ImplicitBegin and ParallelBegin the last two; of
 // Schedule the status, of the others the kind, as OMPT has them.

@@ -4,6 +4,7 @@
 #include <sys/stat.h>
 #include <unistd.h>
 
+#include <cmath>
 #include <cstdio>
 #include <cstdlib>
 #include <cstring>
@@ -240,16 +241,36 @@ TEST(items_follow_their_dependences) {
 
 TEST(time_in_the_recorder_and_for_locks_is_not_the_threads) {
   MadeLog log;
-  log.last({raw(10, Told::Schedule, 1, 2), raw(40, Told::StoodStill, 30), raw(50, Told::LockAsked, 7, 0, 99, 1),
-            raw(60, Told::StoodStill, 8), raw(80, Told::LockGot, 7), raw(90, Told::LockLeft, 7),
+  log.last({raw(10, Told::Schedule, 1, 2), raw(40, Told::StoodStill, 30),
+            raw(80, Told::LockGot, 7, log_form::wait_of(20), 99, 1), raw(90, Told::LockLeft, 7),
             raw(100, Told::Schedule, 2, 1)});
   LogFolder folder = log.open();
   Records &thread = *folder.threads.at(0);
   thread.next();
-  EXPECT(thread.next()->stood_still, 3 * 5 + 30 + 30);  // three records outside of the wait, and all of that once
+  EXPECT(thread.next()->stood_still, 3 * 5 + 30 + 20);  // three records outside of the wait
   const LockUse &use = thread.log.locks.uses().at({0, 7});
-  EXPECT(use.waiting, 30);
+  EXPECT(use.waiting, 20);
+  EXPECT(use.inside, 5);
   EXPECT(use.times, 1u);
+}
+
+TEST(short_records_of_a_lock_name_the_one_of_their_slot) {
+  MadeLog log;
+  unsigned like = log_form::slots + log_form::slot_of(99, static_cast<unsigned>(Told::LockGot));
+  Block block;
+  block.add(raw(1000, Told::Schedule, 1, 2)).add(raw(1100, Told::LockGot, 7, log_form::wait_of(20), 99, 1));
+  block.add(log_form::make_short(30, log_form::lock_left, 0))
+      .add(log_form::make_short(50, like, log_form::wait_of(40)));
+  block.add(log_form::make_short(30, log_form::lock_left, 0)).add(log_form::make_short(10, 7, 1));
+  log.last(block.records());
+  LogFolder folder = log.open();
+  Records &thread = *folder.threads.at(0);
+  thread.next();
+  EXPECT(thread.next()->task, 2u);  // which no lock is
+  const LockUse &use = thread.log.locks.uses().at({0, 7});
+  EXPECT(use.times, 2u);
+  EXPECT(use.waiting, 60);
+  EXPECT(use.inside, 50);
 }
 
 TEST(regions_of_a_thread_have_their_times) {
@@ -280,7 +301,7 @@ TEST(what_is_no_log_is_refused) {
   later.head.version = log_form::version + 1;
   EXPECT(why(other), "no log of the recorder");
   EXPECT(why(empty), "the program ended before recording began");
-  EXPECT(why(later), "version 6 of the log, and this is for version 5");
+  EXPECT(why(later), "version 7 of the log, and this is for version 6");
 }
 
 // Why it is refused; empty where it is not.
@@ -312,6 +333,9 @@ TEST(what_no_recorder_writes_is_refused) {
          "thread.0.last is damaged at byte 0: its call path is not listed");
   EXPECT(why({raw(now, Told::StoodStill, 0, UINT32_MAX)}),
          "thread.0.last is damaged at byte 0: the recorder took longer than the run");
+  for (float wait : {-1.F, 1e30F, NAN})
+    EXPECT(why({raw(now, Told::LockGot, 7, log_form::wait_of(wait), 99)}),
+           "thread.0.last is damaged at byte 0: it waited for longer than the run");
 }
 
 TEST(a_full_block_without_all_its_records_is_refused) {

@@ -159,9 +159,9 @@ class Switching {
   void wait_for_lock() {
     Moment asked{later_wall_time(), 0};
     log->wait_begins(asked);
+    log->ask_for_lock({nullptr, 7, 1, asked});
     usleep(3000);
-    Moment got{later_wall_time(), 0};
-    log->wait_ends(got);
+    log->get_lock({later_wall_time(), 0}, 7, 1);
   }
   // What is told of both clocks.
   std::vector<Passed> passed() {
@@ -212,6 +212,66 @@ TEST(of_sleep_in_a_lock_and_before_it_no_more_is_told_than_the_lock_was_held) {
   EXPECT(told.empty(), false);
   EXPECT(told.back().off() <= held + 100000, true);
   EXPECT(told.back().slept, true);
+}
+
+namespace {
+void take_lock(ThreadLog &log, uint64_t at, uint32_t name) {
+  log.is_slow = false;
+  log.tell_lock();
+  log.ask_for_lock({&place, name, 1, {at, 0}});
+  log.get_lock({at + 20, 0}, name, 1);
+}
+void leave_lock(ThreadLog &log, uint64_t at, uint32_t name) { log.leave_lock({{at, 0}, true}, name, 1); }
+
+// The lock's use, and how many records came with it.
+std::pair<LockUse, int> use_of(const Appended &made, uint32_t name) {
+  ThreadReader reader(place.folder + "/thread.0", 0, made.head);
+  int count = 0;
+  while (reader.next()) count++;
+  auto &uses = reader.log.locks.uses();
+  auto found = uses.find({0, name});
+  return {found == uses.end() ? LockUse{} : found->second, count};
+}
+}  // namespace
+
+TEST(a_lock_is_told_once_it_is_let_go) {
+  for (log_form::Costs costs : {log_form::Costs::Wall, log_form::Costs::Processor}) {
+    Appended made(costs);
+    ThreadLog log(0);
+    made.append(log, 0);
+    constexpr uint64_t first = beginning + 100, many = 30000;
+    for (uint64_t i = 0; i < many; i++) {
+      take_lock(log, first + 100 * i, 7);
+      leave_lock(log, first + 100 * i + 50, 7);
+    }
+    auto [use, count] = use_of(made, 7);
+    EXPECT(use.times, many);
+    EXPECT(use.waiting, static_cast<int64_t>(20 * many));
+    EXPECT(use.code == &place, true);
+    EXPECT(count, 1);
+    if (costs == log_form::Costs::Processor) continue;
+    EXPECT(use.inside, static_cast<int64_t>(30 * many));
+    EXPECT(use.alone, use.inside);
+    EXPECT(made.bytes_in_file() <= 17 * many, true);
+  }
+}
+
+TEST(a_lock_is_told_before_what_its_thread_tells_inside) {
+  Appended made;
+  ThreadLog log(0);
+  made.append(log, 0);
+  take_lock(log, beginning + 1000, 7);
+  take_lock(log, beginning + 1100, 8);
+  leave_lock(log, beginning + 1150, 7);
+  log.put({beginning + 1200, 0}, Told::Schedule, 3, 3, 0, 0);
+  leave_lock(log, beginning + 1400, 8);
+  for (uint32_t name : {7U, 8U}) {
+    auto [use, count] = use_of(made, name);
+    EXPECT(use.times, 1u);
+    EXPECT(use.inside, name == 7 ? 150 - 20 - 20 : 280);
+    EXPECT(use.alone, name == 7 ? use.inside : 0);
+    EXPECT(count, 2);
+  }
 }
 
 TEST(most_records_take_eight_bytes) { EXPECT(records_in_a_block() > log_form::block_bytes / 8 * 9 / 10, true); }

@@ -289,9 +289,8 @@ TEST(records_come_in_their_common_order) {
 
 TEST(locks_count_times_inside_and_waiting) {
   Locks locks;
-  locks.ask(ompt_mutex_critical, 7, nullptr, {100, 2000});
-  EXPECT(locks.get(7, {130, 2070}, 5), 100);
-  locks.leave(7, 1, 150, 5);  // on the thread's own clock, which stood still until 100
+  locks.get({7, ompt_mutex_critical, nullptr, 100, 70, 5});
+  locks.leave(7, 1, 150, 5);
   const LockUse &use = locks.uses().at({1, 7});
   EXPECT(use.times, 1u);
   EXPECT(use.waiting, 70);  // by the wall clock
@@ -301,8 +300,7 @@ TEST(locks_count_times_inside_and_waiting) {
 
 TEST(where_records_came_meanwhile_a_lock_may_have_held_another_task) {
   Locks locks;
-  locks.ask(ompt_mutex_critical, 7, nullptr, {100, 100});
-  locks.get(7, {100, 100}, 5);
+  locks.get({7, ompt_mutex_critical, nullptr, 100, 0, 5});
   locks.leave(7, 1, 150, 6);
   EXPECT(locks.uses().at({1, 7}).inside, 50);
   EXPECT(locks.uses().at({1, 7}).alone, 0);

@@ -8,7 +8,6 @@ import tempfile
 import time
 from collections import defaultdict
 
-from spanprof import client
 from spanprof.built import Product, find_or_build
 from spanprof.converting import RECORDERS, convert, converter, recorder_library
 from spanprof.errors import Fault
@@ -19,6 +18,7 @@ from spanprof.record.console import say, tell
 from spanprof.record.run import environment, without_recorder
 from spanprof.record.runtime import llvm_runtime
 from spanprof.text import OF_A_THREAD
+from spanprof.text_file import TextFile
 
 CALIBRATION = Product("calibrate", "the program for --calibrate", "clang-19 libomp-19-dev make")
 SECONDS = 30        # for all numbers of threads together, begun by then
@@ -81,7 +81,8 @@ def recorded(options, program, preload, threads, folder):
     variables = environment(dict(os.environ), options, library, preload, out)
     run([program, str(threads), "trees"], variables)
     convert(to_texts, os.path.join(out + ENDING, LOG), out, variables)
-    found = [cost_of_a_task(read_program(client.read(text))) for text in glob.glob(glob.escape(out) + "*.tasks")]
+    texts = [str(TextFile(path)) for path in glob.glob(glob.escape(out) + "*.tasks")]
+    found = [cost_of_a_task(read_program(text)) for text in texts]
     return [cost for cost in found if cost]
 
 

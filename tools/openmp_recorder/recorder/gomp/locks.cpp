@@ -21,8 +21,9 @@ void take(ompt_mutex_t kind, const void *name, const void *place, Own own, Lock.
 
 template <class Own, class... Lock>
 void leave(ompt_mutex_t kind, const void *name, Own own, Lock... lock) {
-  on_leaving_lock(kind, name_of(name));
+  Release when = release_begins();
   own(lock...);
+  on_let_go(kind, name_of(name), when);
 }
 
 // A lock that is held now, without a wait.

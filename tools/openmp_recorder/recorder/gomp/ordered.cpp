@@ -46,9 +46,9 @@ ENTRY void GOMP_ordered_start() {
 
 ENTRY void GOMP_ordered_end() {
   ENTER(GOMP_ordered_end);
-  // Before the call, which lets the next turn begin.
-  on_lock_left(order, name_of_order(), PLACE);
+  Release when = release_begins();
   own_GOMP_ordered_end();
+  on_let_go(order, name_of_order(), when);
 }
 
 ENTRY void GOMP_doacross_post(long *turn) {
