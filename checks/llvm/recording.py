@@ -10,6 +10,7 @@ import shutil
 import subprocess
 import sys
 
+import segments
 from versions import asked
 
 TOP = os.path.dirname(os.path.dirname(os.path.dirname(os.path.abspath(__file__))))
@@ -58,7 +59,13 @@ def names_of(name):
 
 
 def told_of(log, out, settings):
-    return convert(converter(print), log, out, dict(os.environ, **settings))
+    variables = dict(os.environ, **settings)
+    told = convert(converter(print), log, out, variables)
+    if variables.get("SPANPROF_WHOLE") == "1" and os.path.exists(out + ".tasks"):
+        others = segments.differing(out + ".tasks", out + ".segments")
+        if others:
+            raise Wrong("%s.segments has another %s than the text" % (out, ", ".join(others)))
+    return told
 
 
 def texts(name, settings=(), out=None):

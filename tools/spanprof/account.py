@@ -1,6 +1,5 @@
 """Where the time of a recorded run's threads went: the sums that spanprof_large tells of the timed document, and what
 the recording tells beside them. docs/MODEL.md has the words."""
-import io
 import os
 from array import array
 from dataclasses import dataclass, field
@@ -100,12 +99,14 @@ class Account:
 
 
 def read_rows(table):
-    lines = io.StringIO(table)
-    heads, rows = next(lines, "").rstrip("\n").split(","), Rows(*(array("q") for _ in Rows._fields))
-    while piece := lines.readlines(PIECE):
-        cells = "".join(piece).replace("\n", ",").split(",")
+    at = table.find("\n") + 1
+    heads, rows = table[:at].rstrip("\n").split(","), Rows(*(array("q") for _ in Rows._fields))
+    while at < len(table):
+        end = table.find("\n", at + PIECE) + 1 or len(table)
+        cells = table[at:end].replace("\n", ",").split(",")
         for name, column in zip(Rows._fields, rows):
             column.extend(map(int, cells[heads.index(name):-1:len(heads)]))
+        at = end
     return rows
 
 

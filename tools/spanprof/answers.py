@@ -3,7 +3,6 @@ first needed; what it tells of each segment is read as it comes, and kept in col
 from array import array
 from dataclasses import dataclass
 from functools import cached_property
-from itertools import compress
 from operator import add
 
 from spanprof import client
@@ -130,30 +129,30 @@ class Answers:
     def code(self):
         """The segments; of a text with loops those of its canonical text, which has none."""
         if self.file.has_loops():
-            return read_code(client.ask(["show"], self.file).splitlines(True), self.name)
-        return code_in(self.path)
+            found = read_code(client.ask(["show"], self.file).splitlines(True), self.name)
+        else:
+            found = code_in(self.path)
+        wanted = self.numbers["segments"], self.numbers["work"]
+        assert (len(found), sum(found.cost)) == wanted, "the text was read otherwise"
+        return found
 
     @cached_property
     def rows(self):
-        code, found = self.code, self.columns(["slack"], SLACK)
-        assert (len(found[0]), self.numbers["work"]) == (len(code), sum(code.cost)), "the text was read otherwise"
-        return Rows(code.cost, code.task, *found)
+        found = self.columns(["slack"], SLACK)
+        assert len(found[0]) == len(self.code), "the text was read otherwise"
+        return Rows(self.code.cost, self.code.task, *found)
 
     @cached_property
-    def least_slacks(self):
-        """Of each kind of segments."""
-        slack = self.rows.slack
-        out = [max(slack)] * len(self.code.kinds)
-        for kind, one in zip(self.code.of, slack):
-            if one < out[kind]:
-                out[kind] = one
-        return out
+    def path_and_slacks(self):
+        """The segments on the path that `slack` shows, and of each kind of segments the least slack."""
+        self.note("slack")
+        return client.path_and_slacks(self.file, self.code.of, len(self.code.kinds))
 
     @cached_property
     def path_segments(self):
-        """Those on the path that `slack` shows."""
-        if "rows" in vars(self):
-            return array("I", compress(range(len(self.rows)), self.rows.critical))
+        """Those alone, where slacks are not asked for."""
+        if "path_and_slacks" in vars(self):
+            return self.path_and_slacks[0]
         self.note("slack")
         return client.path(self.file)
 

@@ -11,7 +11,7 @@ import tempfile
 from spanprof.built import Product, find_or_build
 from spanprof.errors import Fault
 from spanprof.folders import builds_in
-from spanprof.recording import REGIONS, TEXT, TIMES, made_folder
+from spanprof.recording import REGIONS, SEGMENTS, TEXT, TIMES, made_folder
 from spanprof.regions import program_of
 
 CONVERTER = Product("convert_log", "the converter of logs", "clang-19 libomp-19-dev make")
@@ -19,7 +19,8 @@ LIBRARY = Product("librecorder.so", "the recorder", "clang-19 libomp-19-dev make
 RECORDERS = builds_in("openmp_recorder")
 LOADERS = ("LD_PRELOAD", "OMP_TOOL_LIBRARIES")  # of the recorded program alone
 STEM = "program"
-FILES = {".tasks": TEXT, ".times": TIMES, ".regions": REGIONS, ".off": "off", ".locks": "locks", ".calls": "calls"}
+FILES = {".tasks": TEXT, ".times": TIMES, ".regions": REGIONS, ".segments": SEGMENTS, ".off": "off", ".locks": "locks",
+         ".calls": "calls"}
 FAILED = ("fault", "unwritten")
 DIED = {signal.SIGKILL: "it was killed, as the system does where memory is short",
         signal.SIGXFSZ: "a file would be longer than `ulimit -f` allows"}

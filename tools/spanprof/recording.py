@@ -16,8 +16,9 @@ from spanprof.head import head_text
 SCHEMA = 1
 ENDING = ".spanprof"
 META, TEXT, TIMES, LOG, REGIONS = "recording.json", "program.tasks", "times", "log", "regions"
+SEGMENTS = "segments"   # of the text, in columns
 SCALE = "scale.json"    # of spanprof-record --scale: times of unrecorded runs
-CHECKED = (TEXT, TIMES, REGIONS, "off", "locks", "calls")    # the log is checked by its converter
+CHECKED = (TEXT, TIMES, REGIONS, SEGMENTS, "off", "locks", "calls")    # the log is checked by its converter
 PIECE = 1 << 20
 
 

@@ -7,6 +7,7 @@ from typing import NamedTuple
 
 from spanprof.errors import Fault
 from spanprof.marks import CREATING, Marks, after_words, marks_of_file
+from spanprof.segment_file import file_beside, read_into
 from spanprof.text import BARRIER, OF_A_THREAD, Segment, named, where
 from spanprof.text_file import read_once
 
@@ -51,11 +52,14 @@ class Code:
         self.own, self.groups = array("I"), array("I")  # segments that begin a thread's own code, and the group of each
         self.clauses = []           # of tasks: the kind of the first segment, what is written, how often
 
+    def add(self, kind):
+        self.numbers[kind] = len(self.kinds)
+        self.kinds.append(kind)
+        self.names.append(Segment(not kind.is_root, kind.task_place, kind.after, kind.after_place).place())
+
     def number(self, kind):
         if kind not in self.numbers:
-            self.numbers[kind] = len(self.kinds)
-            self.kinds.append(kind)
-            self.names.append(Segment(not kind.is_root, kind.task_place, kind.after, kind.after_place).place())
+            self.add(kind)
         return self.numbers[kind]
 
     def __len__(self):
@@ -198,6 +202,9 @@ def read_code(lines, name):
 
 @read_once
 def code_in(path):
-    """Of such a text in a file."""
+    """Of such a text in a file; of a recording's as its converter has cut it."""
+    table = file_beside(path)
+    if table:
+        return read_into(Code(), table, Kind)
     with of_version_1(path):
         return code_of(marks_of_file(path))

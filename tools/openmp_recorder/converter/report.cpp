@@ -11,6 +11,7 @@
 #include "lock_table.hpp"
 #include "region_table.hpp"
 #include "sampled_calls.hpp"
+#include "segment_table.hpp"
 #include "size.hpp"
 #include "span.hpp"
 #include "stretches.hpp"
@@ -46,7 +47,8 @@ class Reporter {
   void tell_remarks(const Region &region, const std::string &name);
   void write_times(Region &region, const std::string &name, const std::string &head, Style style, Object &line);
   bool write_text(Region &region, const std::string &file, const std::string &head, const Style &style,
-                  const std::string &behind = "");
+                  const std::string &behind = "", SegmentTable *table = nullptr);
+  bool write_whole(Region &region, const std::string &name, const std::string &head, const Style &style);
   Object &put_size(Object &line, const std::string &file, const Size &size, int64_t work);
 };
 
@@ -113,12 +115,24 @@ void Reporter::write_times(Region &region, const std::string &name, const std::s
 }
 
 bool Reporter::write_text(Region &region, const std::string &file, const std::string &head, const Style &style,
-                          const std::string &behind) {
+                          const std::string &behind, SegmentTable *table) {
   NewFile out(file);
   out.put(head);
-  tell_program(region, style, places, [&](std::string_view piece) { out.put(piece); });
+  tell_program(
+      region, style, places, [&](std::string_view piece) { out.put(piece); }, table);
   out.put(behind);
   return out.end();
+}
+
+// Of the whole program, with the table of its segments where that has room for all.
+bool Reporter::write_whole(Region &region, const std::string &name, const std::string &head, const Style &style) {
+  std::string file = name + ".segments";
+  NewFile out(file);
+  SegmentTable table([&](std::string_view piece) { out.put(piece); });
+  bool is_text = write_text(region, name + ".tasks", head, style, "", &table), has_room = table.finish();
+  bool is_table = out.end();
+  if (!has_room) remove(file.c_str());
+  return is_text && is_table;
 }
 
 Object &Reporter::put_size(Object &line, const std::string &file, const Size &size, int64_t work) {
@@ -137,7 +151,7 @@ void Reporter::write(Region &region, const std::string &name) {
   int64_t work = work_in_units(region, options.unit);
   std::string words = head(region, work);
   Style style{options.unit, size.tasks > most_tasks, region.has_events};
-  if (!write_text(region, file, words, style)) return;
+  if (!(recording.whole ? write_whole(region, name, words, style) : write_text(region, file, words, style))) return;
   tell_remarks(region, name);
   Line line("text");
   write_times(region, name, words, style, put_size(line, file, size, work));

@@ -8,6 +8,7 @@
 
 #include "piece.hpp"
 #include "recent.hpp"
+#include "segment_table.hpp"
 #include "size.hpp"
 #include "stretches.hpp"
 
@@ -27,8 +28,8 @@ struct Place {
 // Tasks may lie so deep within each other that the writer keeps the open ones in a list of its own.
 class Writer {
  public:
-  Writer(Region &of, const Style &chosen, const Places &known, const Taker &to)
-      : region(of), style(chosen), places(known), taker(to) {}
+  Writer(Region &of, const Style &chosen, const Places &known, const Taker &to, SegmentTable *segments)
+      : region(of), style(chosen), places(known), taker(to), table(segments) {}
   void tell();
 
  private:
@@ -36,6 +37,7 @@ class Writer {
   const Style &style;
   const Places &places;
   const Taker &taker;
+  SegmentTable *table;  // null where none is wanted
   Piece piece;  // not handed on yet
   std::vector<Place> inside;  // the open tasks, innermost last
   uint32_t opened = 0;
@@ -134,6 +136,7 @@ void Writer::flush(Place &p) {
     piece.put("work ");
     piece.number(static_cast<uint64_t>(cost));
     end_line();
+    if (table) table->work(static_cast<uint64_t>(cost));
   }
   p.cost = 0;
 }
@@ -179,12 +182,14 @@ void Writer::pieces(Place &p, Task &chunk) {
   uint64_t cost = static_cast<uint64_t>(rounded(chunk.total, style.unit)), longer = cost % chunk.pieces;
   std::string_view place = place_of(chunk);
   for (uint32_t i = 0; i < chunk.pieces; i++) {
+    uint64_t of_one = cost / chunk.pieces + (i < longer);
     line(p.indent, "task {", place);
     begin_line(p.indent + 1);
     piece.put("work ");
-    piece.number(cost / chunk.pieces + (i < longer));
+    piece.number(of_one);
     end_line();
     line(p.indent, "}");
+    if (table) table->task({}, place), table->work(of_one), table->end();
   }
   p.segment++;
   opened += 2 * chunk.pieces - 1;
@@ -196,10 +201,13 @@ void Writer::create(Place &p, Task &child) {
   if (child.pieces > 1) return pieces(p, child);
   begin_line(p.indent);
   piece.put("task");
+  size_t clauses = piece.size();
   if (child.undeferred) piece.put(" if(0)");
   items(child);
+  std::string_view place = place_of(child);
+  if (table) table->task(piece.words().substr(clauses), place);
   piece.put(" {");
-  end_line(place_of(child));
+  end_line(place);
   enter(child, p.indent + 1);
 }
 
@@ -210,11 +218,17 @@ void Writer::step(Place &p, const Step &step) {
     case Kind::Create: return create(p, *step.child());
     case Kind::Wait:
       line(p.indent, "taskwait", place_at(step.code()));
+      if (table) table->wait(place_at(step.code()));
       p.segment++;
       return open(p);
-    case Kind::GroupBegin: return line(p.indent++, "taskgroup {", place_of_group(p, step));
+    case Kind::GroupBegin: {
+      std::string_view place = place_of_group(p, step);
+      if (table) table->group(place);
+      return line(p.indent++, "taskgroup {", place);
+    }
     case Kind::GroupEnd:
       line(--p.indent, "}");
+      if (table) table->end();
       p.segment++;
       return open(p);
   }
@@ -234,6 +248,7 @@ void Writer::leave() {
   if (inside.empty()) return;
   Place &maker = inside.back();
   line(maker.indent, "}");
+  if (table) table->end();
   maker.segment++;
   open(maker);
 }
@@ -277,8 +292,8 @@ int64_t work_in_units(const Region &region, int64_t unit) {
   return work;
 }
 
-void tell_program(Region &region, const Style &style, const Places &places, const Taker &taker) {
-  Writer(region, style, places, taker).tell();
+void tell_program(Region &region, const Style &style, const Places &places, const Taker &taker, SegmentTable *table) {
+  Writer(region, style, places, taker, table).tell();
 }
 
 std::vector<const void *> codes_of(const Region &region) {

@@ -8,6 +8,7 @@ from collections import Counter
 from dataclasses import dataclass, field, replace
 from typing import Dict, List, Optional
 
+from spanprof import client
 from spanprof.account import account_of
 from spanprof.account_program import NoAccount
 from spanprof.diagnosis.calls import Sampled, calls_of, is_of_ranks, plain
@@ -53,7 +54,6 @@ class Facts:
     elapsed: int = 0
     work: int = 0
     span: int = 0
-    greedy: int = 0                     # the end of the greedy run on the threads
     tasks: int = 0
     code: int = 0
     recorder: int = 0
@@ -213,14 +213,20 @@ def set_breakdown(facts, found):
     set_idle(facts, found)
 
 
-def set_by_greedy(facts, head):
+def greedy_end(path, threads):
+    """Where the greedy run of a text ends; its bound where there is too little memory for that."""
+    row = numbers_of(TextFile(path), [threads]).on[threads]
+    return row.bound if row.end is None else row.end
+
+
+def set_by_greedy(facts, head, end):
     """Without the times of the run: what the greedy run of the text leaves idle, and what is longer than it."""
     whole = facts.threads * facts.elapsed
     facts.code = min(facts.work, whole)
     if head.clock == "wall":
         facts.preempted = min(facts.code, head.clocks_differ.get("by", 0) * (head.nanoseconds or 1))
         facts.code -= facts.preempted
-    facts.starved = max(0, min(whole, facts.threads * facts.greedy) - facts.code - facts.preempted)
+    facts.starved = max(0, min(whole, facts.threads * end * (head.nanoseconds or 1)) - facts.code - facts.preempted)
     facts.delayed = whole - facts.code - facts.preempted - facts.starved
 
 
@@ -317,12 +323,10 @@ def regions_of(program):
 
 
 def of_text(head, program, numbers):
-    """What the text alone tells: its head, its places, and where its greedy run ends."""
-    unit, threads = head.nanoseconds or 1, head.threads or 1
-    end = numbers.on[threads].end
-    facts = Facts(program=head.program, whole=bool(head.whole), threads=threads, elapsed=(head.elapsed or 0) * unit,
-                  work=numbers.work * unit, span=numbers.span * unit,
-                  greedy=(numbers.on[threads].bound if end is None else end) * unit,
+    """What the text alone tells: its head, its places, its work and span."""
+    unit = head.nanoseconds or 1
+    facts = Facts(program=head.program, whole=bool(head.whole), threads=head.threads or 1,
+                  elapsed=(head.elapsed or 0) * unit, work=numbers["work"] * unit, span=numbers["span"] * unit,
                   tasks=max(program.code.task) - head.pieces - head.parts, places=program.places,
                   functions={at: function_in(words) for at, words in head.functions.items()})
     facts.coverage = head.covered / head.thread_time if head.covered and head.thread_time else None
@@ -334,13 +338,13 @@ def of_text(head, program, numbers):
     return facts
 
 
-def facts_of(recording):
-    """Of a recording's folder, or of a plain text with what lies beside it."""
+def facts_of(recording, end_of=greedy_end):
+    """Of a recording's folder, or of a plain text with what lies beside it. `end_of` is asked only without times."""
     path, meta = recording.text, recording.meta
     code, head = code_in(path), head_of(path)
     off = {segment: times for segment, times in off_by_segment(recording.file("off"), head).items()
            if 0 <= segment < len(code)}
-    program, numbers = read_places(code, costs_of(code, off, head)), numbers_of(TextFile(path), [head.threads or 1])
+    program, numbers = read_places(code, costs_of(code, off, head)), client.measured(path)
     facts = of_text(head, program, numbers)
     set_meta(facts, meta)
     facts.locks, regions = locks_of(recording.file("locks"), head), program_of(path)
@@ -349,8 +353,8 @@ def facts_of(recording):
     facts.calls = calls_of(recording.file("calls"), program.names)
     set_ranks(facts)
     try:
-        set_breakdown(facts, account_of(head, numbers.work, document(recording), program.names))
+        set_breakdown(facts, account_of(head, numbers["work"], document(recording), program.names))
     except NoAccount:
-        set_by_greedy(facts, head)
+        set_by_greedy(facts, head, end_of(path, facts.threads))
     set_library_locks(facts)
     return facts

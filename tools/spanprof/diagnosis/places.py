@@ -3,6 +3,7 @@ from array import array
 from collections import Counter, defaultdict
 from dataclasses import dataclass, field
 from functools import cached_property
+from operator import add
 from typing import List, Tuple
 
 from spanprof.marks import CREATING
@@ -114,12 +115,13 @@ class Program:
 
 def pieces_of(code, costs):
     """The costs of the segments by the kinds of each and of the next one, which tells what ends it."""
-    found = defaultdict(lambda: array("Q"))
+    width, found = len(code.kinds), defaultdict(lambda: array("Q"))
     following = code.of[1:]
     following.append(0)
-    for pair, cost in zip(zip(code.of, following), costs):
-        found[pair].append(cost)
-    return found
+    pairs = map(add, map(width.__mul__, code.of), following)
+    for pieces, cost in zip(map(found.__getitem__, pairs), costs):
+        pieces.append(cost)
+    return {divmod(pair, width): pieces for pair, pieces in found.items()}
 
 
 def set_longest(program):

@@ -4,7 +4,7 @@ from dataclasses import dataclass
 
 from spanprof.diagnosis.changes import Bench
 from spanprof.diagnosis.diagnose import Diagnosis, diagnose
-from spanprof.diagnosis.facts import facts_of
+from spanprof.diagnosis.facts import facts_of, greedy_end
 from spanprof.diagnosis.losses import losses
 from spanprof.diagnosis.names import Names
 from spanprof.diagnosis.plan import bounds
@@ -52,10 +52,10 @@ def bench_of(path, facts, seconds=None):
         return None
 
 
-def told_of(recording, folders=(), seconds=None):
+def told_of(recording, folders=(), seconds=None, end_of=greedy_end):
     """`folders` are where the source is; without them beside the recording, and here. Changes are tried for so many
     seconds, or as long as a person waits."""
-    facts = facts_of(recording)
+    facts = facts_of(recording, end_of)
     bench = bench_of(recording.text, facts, seconds) if needs_trials(facts) else None
     beside = [os.path.dirname(os.path.abspath(recording.folder or recording.text)), os.getcwd()]
     names = Names(facts, Sources(list(folders) or beside, facts.sources))
@@ -68,7 +68,12 @@ def diagnosis_of(answers, folders=()):
     """Of a recorded run on several threads; None where there is none, as of a text without times."""
     if not answers.head.elapsed or (answers.head.threads or 1) == 1:
         return None
+
+    def end_of(path, threads):
+        """Of the schedule that the page of a long text shows."""
+        is_shown = answers.is_long and answers.threads == threads and answers.greedy
+        return answers.greedy.end if is_shown else greedy_end(path, threads)
     try:
-        return told_of(open_recording(answers.path), folders)
+        return told_of(open_recording(answers.path), folders, end_of=end_of)
     except (Fault, OSError):
         return None

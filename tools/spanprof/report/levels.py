@@ -96,7 +96,7 @@ def levels_in(path, view):
 def levels_of_greedy(view):
     """In the unit of the costs; None where there was too little memory for a greedy schedule."""
     made = view.answers.greedy
-    takes_time = made and bytes(thread >= 0 for thread in made.threads)
+    takes_time = made and bytes(map((-1).__lt__, made.threads))
     if not made or not any(takes_time):
         return None
     return levels_of(view, view.answers.threads, *(array("q", compress(column, takes_time)) for column in (

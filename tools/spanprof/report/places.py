@@ -78,10 +78,13 @@ def task_places(answers):
         cost[task] += segment_cost
     for s in answers.path_segments:
         critical_cost[code.task[s]] += code.cost[s]
-    for number, first in enumerate(code.firsts()):
-        name = code.kinds[code.of[first]][1] or ("a task" if number else root)
-        place = found.setdefault(name, TaskPlace(name))
-        place.tasks.append(number)
-        place.costs.append(cost[number])
-        place.critical_cost += critical_cost[number]
+    kinds, add = array("I", map(code.of.__getitem__, code.firsts())), {}    # of their first segments
+    for kind in dict.fromkeys(kinds):
+        name = code.kinds[kind].task_place or (root if code.kinds[kind].is_root else "a task")
+        add[kind] = found.setdefault(name, TaskPlace(name)).tasks.append
+    for number, kind in enumerate(kinds):
+        add[kind](number)
+    for place in found.values():
+        place.costs.extend(map(cost.__getitem__, place.tasks))
+        place.critical_cost = sum(map(critical_cost.__getitem__, place.tasks))
     return numbered(found.values(), lambda place: (-place.cost, place.name))

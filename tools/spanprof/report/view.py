@@ -43,7 +43,7 @@ class View:
         self.figures = Figures(prefix, self.units)
         here = [os.path.dirname(os.path.abspath(folder_of(path) or path)), os.getcwd()]
         self.sources = Sources(source or here)
-        self.slacks = self.answers.least_slacks     # before the places: these take the path of its rows
+        _, self.slacks = self.answers.path_and_slacks   # before the places: these take the same path
         self.task_places, self.places = task_places(self.answers), places(self.answers)
         self.run = None
         if not self.is_long and self.account and self.account.rows:

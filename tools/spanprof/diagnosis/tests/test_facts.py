@@ -3,6 +3,7 @@ import os
 import tempfile
 import unittest
 from types import SimpleNamespace
+from unittest import mock
 
 from spanprof.account import Account, Row, Rows
 from spanprof.diagnosis import facts as module
@@ -17,7 +18,6 @@ from spanprof.errors import Fault
 from spanprof.head import read_head
 from spanprof.recording import open_recording
 from spanprof.regions import Program, Region, program_of
-from spanprof.whatif.numbers import Numbers, OnThreads
 
 HEAD = """# recorded: {"program": "image", "threads": 2, "clock": "wall", "unit": "us"}
 # whole program: {"regions": 1}
@@ -27,7 +27,7 @@ HEAD = """# recorded: {"program": "image", "threads": 2, "clock": "wall", "unit"
 # remark: {"remark": "mutexinoutset", "times": 2, "at": "image.c:25", "span": "low"}
 # place: {"at": "image.c:25", "in": "main.omp_outlined"}
 """
-NUMBERS = Numbers("spanprof", 9, 132, 80, {2: OnThreads(80, 100, 90)})
+NUMBERS = {"segments": 9, "work": 132, "span": 80}
 
 
 class OfText(unittest.TestCase):
@@ -36,7 +36,7 @@ class OfText(unittest.TestCase):
 
     def test_times_are_in_nanoseconds(self):
         found = self.found
-        self.assertEqual((found.elapsed, found.work, found.span, found.greedy), (120000, 132000, 80000, 90000))
+        self.assertEqual((found.elapsed, found.work, found.span), (120000, 132000, 80000))
         self.assertEqual(found.places["task at image.c:25"].cost, 100000)
         self.assertEqual((found.program, found.threads, found.coverage), ("image", 2, 0.99))
 
@@ -47,10 +47,10 @@ class OfText(unittest.TestCase):
             self.assertEqual(found.places["task at image.c:25"].exclusive, exclusive)
 
     def test_without_the_times_of_the_run_the_greedy_run_divides_them(self):
-        module.set_by_greedy(self.found, read_head(HEAD))
+        module.set_by_greedy(self.found, read_head(HEAD), 90)
         self.assertEqual((self.found.code, self.found.starved, self.found.delayed), (132000, 48000, 60000))
         differ = '# clocks differ: {"affected": 9, "work": 9, "by": 32, "times": 1}'
-        module.set_by_greedy(self.found, read_head(HEAD + differ))
+        module.set_by_greedy(self.found, read_head(HEAD + differ), 90)
         self.assertEqual((self.found.code, self.found.preempted, self.found.starved), (100000, 32000, 48000))
 
     def test_costs_have_no_time_in_which_a_thread_was_preempted(self):
@@ -128,11 +128,8 @@ class Recorded(unittest.TestCase):
             path = os.path.join(folder, "m.tasks")
             with open(path, "w", encoding="utf-8") as file:
                 file.write(HEAD + TEXT)
-            measured, module.numbers_of = module.numbers_of, lambda *_: NUMBERS
-            try:
-                found = module.facts_of(open_recording(path))
-            finally:
-                module.numbers_of = measured
+            with mock.patch("spanprof.client.measured", return_value=NUMBERS):
+                found = module.facts_of(open_recording(path), lambda *_: 90)
             self.assertEqual(found.code + found.starved + found.delayed, found.whole_time)
 
 

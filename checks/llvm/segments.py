@@ -1,0 +1,19 @@
+"""The table of segments that the converter writes beside a text of a whole program has to be that of the text, as the
+tools cut one that has no table."""
+import os
+import sys
+
+sys.path.append(os.path.join(os.path.dirname(os.path.abspath(__file__)), "..", "..", "tools"))
+from spanprof.marks import marks_of_file  # noqa: E402
+from spanprof.segment_file import read_into  # noqa: E402
+from spanprof.segment_table import Code, Kind, code_of  # noqa: E402
+
+COLUMNS = ("of", "task", "cost", "kinds", "own", "groups", "clauses")
+
+
+def differing(text, table):
+    """The names of the columns that are others; all where there is no such file."""
+    if not os.path.exists(table):
+        return COLUMNS
+    read, cut = read_into(Code(), table, Kind), code_of(marks_of_file(text))
+    return [name for name in COLUMNS if list(getattr(read, name)) != list(getattr(cut, name))]

@@ -1,0 +1,82 @@
+// The table of the segments by place.
+#include <cstring>
+
+#include "segment_table.hpp"
+#include "text.hpp"
+#include "check.hpp"
+#include "whole.hpp"
+
+namespace {
+const std::string of_a_thread = "one of the region's threads";
+
+struct Written {
+  std::string words{};
+  SegmentTable table{[this](std::string_view piece) { words += piece; }};
+  std::string tail() const { return words.substr(words.rfind('\n', words.size() - 2) + 1); }
+  template <class Number>
+  std::vector<Number> column(std::size_t at, std::size_t count) const {
+    std::vector<Number> out(count);
+    std::memcpy(out.data(), words.data() + at, count * sizeof(Number));
+    return out;
+  }
+};
+}  // namespace
+
+TEST(segments_have_a_kind_a_task_and_a_cost) {
+  Written out;
+  out.table.work(7);
+  out.table.task(" depend(inout: x)", "a.c:3"), out.table.work(5), out.table.wait("a.c:5"), out.table.work(6);
+  out.table.end(), out.table.group("a.c:8"), out.table.task({}, of_a_thread), out.table.work(1);
+  out.table.end(), out.table.end(), out.table.work(uint64_t{1} << 32);
+  EXPECT(out.table.finish(), true);
+  EXPECT(out.column<uint16_t>(0, 7) == std::vector<uint16_t>({0, 1, 2, 3, 4, 5, 6}), true);
+  EXPECT(out.column<uint32_t>(14, 7) == std::vector<uint32_t>({0, 1, 1, 0, 2, 0, 0}), true);
+  EXPECT(out.column<uint32_t>(42, 7) == std::vector<uint32_t>({7, 5, 6, 0, 1, 0, 0}), true);
+  EXPECT(out.tail(),
+         "{\"segments\": 7, \"kinds\": [[true, \"\", \"\", \"\", \"\"], [false, \"a.c:3\", \"\", \"\", \"\"], "
+         "[false, \"a.c:3\", \"taskwait\", \"a.c:5\", \"\"], [true, \"\", \"creating a task\", \"a.c:3\", \"\"], "
+         "[false, \"one of the region's threads\", \"\", \"\", \"a.c:8\"], "
+         "[true, \"\", \"creating a task\", \"one of the region's threads\", \"a.c:8\"], "
+         "[true, \"\", \"taskgroup\", \"barrier of the region at a.c:8\", \"a.c:8\"]], "
+         "\"long\": [6,4294967296], \"own\": [4,1], \"clauses\": [[1, \" depend(inout: x)\", 1]]}\n");
+}
+
+TEST(a_group_of_a_loop_is_no_barrier) {
+  Written out;
+  out.table.group("the loop at a.c:2"), out.table.task({}, "turns of the loop at a.c:2"), out.table.end();
+  out.table.group("a.c:5"), out.table.work(3), out.table.task({}, of_a_thread);
+  out.table.end(), out.table.end(), out.table.end();
+  out.table.finish();
+  EXPECT_PART(out.tail(), "[false, \"one of the region's threads\", \"\", \"\", \"a.c:5\"]");
+  EXPECT_PART(out.tail(), "[true, \"\", \"taskgroup\", \"a.c:5\", \"\"]");
+  EXPECT_PART(out.tail(), "[true, \"\", \"taskgroup\", \"the loop at a.c:2\", \"\"]");
+}
+
+TEST(columns_come_in_blocks) {
+  Written out;
+  const unsigned count = 70000, first = 1 << 16;
+  for (unsigned i = 1; i < count; i++) out.table.work(i), out.table.wait("a.c:1");
+  EXPECT(out.words.size(), first * 10u);
+  out.table.finish();
+  EXPECT(out.column<uint32_t>(first * 6, 3) == std::vector<uint32_t>({1, 2, 3}), true);
+  EXPECT(out.column<uint32_t>(first * 10 + (count - first) * 6, 1)[0], first + 1);
+}
+
+TEST(more_kinds_than_a_column_takes_are_told) {
+  Written out;
+  for (unsigned i = 0; i < 1 << 16; i++) out.table.wait("a.c:" + std::to_string(i));
+  EXPECT(out.table.finish(), false);
+}
+
+TEST(a_text_is_written_with_its_segments) {
+  Program made;
+  loop(made.after(4), 0, 4, {{3, 6 * us}, {1, 5 * us}});
+  end_region(made);
+  made.whole();
+  Written out;
+  tell_program(
+      *made.found.whole, {1, true, true}, Places(), [](std::string_view) {}, &out.table);
+  EXPECT(out.table.finish(), true);
+  EXPECT_PART(out.tail(), "{\"segments\": 13, ");
+  EXPECT(out.column<uint32_t>(26 + 52, 5) == std::vector<uint32_t>({100, 4, 2000, 0, 2000}), true);
+}

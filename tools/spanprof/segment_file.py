@@ -1,0 +1,54 @@
+"""The segments of a recorded text in the columns that its converter has written beside it (docs/FORMATS.md)."""
+import json
+import os
+from array import array
+
+from spanprof.errors import reading
+from spanprof.recording import SEGMENTS, folder_of
+
+OF_A_BLOCK = 1 << 16
+COLUMNS = (("H", 2), ("I", 4), ("I", 4))     # kinds, tasks, costs
+
+
+def file_beside(text):
+    """Empty where there is none, as of a plain text."""
+    path = os.path.join(folder_of(text), SEGMENTS) if folder_of(text) else ""
+    return path if os.path.exists(path) else ""
+
+
+def columns_in(data, count):
+    """Block by block."""
+    out, at = [array(of) for of, _ in COLUMNS], 0
+    for first in range(0, count, OF_A_BLOCK):
+        for column, (_, size) in zip(out, COLUMNS):
+            end = at + size * min(OF_A_BLOCK, count - first)
+            column.frombytes(data[at:end])
+            at = end
+    if at != len(data):
+        raise ValueError("%d bytes of columns" % len(data))
+    return out
+
+
+def widened(costs, exceptions):
+    """Those of one word as the lower words of longer numbers; longer ones are listed."""
+    words, out = array("I", bytes(8 * len(costs))), array("Q")
+    words[::2] = costs
+    out.frombytes(words.tobytes())
+    for segment, cost in zip(exceptions[::2], exceptions[1::2]):
+        out[segment] = cost
+    return out
+
+
+def read_into(code, path, kind_of):
+    """`kind_of` makes a kind of its words."""
+    with reading(path), open(path, "rb") as file:
+        data = file.read()
+        at = data.rindex(b"\n", 0, -1)
+        told = json.loads(data[at:].decode("utf-8", "replace"))
+        code.of, code.task, costs = columns_in(memoryview(data)[:at], told["segments"])
+        code.cost = widened(costs, told["long"])
+        for is_root, *words in told["kinds"]:
+            code.add(kind_of(is_root, *(word.strip() for word in words)))
+        code.own, code.groups = (array("I", told["own"][first::2]) for first in (0, 1))
+        code.clauses = [(kind, words.replace(" ", ""), count) for kind, words, count in told["clauses"]]
+    return code

@@ -1,0 +1,71 @@
+import json
+import os
+import struct
+import tempfile
+import unittest
+from unittest import mock
+
+from spanprof import segment_file
+from spanprof.errors import Fault
+from spanprof.segment_table import Code, Kind, code_in, read_code
+from spanprof.tests.recordings import TEXT as OF_A_RECORDING, recording
+from spanprof.tests.test_segment_table import TEXT
+
+KINDS = [[True, "", "", "", ""], [False, "a.c:3", "", "", ""], [False, "a.c:3", "taskwait", "a.c:5", ""],
+         [True, "", "creating a task", "a.c:3", ""], [False, "one of the region's threads", "", "", "a.c:8"],
+         [True, "", "creating a task", "one of the region's threads", "a.c:8"],
+         [True, "", "taskgroup", "barrier of the region at a.c:8", "a.c:8"]]
+TOLD = {"segments": 7, "kinds": KINDS, "long": [6, 1 << 33], "own": [4, 1], "clauses": [[1, " depend(inout: x)", 1]]}
+ROWS = [(0, 0, 7), (1, 1, 5), (2, 1, 6), (3, 0, 0), (4, 2, 1), (5, 0, 0), (6, 0, 0)]    # kind, task, cost
+
+
+def table(rows, told, of_a_block=segment_file.OF_A_BLOCK):
+    """As the converter writes it."""
+    out = b""
+    for first in range(0, len(rows), of_a_block):
+        kinds, tasks, costs = zip(*rows[first:first + of_a_block])
+        out += struct.pack("=%dH%dI" % (len(kinds), 2 * len(kinds)), *kinds, *tasks, *costs)
+    return out + b"\n" + json.dumps(told).encode() + b"\n"
+
+
+def read(data):
+    with tempfile.TemporaryDirectory() as folder:
+        path = os.path.join(folder, "segments")
+        with open(path, "wb") as file:
+            file.write(data)
+        return segment_file.read_into(Code(), path, Kind)
+
+
+class OfARecording(unittest.TestCase):
+    def check(self, found):
+        wanted = read_code(TEXT.replace("work 4\n", "work 8589934592\n").splitlines(True), "a.tasks")
+        for name in ("of", "task", "cost", "kinds", "names", "own", "groups", "clauses"):
+            self.assertEqual(list(getattr(found, name)), list(getattr(wanted, name)), name)
+
+    def test_it_has_what_the_text_has(self):
+        self.check(read(table(ROWS, TOLD)))
+
+    def test_block_by_block(self):
+        with mock.patch("spanprof.segment_file.OF_A_BLOCK", 3):
+            self.check(read(table(ROWS, TOLD, 3)))
+
+    def test_damage(self):
+        for data in (b"", b"\n", table(ROWS[1:], TOLD), table(ROWS, {"segments": 7}), table(ROWS, TOLD)[1:]):
+            with self.assertRaisesRegex(Fault, "segments is damaged"):
+                read(data)
+
+    def test_it_lies_beside_the_text_of_a_recording(self):
+        told = {"segments": 3, "kinds": KINDS[:2] + KINDS[3:4], "long": [], "own": [], "clauses": []}
+        with tempfile.TemporaryDirectory() as folder:
+            path = recording(folder)
+            text = os.path.join(path, "program.tasks")
+            cut = code_in(text)
+            with open(os.path.join(path, "segments"), "wb") as file:
+                file.write(table([(0, 0, 9), (1, 1, 8), (2, 0, 7)], told))
+            os.utime(text, (1, 1))
+            self.assertEqual([one.cost for one in (*cut, *code_in(text))], [0, 5, 4, 9, 8, 7])
+            self.assertIn("work 5", OF_A_RECORDING)
+
+
+if __name__ == "__main__":
+    unittest.main()
