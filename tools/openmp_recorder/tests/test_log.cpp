@@ -280,7 +280,7 @@ TEST(what_is_no_log_is_refused) {
   later.head.version = log_form::version + 1;
   EXPECT(why(other), "no log of the recorder");
   EXPECT(why(empty), "the program ended before recording began");
-  EXPECT(why(later), "version 6 of the log, and this is for version 5");
+  EXPECT(why(later), "version 7 of the log, and this is for version 6");
 }
 
 // Why it is refused; empty where it is not.

@@ -36,9 +36,11 @@ class Ran(NamedTuple):
 
 
 class Sampled(NamedTuple):
-    """By place: the microseconds of each list of calls, outermost first, in which code ran, or slept."""
+    """By place: the microseconds of each list of calls, outermost first, in which code ran, or slept; and of each line
+    at which it used memory that other threads used at the same time, where one of them wrote it."""
     ran: dict
     slept: dict
+    shares: dict = {}
 
 
 @lru_cache(maxsize=4096)
@@ -61,14 +63,14 @@ def is_of_ranks(calls):
 
 def calls_of(path, names):
     """A line of the file has a segment, what it did, how long and in which calls: `12 ran 8000 main;sort;compare`."""
-    found = Sampled(defaultdict(Counter), defaultdict(Counter))
+    found = Sampled(*(defaultdict(Counter) for _ in Sampled._fields))
     if path:
         with reading(path), open(path, encoding="utf-8", errors="replace") as lines:
             for line in lines:
                 number, did, time, calls = line.rstrip("\n").split(" ", 3)
                 if 0 <= int(number) < len(names):
-                    getattr(found, did)[names[int(number)]][known(calls)] += int(time)
-    return Sampled(dict(found.ran), dict(found.slept))
+                    getattr(found, did)[names[int(number)]][calls if did == "shares" else known(calls)] += int(time)
+    return Sampled(*map(dict, found))
 
 
 @lru_cache(maxsize=4096)

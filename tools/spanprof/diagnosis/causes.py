@@ -41,7 +41,7 @@ TABLE = (
     Cause("lock", 0.1, "threads wait for {lock}, {times}", "{less_locking}"),
     Cause("exclusion", 0.1, "tasks of {where} exclude each other: mutexinoutset",
           "smaller mutexinoutset items at {at}, or for the update alone"),
-    Cause("memory", 0.1, "{where} costs {dearer} times as much on {threads} threads as on one: memory is contended",
+    Cause("memory", 0.1, "{contended}",
           "{instead}"),
     Cause("system", 0.1, "{system} % of the processor time is the kernel's: {kernel}", "{less_kernel}"),
     Cause("sleep", 0.1, "{where} waits {in_what}",

@@ -249,18 +249,6 @@ def set_ranks(facts):
             facts.asleep_by[name] = facts.asleep_by.get(name, 0) + 1000 * sum(waits.values())
 
 
-def costs_of(code, off, head):
-    """In nanoseconds. Those by the wall clock alone have the time in which a thread was preempted, and lose it here."""
-    unit = head.nanoseconds or 1
-    costs = code.cost if unit == 1 else array("Q", (cost * unit for cost in code.cost))
-    if head.clock != "wall" or not any(preempted for _, preempted in off.values()):
-        return costs
-    costs = costs[:]
-    for segment, (_, preempted) in off.items():
-        costs[segment] = max(0, costs[segment] - preempted)
-    return costs
-
-
 def runtime_name(runtime):
     """Such as `LLVM 19`."""
     return " ".join(filter(None, [RUNTIMES.get(runtime.get("name"), runtime.get("name")), runtime.get("version")]))
@@ -338,7 +326,9 @@ def facts_of(recording):
     code, head = code_in(path), head_of(path)
     off = {segment: times for segment, times in off_by_segment(recording.file("off"), head).items()
            if 0 <= segment < len(code)}
-    program, numbers = read_places(code, costs_of(code, off, head)), numbers_of(TextFile(path), [head.threads or 1])
+    unit = head.nanoseconds or 1
+    costs = code.cost if unit == 1 else array("Q", (cost * unit for cost in code.cost))
+    program, numbers = read_places(code, costs), numbers_of(TextFile(path), [head.threads or 1])
     facts = of_text(head, program, numbers)
     set_meta(facts, meta)
     facts.locks, regions = locks_of(recording.file("locks"), head), program_of(path)

@@ -326,9 +326,13 @@ def start_of(facts, losses_found):
 
 
 def dearer(facts):
-    """By place, what its code cost beyond what it did on one thread."""
-    one = facts.cost_on_one or {}
-    return {name: max(0, place.cost - one[name]) for name, place in facts.places.items() if name in one}
+    """By place, what its code cost beyond what it did on one thread; or where that is not known at most, by samples of
+    what threads contend for."""
+    one = facts.cost_on_one
+    if one is not None:
+        return {name: max(0, place.cost - one[name]) for name, place in facts.places.items() if name in one}
+    return {name: int(facts.places[name].cost * min(1, sum(shares.values()) / sum(facts.calls.ran[name].values())))
+            for name, shares in facts.calls.shares.items() if name in facts.places and name in facts.calls.ran}
 
 
 def lock_name(lock):

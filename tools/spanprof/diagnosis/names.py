@@ -3,7 +3,7 @@ import re
 from typing import NamedTuple
 
 from spanprof.diagnosis.calls import NO_NAME, OFFSET, innermost, plain
-from spanprof.diagnosis.directives import construct_of, directive_line, is_of_some_turns, own_item
+from spanprof.diagnosis.directives import DIRECTIVE, construct_of, directive_line, is_of_some_turns, own_item
 from spanprof.diagnosis.places import OF_THREADS, OWN, SERIAL, lines_between
 from spanprof.source_lines import LONGEST, STRING, after_directive, code_lines, line_of, statement_end
 from spanprof.text import BEGINNING
@@ -68,18 +68,22 @@ def block_end(lines, number):
 
 
 class Suspect(NamedTuple):
-    """An item that each thread has next to those of others, or an atomic operation without one; and its line."""
+    """An item that each thread has next to those of others, an atomic operation, or whatever a line writes; and the
+    line."""
     item: str
     at: str
+    is_atomic: bool = False
 
     def __str__(self):
-        return "%s next to other threads' (%s)" % self if self.item else "the atomic at " + self.at
+        return "the atomic at " + self.at if self.is_atomic else "%s next to other threads' (%s)" % self[:2]
 
     @property
     def instead(self):
         """What to write in its place."""
-        return "a local copy of %s (%s), written back once" % self if self.item else \
-            "a reduction in place of the atomic at " + self.at
+        if self.is_atomic:
+            return "a reduction in place of the atomic at " + self.at
+        what = "%s (%s)" % self[:2] if self.item else "what %s writes" % self.at
+        return "a local copy of %s, written back once" % what
 
 
 class Names:
@@ -156,17 +160,34 @@ class Names:
         """What may slow code of these places, or that has much of the cost, on several threads: an atomic operation, or
         items of threads next to each other; None where the source shows neither."""
         found = places or [one for one in self.facts.places.values() if one.cost > MUCH_CODE * self.facts.code]
-        for file, first, last in map(self.stretch, sorted(found, key=lambda place: -place.cost)):
-            lines, first = self.lines_of(file), first or last
-            if not 0 < first <= last <= len(lines):
-                continue
-            for number in range(first, last + 1):
-                if ATOMIC.search(lines[number - 1]):
-                    return Suspect("", "%s:%d" % (file, number))
-            item = own_item(lines, first, last)
-            if item:
-                return Suspect(item[0], "%s:%d" % (file, item[1]))
+        for place in sorted(found, key=lambda place: -place.cost):
+            one = self.contended(place) or self.suspect_in(*self.stretch(place))
+            if one:
+                return one
         return None
+
+    def contended(self, place):
+        """The same by samples: what the lines have that use memory which threads share, or else the first of them."""
+        shares = self.facts.calls.shares.get(place.name, {})
+        lines = list(filter(None, map(line_of, sorted(shares, key=shares.get, reverse=True))))
+        found = (self.suspect_in(line.file, self.with_directive(line), line.number) for line in lines)
+        return next(filter(None, found), Suspect("", "%s:%d" % lines[0]) if lines else None)
+
+    def with_directive(self, line):
+        """The line before, where it is a directive."""
+        before = self.lines_of(line.file)[max(line.number - 2, 0):line.number - 1]
+        return line.number - any(map(DIRECTIVE.match, before))
+
+    def suspect_in(self, file, first, last):
+        """What these lines have."""
+        lines, first = self.lines_of(file), first or last
+        if not 0 < first <= last <= len(lines):
+            return None
+        for number in range(first, last + 1):
+            if ATOMIC.search(lines[number - 1]):
+                return Suspect("", "%s:%d" % (file, number), is_atomic=True)
+        item = own_item(lines, first, last)
+        return Suspect(item[0], "%s:%d" % (file, item[1])) if item else None
 
     def line(self, name):
         """The same of a wait, a lock or a region."""

@@ -1,5 +1,6 @@
 """What is told of a run on a terminal: at most eight lines of at most 100 columns."""
 import re
+from collections import Counter
 
 from spanprof.account_words import lasting
 from spanprof.diagnosis.calls import NO_NAME, OFFSET, ONE_AT_A_TIME, asleep_in, innermost, together
@@ -14,6 +15,7 @@ from spanprof.text import SECTION, where
 WIDTH, MOST_LINES = 100, 8
 LABEL = 6
 NO_FASTER = 1.1
+MOST_SHARED = 2
 A_CHUNK = 50000        # nanoseconds that one lasts which is worth taking
 LEAST_TOLD = 0.005     # of the threads' time, from which on a part of it is told
 TRIED = {
@@ -36,10 +38,20 @@ def words_of_place(facts, names, place):
     """Those of a place of code."""
     shared = most_shared(place)
     count = place.items[shared] if shared else 0
-    ratio = place.cost / facts.cost_on_one[place.name] if (facts.cost_on_one or {}).get(place.name) else 1
     return {"tasks": several(place.tasks, "task"), "largest": lasting(place.largest),
             "average": lasting(int(place.average)), "item": names.item(place, shared) if shared else "",
-            "many": "all" if count == place.tasks else grouped(count), "dearer": "%.1f" % ratio}
+            "many": "all" if count == place.tasks else grouped(count),
+            "contended": words_of_memory(facts, names, place)}
+
+
+def words_of_memory(facts, names, place):
+    """What its code costs more than on one thread, or by samples its lines that use memory which threads share."""
+    alone = (facts.cost_on_one or {}).get(place.name)
+    if alone:
+        return "%s costs %.1f times as much on %d threads as on one: memory is contended" % (
+            names.place(place.name), place.cost / alone, facts.most_threads)
+    lines = [line for line, _ in facts.calls.shares.get(place.name, Counter()).most_common(MOST_SHARED)]
+    return "threads write the same cache lines at once: %s" % " and ".join(lines or [names.place(place.name)])
 
 
 def words_of_schedule(names, name, place):
@@ -168,7 +180,7 @@ def words(facts, names, name):
     place = facts.places.get(name)
     out = dict(words_of_run(facts), where=names.place(name), at=names.at(name), item="",
                in_what=words_of_sleep(facts, name, names.place(name)), tasks="", many="", largest="", average="",
-               dearer="", chunks="", a_chunk="", of_turns="",
+               contended="", chunks="", a_chunk="", of_turns="",
                alone="the others wait", suspect=words_of_suspect(facts, names),
                shared=words_of_schedule(names, name, place), instead=instead(names, place, name),
                **words_of_region(facts, names, name), **words_of_lock(facts, names, name))
@@ -296,6 +308,8 @@ def unsure(found, names):
     if facts.target == 1:
         return "what more threads would bring: record on more"
     if facts.cost_on_one is None and facts.true_one is None and facts.threads > 1:
+        if facts.calls.shares and any(loss.kind == "memory" for loss in found.causes):
+            return "what it costs on one thread: --full"
         at = names.suspect()
         return "whether %s it: --full" % (str(at) + " slows" if at else "atomics or shared memory slow")
     return ""

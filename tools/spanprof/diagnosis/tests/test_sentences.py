@@ -1,4 +1,5 @@
 import unittest
+from collections import Counter
 from types import SimpleNamespace
 
 from spanprof.diagnosis.calls import Sampled
@@ -149,10 +150,22 @@ class Sentences(unittest.TestCase):
         self.assertEqual(list(map(first_digits, (7, 42, 999, 1178648))), [7, 42, 990, 1100000])
 
     def test_in_place_of_what_is_contended(self):
-        found = [Suspect("", "a.c:9"), Suspect("part[me]", "a.c:9")]
+        found = [Suspect("", "a.c:9", True), Suspect("part[me]", "a.c:9")]
         self.assertEqual(list(map(str, found)), ["the atomic at a.c:9", "part[me] next to other threads' (a.c:9)"])
-        self.assertEqual([one.instead for one in found], ["a reduction in place of the atomic at a.c:9",
-                                                          "a local copy of part[me] (a.c:9), written back once"])
+        self.assertEqual([one.instead for one in found + [Suspect("", "a.c:9")]], [
+            "a reduction in place of the atomic at a.c:9", "a local copy of part[me] (a.c:9), written back once",
+            "a local copy of what a.c:9 writes, written back once"])
+
+    def test_what_samples_show_is_contended_is_told_with_its_line(self):
+        run = found()
+        run.places[TASKS].cost = 300 * MS
+        ran = {("main", "tone"): 10 * 4000}
+        run.calls = Sampled({TASKS: ran}, {}, {TASKS: Counter({"image.c:11": 24000, "image.c:12": 8000})})
+        lines = short_lines(diagnose(run), Names(run, SOURCES))
+        self.assertEqual(lines[1:3], [
+            "lost  60 %  threads write the same cache lines at once: image.c:11 and image.c:12",
+            "do    a local copy of what image.c:11 writes, written back once            100 ms -> at best 40.0 ms"])
+        self.assertIn("not known: what it costs on one thread: --full", lines[4])
 
     def test_of_a_lock_of_the_system_only_the_waits_are_counted(self):
         self.assertEqual([times_of(Held("a.c:1", kind, 9000, 1, 2)) for kind in ("critical", "mutex")],
