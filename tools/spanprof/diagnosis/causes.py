@@ -43,7 +43,7 @@ TABLE = (
           "smaller mutexinoutset items at {at}, or for the update alone"),
     Cause("memory", 0.1, "{contended}",
           "{instead}"),
-    Cause("system", 0.1, "{system} % of the processor time is the kernel's: {kernel}", "{less_kernel}"),
+    Cause("system", 0.1, "{system} % of the processor time is the kernel's: {kernel} in {where}", "{less_kernel}"),
     Cause("sleep", 0.1, "{where} waits {in_what}",
           "wait less at {at}: start it earlier, or use more threads"),
     Cause("too_few_threads", 0.1, "{got} in the region at {where}{others}: {usable} can run",

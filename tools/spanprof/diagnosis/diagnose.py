@@ -64,7 +64,7 @@ def causes_of(facts, found, steps, code):
     for step in steps:
         loss = matching(step, found)
         loss = loss and with_alike(loss, found)
-        if not loss or step.kind in seen or loss.time < least_of(facts, found, BY_KIND[step.kind].least):
+        if not loss or step.kind in seen or loss.time < least_of(facts, found, step.kind):
             continue
         if not out or step.worth >= SECOND * facts.now:
             out.append(loss)
@@ -73,7 +73,7 @@ def causes_of(facts, found, steps, code):
         return out[:2]
     ran = facts.own_time - sum(loss.time for loss in found if loss.kind in NO_CAUSE)
     named = [with_alike(loss, found) for loss in found if loss.kind in BY_KIND and loss.kind != "machine"]
-    largest = [loss for loss in named if loss.time >= least_of(facts, found, BY_KIND[loss.kind].least)]
+    largest = [loss for loss in named if loss.time >= least_of(facts, found, loss.kind)]
     if code < EFFICIENT * ran and largest:
         return largest[:1]
     is_machine = facts.share(facts.taken) >= BY_KIND["machine"].least

@@ -11,6 +11,8 @@ OF_NUMBER = r"omp_get_thread_num\s*\(\s*\)"
 THREAD_NUMBER = re.compile(r"\b(\w+)\s*=\s*" + OF_NUMBER)
 POINTER = re.compile(r"[*&]\s*(\w+)\s*=\s*[&(]*\s*$")
 LOOP = re.compile(r"\b(for|while|do)\b")
+VARIABLE = re.compile(r"\bfor\s*\([^;=:]*?(?:\b(\w+)\s*=|\b(\w+)\s*:[^:])")
+COMMENT = re.compile(r"\s*//.*")
 # Of the names of places, waits and regions, and what their directives have.
 CONSTRUCTS = (("taskwait", "taskwait"), ("taskgroup", "taskgroup"), ("loop", "for"), ("section", "sections"),
               ("task at", "task"), ("creating a task", "task"))
@@ -93,3 +95,21 @@ def is_of_some_turns(lines, number):
     condition = block_around(lines, number)
     loop = block_around(lines, condition) if condition and "if" in code_of(lines[condition - 1]) else 0
     return bool(loop) and bool(LOOP.search(code_of(lines[loop - 1]))) and makes_tasks(lines, loop, condition)
+
+
+def ends_a_turn(lines, number):
+    """Whether nothing comes behind the only wait of a loop's body, so that nothing there uses what its tasks found; and
+    they name the loop's variable, other than to choose among a few: each turn has data of its own."""
+    loop = block_around(lines, number)
+    variable = VARIABLE.search(code_of(lines[loop - 1])) if loop else None
+    behind = next(filter(None, (COMMENT.sub("", code_of(line)).strip() for line in lines[number:])), "")
+    body = lines[loop:number - 1]
+    if not variable or behind[:1] != "}" or any(has(line, "taskwait") for line in body):
+        return False
+    used = re.compile(r"\b%s\b(?!\s*[%%&^])" % (variable[1] or variable[2]))
+    return any(has(line, "task") for line in body) and any(used.search(code_of(line)) for line in body)
+
+
+def is_needless(lines, number):
+    """Whether a wait may be."""
+    return is_of_some_turns(lines, number) or ends_a_turn(lines, number)

@@ -82,7 +82,7 @@ class Facts:
     inner: List[Region] = field(default_factory=list)       # with threads of their own
     nested: int = 0                     # threads at once, with those of inner regions
     is_of_gcc: bool = False             # some constructs have the line of a statement before them
-    waits_of_some_turns: set = field(default_factory=set)   # in an `if` of the loop that makes the tasks
+    needless: set = field(default_factory=set)      # waits that may be, by the source
     usage: Optional[dict] = None
     coverage: Optional[float] = None
     runs: int = 1
@@ -249,6 +249,12 @@ def set_ranks(facts):
             facts.asleep_by[name] = facts.asleep_by.get(name, 0) + 1000 * sum(waits.values())
 
 
+def costs_of(code, head):
+    """In nanoseconds."""
+    unit = head.nanoseconds or 1
+    return code.cost if unit == 1 else array("Q", (cost * unit for cost in code.cost))
+
+
 def runtime_name(runtime):
     """Such as `LLVM 19`."""
     return " ".join(filter(None, [RUNTIMES.get(runtime.get("name"), runtime.get("name")), runtime.get("version")]))
@@ -326,9 +332,7 @@ def facts_of(recording):
     code, head = code_in(path), head_of(path)
     off = {segment: times for segment, times in off_by_segment(recording.file("off"), head).items()
            if 0 <= segment < len(code)}
-    unit = head.nanoseconds or 1
-    costs = code.cost if unit == 1 else array("Q", (cost * unit for cost in code.cost))
-    program, numbers = read_places(code, costs), numbers_of(TextFile(path), [head.threads or 1])
+    program, numbers = read_places(code, costs_of(code, head)), numbers_of(TextFile(path), [head.threads or 1])
     facts = of_text(head, program, numbers)
     set_meta(facts, meta)
     facts.locks, regions = locks_of(recording.file("locks"), head), program_of(path)

@@ -5,7 +5,7 @@ Threads x elapsed time = code as on one thread + the losses.
 from typing import NamedTuple
 
 from spanprof.diagnosis.calls import A_SAMPLE, RUNTIME, in_system, shares
-from spanprof.diagnosis.causes import BUSY
+from spanprof.diagnosis.causes import BUSY, BY_KIND
 from spanprof.diagnosis.places import A_START, AROUND_REGIONS, OF_THREADS, OWN, SERIAL, SHARE
 from spanprof.text import BEGINNING, TURNS, where
 
@@ -19,11 +19,12 @@ MANY = 8                # tasks for each thread, from which on to make them may 
 UNSURE = 0.1
 MUCH = 0.1              # of the run's time, from which on handling tasks may be what is lost
 UNEVEN = 1.5            # of the average piece: from which on the largest one is uneven
-A_FAULT = 4000          # nanoseconds, with the page that it clears
+A_FAULT, A_PAGE = 4000, 4096    # nanoseconds, with the page that it clears, of so many bytes
 MUCH_SYSTEM = 0.25      # of the processor time, from which on time in the kernel is a loss
 STARTED = 5000000       # nanoseconds that a program and its runtime take to start
 NO_CAUSE = ("recorder", "startup")
 FINE = ("small_tasks", "creation")      # of all tasks together
+IN_CODE = ("system", "small_chunks", "memory")
 OF_SHAPE = ("too_few_tasks", "imbalance", "dependence", "wait")
 
 
@@ -200,8 +201,11 @@ def asleep_share(facts, name):
 
 def kind_of_sleep(facts, name):
     """A thread that wakes up may wait for a processor, and that counts as sleep too: so where others take processors,
-    and no sample has a call that waits, it is theirs."""
+    and no sample has a call that waits, it is theirs. In no call threads sleep too while others change what memory the
+    program has."""
     is_busy = facts.preempted > BUSY * (facts.code + facts.preempted)
+    if facts.calls.ran and name not in facts.calls.slept and A_FAULT * faults_again(facts.usage or {}) > facts.asleep:
+        return "system"
     return kind_of_preempted(facts) if is_busy and facts.calls.ran and name not in facts.calls.slept else "sleep"
 
 
@@ -285,13 +289,18 @@ def system_time(facts):
     usage = facts.usage or {}
     system, user = usage.get("system_ns") or 0, usage.get("user_ns") or 0
     if not system or system < MUCH_SYSTEM * (system + user):
-        return 0
+        return min(system, A_FAULT * faults_again(usage))
     for_faults = min(fault_time(facts), facts.code * system // (system + user))
     return max(0, min(system, max(for_faults, facts.code - user)) - begun(facts))
 
 
 def fault_time(facts):
     return A_FAULT * ((facts.usage or {}).get("minor_faults") or 0)
+
+
+def faults_again(usage):
+    """Page faults beyond one for each page that the program had at once: of memory that it gave back and took again."""
+    return max(0, (usage.get("minor_faults") or 0) - usage["peak_bytes"] // A_PAGE) if usage.get("peak_bytes") else 0
 
 
 def has_many_faults(facts):
@@ -408,9 +417,10 @@ def useful_time(facts, found):
     return max(1, facts.whole_time - sum(loss.time for loss in found if loss.kind in (*NO_CAUSE, "machine")))
 
 
-def least_of(facts, found, share):
-    """The least loss that is a cause: a share of the useful time, and more on a busy machine."""
-    return share * useful_time(facts, found) + UNSURE * facts.taken
+def least_of(facts, found, kind):
+    """The least loss that is a cause: a share of the useful time, and more on a busy machine where it is not in code,
+    of whose costs other programs have no part."""
+    return BY_KIND[kind].least * useful_time(facts, found) + UNSURE * facts.taken * (kind not in IN_CODE)
 
 
 def code_on_one(facts, found):

@@ -3,7 +3,7 @@ import re
 from typing import NamedTuple
 
 from spanprof.diagnosis.calls import NO_NAME, OFFSET, innermost, plain
-from spanprof.diagnosis.directives import DIRECTIVE, construct_of, directive_line, is_of_some_turns, own_item
+from spanprof.diagnosis.directives import DIRECTIVE, construct_of, directive_line, is_needless, own_item
 from spanprof.diagnosis.places import OF_THREADS, OWN, SERIAL, lines_between
 from spanprof.source_lines import LONGEST, STRING, after_directive, code_lines, line_of, statement_end
 from spanprof.text import BEGINNING
@@ -75,14 +75,16 @@ class Suspect(NamedTuple):
     is_atomic: bool = False
 
     def __str__(self):
-        return "the atomic at " + self.at if self.is_atomic else "%s next to other threads' (%s)" % self[:2]
+        if self.is_atomic:
+            return "the atomic at " + self.at
+        return "%s next to other threads' (%s)" % self[:2] if self.item else "what %s writes" % self.at
 
     @property
     def instead(self):
         """What to write in its place."""
         if self.is_atomic:
             return "a reduction in place of the atomic at " + self.at
-        what = "%s (%s)" % self[:2] if self.item else "what %s writes" % self.at
+        what = "%s (%s)" % self[:2] if self.item else str(self)
         return "a local copy of %s, written back once" % what
 
 
@@ -120,9 +122,10 @@ class Names:
         what, at, _ = name.rpartition(" at ")
         return what + at + function if function else name
 
-    def is_of_some_turns(self, wait):
+    def is_needless(self, wait):
+        """Whether the source has a reason to think so."""
         line = self.begin(wait, wait)
-        return bool(line) and is_of_some_turns(self.lines_of(line.file), line.number)
+        return bool(line) and is_needless(self.lines_of(line.file), line.number)
 
     def directive(self, name, at):
         """The directive of a place, its lines joined, without a comment behind it."""

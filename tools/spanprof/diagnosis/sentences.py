@@ -341,10 +341,14 @@ def note_lines(news):
     return ["%-*s%s%s" % (LABEL, "note", shortened(news[0], WIDTH - LABEL - len(more)), more)] if news else []
 
 
+def labels(plan):
+    return ["or" if step.is_instead else "then" if i else "do" for i, step in enumerate(plan)]
+
+
 def short_lines(found, names, more="", news=()):
     """`more` says where the rest stands, `news` what went wrong with the recording."""
     plan = [change_line(label, found.facts, names, step)
-            for label, step in zip(("do", "then", "then"), found.plan)]
+            for label, step in zip(labels(found.plan), found.plan)]
     lost = list(lost_lines(found, names))
     last = note_lines(list(news)) + sure_lines(found, names, more)
     return [shortened(first_line(found), WIDTH)] + lost + plan[:MOST_LINES - 1 - len(lost) - len(last)] + last

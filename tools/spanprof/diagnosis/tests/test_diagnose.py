@@ -128,7 +128,7 @@ class Steps(unittest.TestCase):
     def test_a_wait_that_some_turns_reach_is_likely_needless(self):
         change, seen = single("drop-wait", "taskwait at a.c:9"), SimpleNamespace(ordered={"taskwait at a.c:9": 0})
         self.assertEqual(likely(facts(), seen, change), 0.3)
-        self.assertEqual(likely(facts(waits_of_some_turns={"taskwait at a.c:9"}), seen, change), 0.9)
+        self.assertEqual(likely(facts(needless={"taskwait at a.c:9"}), seen, change), 0.9)
 
     def test_the_ends_of_a_program(self):
         begins = place(BEGINS, SERIAL)

@@ -110,8 +110,9 @@ class Sentences(unittest.TestCase):
             "more  spanprof-record --all"])
 
     def test_page_faults_are_told_where_they_are_most_of_it(self):
-        for faults, told in ((90000, "85 % of the processor time is the kernel's: 90,000 page faults"),
-                             (600, "85 % of the processor time is the kernel's: system calls")):
+        at = " in image.c:9 (tone)"
+        for faults, told in ((90000, "85 % of the processor time is the kernel's: 90,000 page faults" + at),
+                             (600, "85 % of the processor time is the kernel's: system calls" + at)):
             run = found(usage={"user_ns": 60 * MS, "system_ns": 340 * MS, "minor_faults": faults})
             self.assertEqual(lost_sentence(run, Names(run, SOURCES), Loss("system", TASKS, 1)), told)
 
