@@ -5,11 +5,13 @@ from collections import Counter
 from spanprof.account_words import lasting
 from spanprof.diagnosis.calls import NO_NAME, OFFSET, ONE_AT_A_TIME, asleep_in, innermost, together
 from spanprof.diagnosis.causes import BY_KIND, NAMES
+from spanprof.diagnosis.facts import Region
 from spanprof.diagnosis.losses import (MANY, average_task, has_many_faults, losses, missing_threads, most_shared,
                                        useful_time)
-from spanprof.diagnosis.places import SERIAL, SHARE
+from spanprof.diagnosis.places import AFTER_REGION, SERIAL, SHARE
 from spanprof.diagnosis.plan import holder
 from spanprof.head import grouped
+from spanprof.source_lines import line_of
 from spanprof.text import SECTION, where
 
 WIDTH, MOST_LINES = 100, 8
@@ -50,7 +52,8 @@ def words_of_memory(facts, names, place):
     if alone:
         return "%s costs %.1f times as much on %d threads as on one: memory is contended" % (
             names.place(place.name), place.cost / alone, facts.most_threads)
-    lines = [line for line, _ in facts.calls.shares.get(place.name, Counter()).most_common(MOST_SHARED)]
+    shares = facts.calls.shares.get(place.name, Counter())
+    lines = [line for line, _ in shares.most_common() if line_of(line)][:MOST_SHARED]
     return "threads write the same cache lines at once: %s" % " and ".join(lines or [names.place(place.name)])
 
 
@@ -110,10 +113,23 @@ def who_asked(facts, region):
     return ": the program asks for %d" % region.asked
 
 
+def words_of_barriers(facts, names, name):
+    """Of regions that take little time each, or of one with many barriers; and what to do."""
+    region = next((one for one in facts.regions + facts.inner if one.place == name), Region(name, 0, 0))
+    after, at = facts.places.get("%s at %s" % (AFTER_REGION, name)), names.place(name)
+    if after and after.pieces > MANY * region.times:
+        words = "%s at %s, %s apart: waiting at them"
+        return {"short_regions": words % (several(after.pieces, "barrier"), at, lasting(region.elapsed // after.pieces)),
+                "longer_regions": "fewer barriers at %s: nowait, or larger loops" % at}
+    words = "%s at %s take %s each: starting them"
+    return {"short_regions": words % (several(region.times, "region"), at, lasting(region.elapsed // region.times)),
+            "longer_regions": "move parallel at %s out of the loop around it" % at}
+
+
 def words_of_region(facts, names, name):
     """Of those that began at one place."""
     others = len(set(missing_threads(facts)) - {name})
-    out = {"got": "", "who_asked": "", "regions": "regions", "region_time": "little time",
+    out = {"got": "", "who_asked": "", **words_of_barriers(facts, names, name),
            "others": " and in %s" % several(others, "other") if others else "",
            "in_region": "in the region at " + names.place(name) if name else "in some region",
            "fewer": "use %s threads: num_threads or OMP_NUM_THREADS" % facts.processors}
@@ -124,8 +140,7 @@ def words_of_region(facts, names, name):
                        fewer="no nesting at %s: omp_set_max_active_levels(1)" % names.at(name))
     for region in facts.regions + facts.inner:
         if region.place == name:
-            out.update(got=several(region.threads, "thread"), who_asked=who_asked(facts, region),
-                       regions=several(region.times, "region"), region_time=lasting(region.elapsed // region.times))
+            out.update(got=several(region.threads, "thread"), who_asked=who_asked(facts, region))
     return out
 
 

@@ -1,6 +1,7 @@
 import unittest
 
-from spanprof.diagnosis.directives import block_around, construct_of, directive_line, ends_a_turn, is_of_some_turns, own_item
+from spanprof.diagnosis.directives import (block_around, construct_of, directive_line, ends_a_turn, is_of_some_turns,
+                                           own_item)
 
 BATCHES = """int main() {
     for (int i = 0; i < 50; i++) {
@@ -68,8 +69,8 @@ class Directives(unittest.TestCase):
 
     def test_a_wait_that_ends_turns_with_data_of_their_own(self):
         def is_one(turns, task, behind="}"):
-            return ends_a_turn([turns, "  for (int b = 0; b < 6; b++)", "#pragma omp task", task, "#pragma omp taskwait",
-                                "", behind], 5)
+            return ends_a_turn([turns, "  for (int b = 0; b < 6; b++)", "#pragma omp task", task,
+                                "#pragma omp taskwait", "", behind], 5)
         turns = "for (long shelf = 0; shelf < 30; shelf++) {"
         self.assertTrue(is_one(turns, "found[shelf * 6 + b] = box(n);"))
         self.assertTrue(is_one("for (const auto &shelf : shelves) {", "box(shelf, b);"))

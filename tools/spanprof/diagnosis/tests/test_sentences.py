@@ -10,7 +10,7 @@ from spanprof.diagnosis.facts import Region
 from spanprof.diagnosis.lock_times import Held
 from spanprof.diagnosis.losses import Loss
 from spanprof.diagnosis.names import Names, Suspect, block_end, items_in
-from spanprof.diagnosis.places import OF_THREADS, OWN, SERIAL, SHARE, TASK, Place
+from spanprof.diagnosis.places import AFTER_REGION, OF_THREADS, OWN, SERIAL, SHARE, TASK, Place
 from spanprof.diagnosis.plan import Step
 from spanprof.diagnosis.schema import as_json
 from spanprof.diagnosis.sentences import (WIDTH, change_sentence, first_digits, lost_sentence, short_lines, shortened,
@@ -167,6 +167,15 @@ class Sentences(unittest.TestCase):
             "lost  60 %  threads write the same cache lines at once: image.c:11 and image.c:12",
             "do    a local copy of what image.c:11 writes, written back once            100 ms -> at best 40.0 ms"])
         self.assertIn("not known: what it costs on one thread: --full", lines[4])
+
+    def test_many_barriers_are_not_many_regions(self):
+        run = found(regions=[Region("image.c:6", 4, 90 * MS, times=9000)])
+        self.assertEqual(lost_sentence(run, Names(run, SOURCES), Loss("small_regions", "image.c:6", 1)),
+                         "9,000 regions at image.c:6 take 10.0 us each: starting them costs too much")
+        run.regions[0].times, name = 1, AFTER_REGION + " at image.c:6"
+        run.places[name] = Place(name, SERIAL, pieces=9000)
+        self.assertEqual(lost_sentence(run, Names(run, SOURCES), Loss("small_regions", "image.c:6", 1)),
+                         "9,000 barriers at image.c:6, 10.0 us apart: waiting at them costs too much")
 
     def test_of_a_lock_of_the_system_only_the_waits_are_counted(self):
         self.assertEqual([times_of(Held("a.c:1", kind, 9000, 1, 2)) for kind in ("critical", "mutex")],
