@@ -1,5 +1,4 @@
 """What is known of one recorded run, as plain data: everything else of a diagnosis is made of it."""
-import heapq
 import re
 import statistics
 from array import array
@@ -14,9 +13,10 @@ from spanprof.diagnosis.calls import Sampled, calls_of, is_of_ranks, plain
 from spanprof.diagnosis.library_locks import set_library_locks
 from spanprof.diagnosis.lock_times import locks_of
 from spanprof.diagnosis.places import A_START, AROUND_REGIONS, in_text, read_places
+from spanprof.diagnosis.undisturbed import is_disturbed, set_disturbed, starved_alone
 from spanprof.errors import reading
 from spanprof.head import head_of
-from spanprof.idle import exact_idle, idle_by_place, most_at_once, rounded, together
+from spanprof.idle import idle_by_place, most_at_once
 from spanprof.recording import document
 from spanprof.regions import program_of, union
 from spanprof.segment_table import code_in
@@ -24,9 +24,6 @@ from spanprof.text_file import TextFile
 from spanprof.whatif.numbers import numbers_of
 
 RUNTIMES = {"llvm": "LLVM", "gnu": "gcc"}
-# Preempted segments; idle time is shared among all at once, so many take long. Of thirteen recordings the machine's
-# losses were within 1.3 points of those with all of them apart; with none three causes were wrong.
-MOST_APART = 64
 EXCLUDING = "mutexinoutset"     # the remark of a text that has inoutset in its place
 OF_GCC = "lines of gcc"         # that of a text whose tasks or waits are of gcc's code
 
@@ -66,11 +63,10 @@ class Facts:
     outside: int = 0
     delayed_by: Dict[str, int] = field(default_factory=dict)
     starved_by: Dict[str, int] = field(default_factory=dict)
-    starved_off: Dict[str, int] = field(default_factory=dict)       # of `starved_by`, while what ran was preempted
+    starved_off: Dict[str, int] = field(default_factory=dict)       # of `starved_by`, due to other programs
     starting_by: Dict[str, float] = field(default_factory=dict)     # of `delayed_by`, while regions start and end
     asleep_by: Dict[str, int] = field(default_factory=dict)
     preempted_by: Dict[str, int] = field(default_factory=dict)
-    preempted_in: Dict[int, int] = field(default_factory=dict)      # by segment, where its cost has it
     taken: int = 0                      # of the threads' time, by other programs, where that is much
     calls: Sampled = Sampled({}, {})
     places: dict = field(default_factory=dict)
@@ -173,43 +169,13 @@ def starting_shares(found):
     return {name: starting[name] / time for name, time in whole.items() if time}
 
 
-def kept_waiting(facts, lasted, preempted, time):
-    """Of the time for which threads starved while a segment lasted so long: had it been preempted no more than code was
-    on average, each had waited for so much less; and of the rest as much is due to that as of the code."""
-    average = facts.preempted / max(facts.code + facts.preempted, 1)
-    alone = min(time, (facts.threads - 1) * max(0, preempted - average * lasted))
-    return int(alone + average * (time - alone))
-
-
-def set_idle(facts, found):
-    """Of the segments that were preempted most it is known how long others starved while each lasted; of the rest as
-    much of that time is due to it as of the code at their place."""
-    apart, rest = set(heapq.nlargest(MOST_APART, facts.preempted_in, facts.preempted_in.get)), Counter()
-    for segment in facts.preempted_in.keys() - apart:
-        rest[found.places[segment]] += facts.preempted_in[segment]
-    keys = list(found.places)
-    for segment in apart:
-        keys[segment] = found.places[segment], segment
-    delayed, starved = exact_idle(found.rows, keys, found.threads)
-    facts.delayed_by = rounded(together(delayed, lambda key: key[0] if isinstance(key, tuple) else key))
-    for key, time in rounded(starved).items():
-        name, segment = key if isinstance(key, tuple) else (key, None)
-        if segment is None:
-            off = int(time * rest[name] / max(facts.places[name].cost + rest[name], 1)) if name in rest else 0
-        else:
-            lasted = found.rows.end[segment] - found.rows.begin[segment]
-            off = kept_waiting(facts, lasted, facts.preempted_in[segment], time)
-        facts.starved_by[name] = facts.starved_by.get(name, 0) + time
-        facts.starved_off[name] = facts.starved_off.get(name, 0) + off
-
-
 def set_breakdown(facts, found):
     found = of_those_at_once(found, facts.threads)
     facts.threads = found.threads
     for name, part in found.parts.items():
         setattr(facts, name.replace(" ", "_"), part)
     facts.starting_by = starting_shares(found)
-    set_idle(facts, found)
+    facts.delayed_by, facts.starved_by = idle_by_place(found.rows, found.places, found.threads)
 
 
 def set_by_greedy(facts, head):
@@ -232,12 +198,11 @@ def off_by_segment(path, head):
 
 
 def set_off(facts, off, program):
-    """By place, and what was preempted by segment."""
+    """By place."""
     for segment, (slept, preempted) in off.items():
         name = program.kinds[program.code.of[segment]]
         facts.asleep_by[name] = facts.asleep_by.get(name, 0) + slept
         facts.preempted_by[name] = facts.preempted_by.get(name, 0) + preempted
-        facts.preempted_in[segment] = preempted
 
 
 def set_ranks(facts):
@@ -342,6 +307,9 @@ def facts_of(recording):
     set_ranks(facts)
     try:
         set_breakdown(facts, account_of(head, numbers.work, document(recording), program.names))
+        alone = starved_alone(path, program.names, facts.threads) if is_disturbed(facts) else None
+        if alone is not None:
+            set_disturbed(facts, alone)
     except NoAccount:
         set_by_greedy(facts, head)
     set_library_locks(facts)

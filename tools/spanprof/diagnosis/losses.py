@@ -24,7 +24,7 @@ MUCH_SYSTEM = 0.25      # of the processor time, from which on time in the kerne
 STARTED = 5000000       # nanoseconds that a program and its runtime take to start
 NO_CAUSE = ("recorder", "startup")
 FINE = ("small_tasks", "creation")      # of all tasks together
-IN_CODE = ("system", "small_chunks", "memory")
+OF_WAITS = ("small_tasks", "small_regions", "lock", "exclusion", "sleep", "too_many_threads")
 OF_SHAPE = ("too_few_tasks", "imbalance", "dependence", "wait")
 
 
@@ -418,9 +418,9 @@ def useful_time(facts, found):
 
 
 def least_of(facts, found, kind):
-    """The least loss that is a cause: a share of the useful time, and more on a busy machine where it is not in code,
-    of whose costs other programs have no part."""
-    return BY_KIND[kind].least * useful_time(facts, found) + UNSURE * facts.taken * (kind not in IN_CODE)
+    """The least loss that is a cause: a share of the useful time, and more on a busy machine where it is of waits, in
+    which other programs may have a part; they have none in costs."""
+    return BY_KIND[kind].least * useful_time(facts, found) + UNSURE * facts.taken * (kind in OF_WAITS)
 
 
 def code_on_one(facts, found):
