@@ -13,6 +13,7 @@ POINTER = re.compile(r"[*&]\s*(\w+)\s*=\s*[&(]*\s*$")
 LOOP = re.compile(r"\b(for|while|do)\b")
 VARIABLE = re.compile(r"\bfor\s*\([^;=:]*?(?:\b(\w+)\s*=|\b(\w+)\s*:[^:])")
 COMMENT = re.compile(r"\s*//.*")
+CALLED = re.compile(r"(?:[\w.\[\]>-]+\s*[-+*/]?=\s*)?([A-Za-z_]\w*)\s*\((.*)")
 # Of the names of places, waits and regions, and what their directives have.
 CONSTRUCTS = (("taskwait", "taskwait"), ("taskgroup", "taskgroup"), ("loop", "for"), ("section", "sections"),
               ("task at", "task"), ("creating a task", "task"))
@@ -110,6 +111,26 @@ def ends_a_turn(lines, number):
     return any(has(line, "task") for line in body) and any(used.search(code_of(line)) for line in body)
 
 
+def called_by_task(lines, here):
+    """The function that the statement of a task calls first, with all that stands in its line; None where that is no
+    call."""
+    code = (COMMENT.sub("", code_of(line)).strip(" {") for line in lines[here:here + LONGEST])
+    return CALLED.match(next(filter(None, code), ""))
+
+
+def is_between_halves(lines, number):
+    """Whether a wait stands between two tasks of a block that call the same function with other arguments, as each does
+    for a part of what there is."""
+    block = block_around(lines, number)
+    before = [here for here in range(block + 1, min(number, len(lines))) if has(lines[here - 1], "task")]
+    behind = next((here for here in range(number + 1, min(number + LONGEST, len(lines)) + 1)
+                   if DIRECTIVE.match(lines[here - 1]) or code_of(lines[here - 1]).strip()), 0)
+    if not before or not behind or not has(lines[behind - 1], "task"):
+        return False
+    one, other = called_by_task(lines, before[-1]), called_by_task(lines, behind)
+    return bool(one and other) and one[1] == other[1] and one[2] != other[2]
+
+
 def is_needless(lines, number):
     """Whether a wait may be."""
-    return is_of_some_turns(lines, number) or ends_a_turn(lines, number)
+    return any(test(lines, number) for test in (is_of_some_turns, ends_a_turn, is_between_halves))

@@ -25,6 +25,7 @@ from spanprof.whatif.numbers import numbers_of
 
 RUNTIMES = {"llvm": "LLVM", "gnu": "gcc"}
 EXCLUDING = "mutexinoutset"     # the remark of a text that has inoutset in its place
+OWN_CLOCK = "own"               # by which costs are without the time in which a thread was preempted
 OF_GCC = "lines of gcc"         # that of a text whose tasks or waits are of gcc's code
 
 
@@ -307,9 +308,8 @@ def facts_of(recording):
     set_ranks(facts)
     try:
         set_breakdown(facts, account_of(head, numbers.work, document(recording), program.names))
-        alone = starved_alone(path, program.names, facts.threads) if is_disturbed(facts) else None
-        if alone is not None:
-            set_disturbed(facts, alone)
+        if is_disturbed(facts) and head.clock == OWN_CLOCK:
+            set_disturbed(facts, starved_alone(path, program.names, facts.threads))
     except NoAccount:
         set_by_greedy(facts, head)
     set_library_locks(facts)

@@ -5,7 +5,7 @@ Threads x elapsed time = code as on one thread + the losses.
 from typing import NamedTuple
 
 from spanprof.diagnosis.calls import A_SAMPLE, RUNTIME, in_system, shares
-from spanprof.diagnosis.causes import BUSY, BY_KIND
+from spanprof.diagnosis.causes import BUSY, BY_KIND, SECOND
 from spanprof.diagnosis.places import A_START, AROUND_REGIONS, OF_THREADS, OWN, SERIAL, SHARE
 from spanprof.text import BEGINNING, TURNS, where
 
@@ -24,7 +24,7 @@ MUCH_SYSTEM = 0.25      # of the processor time, from which on time in the kerne
 STARTED = 5000000       # nanoseconds that a program and its runtime take to start
 NO_CAUSE = ("recorder", "startup")
 FINE = ("small_tasks", "creation")      # of all tasks together
-OF_WAITS = ("small_tasks", "small_regions", "lock", "exclusion", "sleep", "too_many_threads")
+OF_WAITS = ("small_tasks", "small_regions", "exclusion", "sleep", "too_many_threads")
 OF_SHAPE = ("too_few_tasks", "imbalance", "dependence", "wait")
 
 
@@ -106,11 +106,16 @@ def kind_of_task(facts, place):
     made = facts.places.get("task at " + place.at)
     if not place.tasks and made and 2 * made.undeferred > made.tasks > 0:
         return "undeferred"
-    shared = most_shared(place)
-    if shared and 2 * place.items[shared] > place.tasks > facts.threads:
+    if is_in_a_row(place) and place.tasks > facts.threads:
         return "dependence"
     is_uneven = place.tasks >= facts.threads and place.largest > UNEVEN * place.average
     return "imbalance" if is_uneven else "too_few_tasks"
+
+
+def is_in_a_row(place):
+    """Whether most tasks of a place write the same item, or the same one as the task that was made before them."""
+    shared = most_shared(place)
+    return shared is not None and 2 * max(place.items[shared], place.again) > place.tasks
 
 
 def most_shared(place):
@@ -210,7 +215,9 @@ def kind_of_sleep(facts, name):
 
 
 def starved_off_share(facts, name):
-    """Of the time for which threads had nothing to run but this code."""
+    """Of the time for which threads had nothing to run but this code; as much as of the code, where no more is known."""
+    if not facts.starved_off:
+        return preempted_share(facts, name)
     return facts.starved_off.get(name, 0) / max(facts.starved_by.get(name, 0), 1)
 
 
@@ -418,9 +425,10 @@ def useful_time(facts, found):
 
 
 def least_of(facts, found, kind):
-    """The least loss that is a cause: a share of the useful time, and more on a busy machine where it is of waits, in
-    which other programs may have a part; they have none in costs."""
-    return BY_KIND[kind].least * useful_time(facts, found) + UNSURE * facts.taken * (kind in OF_WAITS)
+    """The least loss that is a cause: a share of the useful time. On a busy machine it is a tenth at least, and more of
+    waits, in which other programs may have a part; they have none in costs."""
+    least = max(BY_KIND[kind].least, SECOND * bool(facts.taken))
+    return least * useful_time(facts, found) + UNSURE * facts.taken * (kind in OF_WAITS)
 
 
 def code_on_one(facts, found):

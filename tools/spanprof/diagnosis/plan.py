@@ -4,7 +4,8 @@ from typing import Optional
 
 from spanprof.diagnosis.causes import BY_KIND, WORTH_A_CHANGE
 from spanprof.diagnosis.changes import Change
-from spanprof.diagnosis.losses import begun, in_code_losses, kind_of_task, least_of, most_shared, share_of_start
+from spanprof.diagnosis.losses import (begun, in_code_losses, is_in_a_row, kind_of_task, least_of, most_shared,
+                                       share_of_start)
 from spanprof.diagnosis.places import SERIAL, TASK
 from spanprof.text import BEGINNING
 
@@ -16,6 +17,7 @@ LIKELY = {"in-for-inout": 1.0, "defer": 1.0, "split": 0.8, "task": 0.6, "drop-de
 # A wait for tasks that depend items order too may not be needed; nor one that only some turns of the loop reach that
 # makes the tasks, as if these used a few buffers in turns; nor one that ends turns which work on data of their own.
 ORDERED = 0.9
+IN_A_ROW = 0.9      # tasks that are made to run one after the other by items of several are mostly meant to run at once
 AT_THE_ENDS = 0.4   # code before all constructs, or after them, mostly reads, fills or frees
 ALIKE = 0.7         # of the gain of a change, that another one in its place brings at least
 LATER = 0.08        # of the time before it, that a change on top of another brings at least
@@ -80,6 +82,8 @@ def likely(facts, seen, change):
     if change.kind == "in-for-inout":
         place = holder(facts, change.place)
         return LIKELY[change.kind] if 2 * place.items[most_shared(place)] >= place.tasks else FEW_HOLD
+    if change.kind == "drop-depend" and is_in_a_row(facts.places[facts.key(change.place)]):
+        return IN_A_ROW
     return AT_THE_ENDS if is_at_an_end(facts, change.place) else LIKELY[change.kind]
 
 

@@ -22,7 +22,7 @@ A_CHUNK = 50000        # nanoseconds that one lasts which is worth taking
 LEAST_TOLD = 0.005     # of the threads' time, from which on a part of it is told
 TRIED = {
     "in-for-inout": "depend(in: {item}) at {at} if only read, or a copy for each",
-    "drop-depend": "no depend items at {at}, if the tasks may run in any order",
+    "drop-depend": "finer depend items at {at}, or none if no order is needed",
     "drop-wait": "leave out {waits}, if no result is needed yet",
     "defer": "defer more tasks at {at}: change its if or final",
     "task": "make {where} a task of its own"}
@@ -39,7 +39,7 @@ def several(number, what):
 def words_of_place(facts, names, place):
     """Those of a place of code."""
     shared = most_shared(place)
-    count = place.items[shared] if shared else 0
+    count = max(place.items[shared], place.again) if shared else 0
     return {"tasks": several(place.tasks, "task"), "largest": lasting(place.largest),
             "average": lasting(int(place.average)), "item": names.item(place, shared) if shared else "",
             "many": "all" if count == place.tasks else grouped(count),

@@ -14,12 +14,11 @@ def is_disturbed(facts):
 
 
 def starved_alone(path, places, threads):
-    """By place, how long threads starve in the greedy run of a text, in its unit; None where that takes too much
-    memory."""
+    """By place, how long threads starve in the greedy run of a text; nothing where that takes too much memory."""
     try:
         begin, end = client.columns(["greedy", "--threads", str(threads)], TextFile(path), ["start", "end"])
     except client.Refused:
-        return None
+        return {}
     return idle_by_place(Rows(begin, begin, begin, end), places, threads)[1]
 
 

@@ -98,10 +98,10 @@ class Diagnoses(unittest.TestCase):
         self.assertEqual((found.lost_share(told.causes[0]), told.plan[0].before), (0.6, 50 * MS))
 
     def test_a_busy_machine_is_the_cause_where_the_program_lost_little_itself(self):
-        found = facts([place(TASKS)], preempted=200 * MS, starved=25 * MS, starved_by={TASKS: 25 * MS})
+        found = facts([place(TASKS)], preempted=200 * MS, starved=8 * MS, starved_by={TASKS: 8 * MS})
         told = diagnose(found, Bench({(): 90, asked("split", TASKS + "=4"): 80}))
         self.assertEqual((told.causes, found.lost_share(told.causes[0]), told.plan), (
-            [Loss("machine", "", 200 * MS), Loss("efficient", "", 25 * MS)], 0.5, []))
+            [Loss("machine", "", 200 * MS), Loss("efficient", "", 8 * MS)], 0.5, []))
 
     def test_at_best_all_threads_run_its_code_all_the_time(self):
         self.assertEqual(diagnose(facts([place(TASKS)], starved=200 * MS)).best, 50 * MS)

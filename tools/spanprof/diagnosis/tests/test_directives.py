@@ -1,7 +1,7 @@
 import unittest
 
-from spanprof.diagnosis.directives import (block_around, construct_of, directive_line, ends_a_turn, is_of_some_turns,
-                                           own_item)
+from spanprof.diagnosis.directives import (block_around, construct_of, directive_line, ends_a_turn, is_between_halves,
+                                           is_of_some_turns, own_item)
 
 BATCHES = """int main() {
     for (int i = 0; i < 50; i++) {
@@ -79,6 +79,15 @@ class Directives(unittest.TestCase):
         self.assertFalse(is_one(turns, "found[shelf] = box(n);", "use(found);"))
         self.assertFalse(is_one("while (n--) {", "box(n);"))
         self.assertFalse(ends_a_turn(BATCHES, 19))
+
+    def test_a_wait_between_two_halves(self):
+        lines = ["void sort(int *a, int n) {", "#pragma omp task", "  sort(a, n / 2);", "#ifndef FIXED",
+                 "#pragma omp taskwait", "#endif", "#pragma omp task // the rest", "  sort(a + n / 2, n - n / 2);",
+                 "#pragma omp taskwait", "  merge(a, n);", "}"]
+        self.assertTrue(is_between_halves(lines, 5))
+        self.assertFalse(is_between_halves(lines, 9))
+        self.assertFalse(is_between_halves([*lines[:7], "  merge(a, n);", *lines[8:]], 5))
+        self.assertFalse(is_between_halves([*lines[:7], lines[2], *lines[8:]], 5))
 
     def test_a_wait_behind_the_loop_that_makes_the_tasks(self):
         self.assertFalse(is_of_some_turns(BATCHES, 17))

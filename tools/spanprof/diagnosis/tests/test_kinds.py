@@ -77,7 +77,7 @@ class Kinds(unittest.TestCase):
     def test_loop_schedule(self):
         turns = place("turns of the loop at image.c:9", SHARE, uneven=200 * MS)
         self.assertEqual(self.first(delayed_at(turns)), "loop_schedule")
-        turns.uneven = 20 * MS      # what others waited for more is no fault of how it is divided
+        turns.uneven = 9 * MS      # what others waited for more is no fault of how it is divided
         self.assertEqual(self.first(delayed_at(turns, preempted=20 * MS)), "machine")
         held = [Held("image.c:27", "critical", 9, 1, 150 * MS)]
         self.assertEqual(self.first(delayed_at(turns, at_locks=20 * MS, locks=held)), "lock")

@@ -206,7 +206,7 @@ class Sentences(unittest.TestCase):
                 ("in-for-inout", "a0", "dependence",
                  "depend(in: tab[f(0, 1)]) at image.c:9 if only read, or a copy for each"),
                 ("drop-depend", TASKS, "dependence",
-                 "no depend items at image.c:9, if the tasks may run in any order"),
+                 "finer depend items at image.c:9, or none if no order is needed"),
                 ("drop-wait", "taskwait at image.c:12", "wait",
                  "leave out the taskwait at image.c:12, if no result is needed yet"),
                 ("defer", TASKS, "undeferred", "defer more tasks at image.c:9: change its if or final"),
