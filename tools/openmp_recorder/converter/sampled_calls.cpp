@@ -86,8 +86,8 @@ std::string joined(const Names &names) {
   return out;
 }
 
-enum Did { ran, slept, shares };
-constexpr const char *words[] = {" ran ", " slept ", " shares "};
+enum Did { ran, slept, shares, at };
+constexpr const char *words[] = {" ran ", " slept ", " shares ", " at "};
 
 using Sampled = std::pair<Did, std::string>;  // in which calls, or where
 
@@ -110,9 +110,15 @@ Names names_from(const Calls &calls, const Places &places) {
 }
 
 struct Named {
-  std::string calls;
+  std::string calls, line;  // the innermost one of the program
   bool in_recorder;  // its own code was running, which is none of the program's
 };
+
+std::string line_of(const Calls &calls, const Places &places) {
+  for (const void *code : calls)
+    if (const auto &frames = places.frames(code); !frames.empty() && !frames[0].of_library) return frames[0].at;
+  return "";
+}
 
 std::vector<Named> all_named(const Stacks &stacks, Places &places) {
   std::set<const void *> codes;
@@ -120,7 +126,8 @@ std::vector<Named> all_named(const Stacks &stacks, Places &places) {
   places.look_up({codes.begin(), codes.end()});
   std::vector<Named> out;
   for (const Calls &calls : stacks.all())
-    out.push_back({named_calls(calls, places), !calls.empty() && is_recorder(calls.front(), places)});
+    out.push_back(
+        {named_calls(calls, places), line_of(calls, places), !calls.empty() && is_recorder(calls.front(), places)});
   return out;
 }
 
@@ -163,7 +170,10 @@ std::string sampled_lines(const Region &region, const OffTimes &times, const Sta
     if (number == none) continue;
     found[number].by_calls[{one.asleep ? slept : ran, named.calls}] += one.stands_for;
     const void *shared = one.sample ? contended[one.sample - 1] : nullptr;
-    if (shared && !places.at(shared).empty()) found[number].by_calls[{shares, places.at(shared)}] += one.stands_for;
+    if (!one.asleep && !named.line.empty()) found[number].by_calls[{at, named.line}] += one.stands_for;
+    bool is_systems = !library_of_system(shared, places).empty();
+    if (shared && !is_systems && !places.at(shared).empty())
+      found[number].by_calls[{shares, places.at(shared)}] += one.stands_for;
   }
   std::string out;
   for (auto &[number, sum] : found)

@@ -83,8 +83,10 @@ TEST(samples_belong_to_the_segment_that_runs) {
   places.put_frames(code(100), {{"leaf", "a.c:1"}, {"inlined", "a.c:2"}});
   places.put_frames(code(200), {{"outer", "a.c:3"}});
   places.put_frames(code(300), {{"other", "a.c:4"}});
-  EXPECT(sampled_lines(*made.found.whole, made.found.whole->off, stacks, places),
-         "1 ran 4000 outer;inlined;leaf\n2 ran 8000 other\n2 ran 4000 outer;inlined;leaf\n2 slept 900 other\n");
+  EXPECT(
+      sampled_lines(*made.found.whole, made.found.whole->off, stacks, places),
+      "1 ran 4000 outer;inlined;leaf\n1 at 4000 a.c:1\n2 ran 8000 other\n2 ran 4000 outer;inlined;leaf\n2 slept 900 other\n"
+      "2 at 4000 a.c:1\n2 at 8000 a.c:4\n");
   EXPECT(off_lines(*made.found.whole, made.found.whole->off), "");
 }
 
@@ -183,7 +185,7 @@ TEST(code_of_the_recorder_is_none_of_the_program) {
   Places places(&modules);
   places.put_frames(code(100), {{"main", "a.c:1"}});
   EXPECT(sampled_lines(*made.found.whole, made.found.whole->off, stacks, places),
-         "1 ran 4000 main\n1 slept 900 main\n");
+         "1 ran 4000 main\n1 slept 900 main\n1 at 4000 a.c:1\n");
 }
 
 TEST(code_in_headers_of_the_system_is_called_by_the_program) {

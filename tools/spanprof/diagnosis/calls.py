@@ -36,11 +36,12 @@ class Ran(NamedTuple):
 
 
 class Sampled(NamedTuple):
-    """By place: the microseconds of each list of calls, outermost first, in which code ran, or slept; and of each line
-    at which it used memory that other threads used at the same time, where one of them wrote it."""
+    """By place: the microseconds of each list of calls, outermost first, in which code ran, or slept; of each line at
+    which it used memory that other threads used at the same time, where one of them wrote it; and of each that ran."""
     ran: dict
     slept: dict
     shares: dict = {}
+    at: dict = {}
 
 
 @lru_cache(maxsize=4096)
@@ -69,7 +70,8 @@ def calls_of(path, names):
             for line in lines:
                 number, did, time, calls = line.rstrip("\n").split(" ", 3)
                 if 0 <= int(number) < len(names):
-                    getattr(found, did)[names[int(number)]][calls if did == "shares" else known(calls)] += int(time)
+                    told = known(calls) if did in ("ran", "slept") else calls
+                    getattr(found, did)[names[int(number)]][told] += int(time)
     return Sampled(*map(dict, found))
 
 

@@ -31,7 +31,7 @@ TABLE = (
     Cause("small_tasks", 0.1, "{all_tasks} tasks of {average_task} each: creating and starting them costs too much",
           "larger tasks at {at}: a cutoff or grainsize"),
     Cause("creation", 0.1, "one thread creates all {all_tasks} tasks, {average_task} each: the others wait for it",
-          "larger tasks at {at}, or a taskloop"),
+          "{less_creating}"),
     Cause("small_regions", 0.1, "{short_regions} costs too much", "{longer_regions}"),
     Cause("small_chunks", 0.1, "over {chunks} chunks of {at}, one per {a_chunk}: taking them costs too much",
           "schedule(static) at {at}, or schedule(dynamic, {of_turns})"),

@@ -154,6 +154,8 @@ def kind_of_delayed(facts, name):
     place = facts.places.get(name)
     if kind_of_preempted(facts) == "too_many_threads":
         return "too_many_threads"
+    if not place and often_begun(facts):
+        return "small_regions"
     if place and is_divided(place):
         return "loop_schedule"
     if place and place.exclusive:
@@ -215,7 +217,7 @@ def kind_of_sleep(facts, name):
 
 
 def starved_off_share(facts, name):
-    """Of the time for which threads had nothing to run but this code; as much as of the code, where no more is known."""
+    """Of the time for which threads had nothing to run but this code; where no more is known, as much as of it."""
     if not facts.starved_off:
         return preempted_share(facts, name)
     return facts.starved_off.get(name, 0) / max(facts.starved_by.get(name, 0), 1)
@@ -263,10 +265,16 @@ def most_often(facts, found):
     """The region that lost most by starting and ending."""
     times = {}
     for loss in found:
-        if loss.kind == "small_regions" and loss.time:
+        if loss.kind == "small_regions" and loss.place:
             at = facts.places[loss.place].at
             times[at] = times.get(at, 0) + loss.time
-    return max(times, key=times.get, default="")
+    return max(times, key=times.get, default=often_begun(facts))
+
+
+def often_begun(facts):
+    """The region that takes most of the run, and each time no longer than a thread may take to start."""
+    return next((region.place for region in facts.regions if region.times > MANY and
+                 2 * region.elapsed > facts.elapsed and region.elapsed < A_START * region.times), "")
 
 
 def missing_threads(facts):

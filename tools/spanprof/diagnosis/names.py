@@ -1,8 +1,9 @@
 """How places, waits and depend items are named to people: functions, lines, and items as the source spells them."""
 import re
+from itertools import accumulate
 from typing import NamedTuple
 
-from spanprof.diagnosis.calls import NO_NAME, OFFSET, innermost, plain
+from spanprof.diagnosis.calls import A_SAMPLE, LEAST, NO_NAME, OF_SYSTEM, OFFSET, innermost, plain
 from spanprof.diagnosis.directives import DIRECTIVE, construct_of, directive_line, is_needless, own_item
 from spanprof.diagnosis.places import OF_THREADS, OWN, SERIAL, lines_between
 from spanprof.source_lines import LONGEST, STRING, after_directive, code_lines, line_of, statement_end
@@ -16,6 +17,8 @@ LINE = re.compile(r"[^\s:/]+:\d+$")
 LONGEST_CALLED = 50     # columns of a function and its caller
 ATOMIC = re.compile(r"omp\s+atomic|\bstd::atomic\b|\bfetch_(add|sub|or|and|xor)\b|__atomic_|__sync_", re.I)
 MUCH_CODE = 0.2         # of all code, from which on a place is looked at
+MUCH_SHARED = 0.1       # of the samples of code
+HOT = 0.8               # of the samples of code, that the lines have which are told of it
 NO_CALLS = ("if", "for", "while", "switch", "return", "sizeof")
 KINDS = ("in", "out", "inout", "inoutset", "mutexinoutset", "depobj")
 WRITES = {"out": "inout"}       # as the recorder writes it
@@ -138,6 +141,8 @@ class Names:
 
     def stretch(self, place):
         """File, first and last line of a place's code, as far as they are known."""
+        if self.hot(place):
+            return self.hot(place)[:3]
         file, first, last = lines_between(place)
         if place.name == BEGINNING and file:
             function = self.function(place)
@@ -148,9 +153,24 @@ class Names:
             return file, begin, last if last >= begin else max(end, block_end(self.lines_of(file), begin))
         return file, first, last
 
+    def hot(self, place):
+        """Of serial code that is in no function but the outermost: file, first and last line of those that have most of
+        its samples, and the function. None where they are not known."""
+        at, ran = (found.get(place.name, {}) for found in (self.facts.calls.at, self.facts.calls.ran))
+        if place.kind != SERIAL or self.ran(place) or sum(at.values()) < LEAST * A_SAMPLE:
+            return None
+        most = sorted(at, key=at.get, reverse=True)
+        before = accumulate([0] + [at[line] for line in most])
+        lines = [line_of(line) for line, so_far in zip(most, before) if so_far < HOT * sum(at.values())]
+        numbers = [line.number for line in lines if line and lines[0] and line.file == lines[0].file]
+        called = max(ran, key=ran.get, default=("",))[-1]
+        return (lines[0].file, min(numbers), max(numbers), called.partition(OF_SYSTEM)[0]) if numbers else None
+
     def function(self, place):
         """That which the place's code is in; that of the construct that ends it where it begins with none."""
         functions = self.facts.functions
+        if self.hot(place):
+            return self.hot(place)[3]
         at = line_of(place.at) or line_of(place.last_end)
         if at:
             return functions.get("%s:%d" % at, "")
@@ -171,7 +191,9 @@ class Names:
 
     def contended(self, place):
         """The same by samples: what the lines have that use memory which threads share, or else the first of them."""
-        shares = self.facts.calls.shares.get(place.name, {})
+        shares, ran = (found.get(place.name, {}) for found in (self.facts.calls.shares, self.facts.calls.ran))
+        if sum(shares.values()) < MUCH_SHARED * sum(ran.values()):
+            return None
         lines = list(filter(None, map(line_of, sorted(shares, key=shares.get, reverse=True))))
         found = (self.suspect_in(line.file, self.with_directive(line), line.number) for line in lines)
         return next(filter(None, found), Suspect("", "%s:%d" % lines[0]) if lines else None)

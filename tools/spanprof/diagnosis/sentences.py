@@ -6,8 +6,8 @@ from spanprof.account_words import lasting
 from spanprof.diagnosis.calls import NO_NAME, OFFSET, ONE_AT_A_TIME, asleep_in, innermost, together
 from spanprof.diagnosis.causes import BY_KIND, NAMES
 from spanprof.diagnosis.facts import Region
-from spanprof.diagnosis.losses import (MANY, average_task, has_many_faults, losses, missing_threads, most_shared,
-                                       useful_time)
+from spanprof.diagnosis.losses import (A_TASK, MANY, average_task, has_many_faults, is_maker, losses, missing_threads,
+                                       most_shared, useful_time)
 from spanprof.diagnosis.places import AFTER_REGION, SERIAL, SHARE
 from spanprof.diagnosis.plan import holder
 from spanprof.head import grouped
@@ -98,6 +98,16 @@ def words_of_alone(facts, names, place):
     return "%.0f %% of %s of serial code" % (100 * part / max(whole, 1), lasting(whole))
 
 
+def words_of_creation(facts, names, name):
+    """A thread whose own code for each task lasts longer than to make one does what the task could do."""
+    makers = [place for place in facts.places.values() if is_maker(place)]
+    most = max(makers, key=lambda place: place.cost, default=None)
+    if not most or most.cost < A_TASK * most.pieces:
+        return "larger tasks at %s, or a taskloop" % names.at(name)
+    ran = names.ran(most)
+    return "move %s into the task at %s" % (ran.function if ran else "the code before it", names.at(name))
+
+
 def words_of_sleep(facts, name, told):
     """Such as `in read, called by load`, or of MPI for other ranks; what it may be where no sample tells."""
     function, caller = asleep_in(facts.calls.slept.get(name, {}))
@@ -119,7 +129,8 @@ def words_of_barriers(facts, names, name):
     after, at = facts.places.get("%s at %s" % (AFTER_REGION, name)), names.place(name)
     if after and after.pieces > MANY * region.times:
         words = "%s at %s, %s apart: waiting at them"
-        return {"short_regions": words % (several(after.pieces, "barrier"), at, lasting(region.elapsed // after.pieces)),
+        apart = lasting(region.elapsed // after.pieces)
+        return {"short_regions": words % (several(after.pieces, "barrier"), at, apart),
                 "longer_regions": "fewer barriers at %s: nowait, or larger loops" % at}
     words = "%s at %s take %s each: starting them"
     return {"short_regions": words % (several(region.times, "region"), at, lasting(region.elapsed // region.times)),
@@ -197,7 +208,8 @@ def words(facts, names, name):
                in_what=words_of_sleep(facts, name, names.place(name)), tasks="", many="", largest="", average="",
                contended="", chunks="", a_chunk="", of_turns="",
                alone="the others wait", suspect=words_of_suspect(facts, names),
-               shared=words_of_schedule(names, name, place), instead=instead(names, place, name),
+               shared=words_of_schedule(names, name, place), less_creating=words_of_creation(facts, names, name),
+               instead=instead(names, place, name),
                **words_of_region(facts, names, name), **words_of_lock(facts, names, name))
     if place:
         out.update(words_of_place(facts, names, place), alone=words_of_alone(facts, names, place),
