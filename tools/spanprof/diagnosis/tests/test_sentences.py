@@ -168,6 +168,24 @@ class Sentences(unittest.TestCase):
             "do    a local copy of what image.c:11 writes, written back once            100 ms -> at best 40.0 ms"])
         self.assertIn("not known: what it costs on one thread: --full", lines[4])
 
+    def test_serial_code_is_told_by_the_lines_that_samples_saw(self):
+        run = found()
+        run.calls = Sampled({"the beginning": {("main",): 10 * 4000}}, {}, {},
+                            {"the beginning": Counter({"image.c:13": 20000, "image.c:14": 16000, "image.c:5": 4000})})
+        self.assertEqual(Names(run, SOURCES).place("the beginning"), "main (image.c:13-14)")
+        run.calls.ran["the beginning"] = {("main", "fill"): 10 * 4000}
+        self.assertEqual(Names(run, SOURCES).place("the beginning"), "fill (called by main)")
+
+    def test_what_a_thread_does_itself_for_each_task_is_moved_into_it(self):
+        run = found()
+        maker = place("after creating a task at image.c:9", OF_THREADS, cost=200 * MS, pieces=400, tasks=0)
+        run.places[maker.name] = maker
+        run.calls = Sampled({maker.name: {("main", "split"): 10 * 4000}}, {})
+        step = Step("creation", TASKS, 100 * MS, 50 * MS, 40 * MS, 60 * MS)
+        self.assertEqual(change_sentence(run, Names(run, SOURCES), step), "move split into the task at image.c:9")
+        maker.pieces = 400000
+        self.assertIn("larger tasks at image.c:9", change_sentence(run, Names(run, SOURCES), step))
+
     def test_many_barriers_are_not_many_regions(self):
         run = found(regions=[Region("image.c:6", 4, 90 * MS, times=9000)])
         self.assertEqual(lost_sentence(run, Names(run, SOURCES), Loss("small_regions", "image.c:6", 1)),
