@@ -7,10 +7,12 @@ from spanprof.idle import idle_by_place
 from spanprof.text_file import TextFile
 
 LITTLE = 0.02       # of the time in code: threads preempted for less keep others waiting for little
+MOST = 300000       # segments of a text whose schedule is asked for: some seconds
 
 
 def is_disturbed(facts):
-    return facts.preempted > LITTLE * (facts.code + facts.preempted)
+    pieces = sum(place.pieces for place in facts.places.values())
+    return facts.preempted > LITTLE * (facts.code + facts.preempted) and pieces <= MOST
 
 
 def starved_alone(path, places, threads):
