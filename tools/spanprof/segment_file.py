@@ -50,5 +50,5 @@ def read_into(code, path, kind_of):
         for is_root, *words in told["kinds"]:
             code.add(kind_of(is_root, *(word.strip() for word in words)))
         code.own, code.groups = (array("I", told["own"][first::2]) for first in (0, 1))
-        code.clauses = [(kind, words.replace(" ", ""), count) for kind, words, count in told["clauses"]]
+        code.clauses = [(kind, words.replace(" ", ""), *numbers) for kind, words, *numbers in told["clauses"]]
     return code

@@ -50,7 +50,8 @@ class Code:
         self.of, self.task, self.cost = array("I"), array("I"), array("Q")
         self.kinds, self.names, self.numbers = [], [], {}
         self.own, self.groups = array("I"), array("I")  # segments that begin a thread's own code, and the group of each
-        self.clauses = []           # of tasks: the kind of the first segment, what is written, how often
+        # Of tasks: the kind of the first segment, what is written, how often, and how often right behind the same.
+        self.clauses = []
 
     def add(self, kind):
         self.numbers[kind] = len(self.kinds)
@@ -148,6 +149,7 @@ def code_of(marks):
     groups = Groups([where(named("taskgroup", mark.comment)) for mark in marks.known])
     inside = [Task(code, groups, False, mark.comment, marks) for mark in marks.known]
     here, running, tasks, blocks, cost = Task(code, groups, True, "", marks), 0, 0, [], 0
+    before, again = 0, Counter()
     add_kind, add_task, add_cost = code.of.append, code.task.append, code.cost.append
     add_kind(here[0])
     add_task(0)
@@ -165,6 +167,9 @@ def code_of(marks):
         if word == "task":
             blocks.append((number, here, running))
             tasks += 1
+            if number == before:
+                again[number] += 1
+            before = number
             here, running, number = inside[-number], tasks, 0
         elif word == "}":
             number, here, running = blocks.pop()
@@ -175,15 +180,16 @@ def code_of(marks):
         add_kind(here[number])
         add_task(running)
     add_cost(cost)
-    code.clauses = clauses_of(marks, inside)
+    code.clauses = clauses_of(marks, inside, again)
     return code
 
 
-def clauses_of(marks, inside):
+def clauses_of(marks, inside, again):
     """Of the tasks that have some; `inside` has the kinds of their segments."""
     written = marks.numbers_of(lambda mark: mark.word == "task" and mark.code)
     counts = Counter(filter(written.__contains__, marks.numbers if written else ()))
-    return [(inside[-number].get(0), marks.known[-number].code, count) for number, count in counts.items()]
+    return [(inside[-number].get(0), marks.known[-number].code, count, again[number])
+            for number, count in counts.items()]
 
 
 @contextmanager

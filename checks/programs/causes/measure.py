@@ -18,14 +18,13 @@ from spanprof.record.options import parse           # noqa: E402
 from spanprof.record.session import Session         # noqa: E402
 
 THREADS = 4
-OPTIONS = {"memory": ["--full"]}    # what one run cannot tell
 MEDIAN_RUN = ["--runs", "5"]
 BUSY_PROCESSES = {"machine": 2 * THREADS}
 
 
-def record(path, kind, busy):
+def record(path, busy):
     """What spanprof-record keeps of a run, without the diagnosis."""
-    words = ["--force", "--threads", str(THREADS), *OPTIONS.get(kind, MEDIAN_RUN), "--out", path, "--", path]
+    words = ["--force", "--threads", str(THREADS), *MEDIAN_RUN, "--out", path, "--", path]
     session = Session(parse(words))
     with session.begun(), busy_processes(busy):
         recorded, _ = record_as_asked(session)
@@ -34,10 +33,9 @@ def record(path, kind, busy):
 
 
 def measure(folder, name):
-    path, kind = os.path.join(folder, name), kind_of(name)
-    busy = BUSY_PROCESSES.get(kind, 0)
+    path, busy = os.path.join(folder, name), BUSY_PROCESSES.get(kind_of(name), 0)
     times = interleaved([path], [path + FIXED], THREADS, busy)
-    record(path, kind, busy)
+    record(path, busy)
     with open(path + ".json", "w", encoding="utf-8") as file:
         json.dump(times._asdict(), file)
 

@@ -90,7 +90,7 @@ LogFolder::LogFolder(const std::string &path) : head(read_head(path + log_form::
     std::string thread = path + log_form::thread_file + std::to_string(i);
     look_at_last_block(thread, head);
     std::string sampled = path + log_form::samples_file + std::to_string(i);
-    threads.push_back(std::make_unique<ThreadReader>(thread, i, head, &paths, read_samples(sampled, head, stacks)));
+    threads.push_back(std::make_unique<ThreadReader>(thread, i, head, &paths, read_samples(sampled, head, stacks, i)));
   }
 }
 

@@ -14,6 +14,7 @@ struct OffTime {
   unsigned segment;  // counted within the task
   int64_t slept, preempted;
   uint32_t stack = 0, stands_for = 0;  // of a sample: the number of its calls, and microseconds
+  uint32_t sample = 0;  // and of what it interrupted
   bool asleep = false;  // then
 };
 

@@ -6,6 +6,7 @@
 #include <vector>
 
 #include "run.hpp"
+#include "shared_lines.hpp"
 
 namespace {
 using Names = std::vector<std::string>;  // innermost first
@@ -85,7 +86,10 @@ std::string joined(const Names &names) {
   return out;
 }
 
-using Sampled = std::pair<bool, std::string>;  // whether the thread slept, and in which calls
+enum Did { ran, slept, shares, at };
+constexpr const char *words[] = {" ran ", " slept ", " shares ", " at "};
+
+using Sampled = std::pair<Did, std::string>;  // in which calls, or where
 
 struct Sum {
   std::map<Sampled, uint64_t> by_calls;  // microseconds
@@ -106,9 +110,15 @@ Names names_from(const Calls &calls, const Places &places) {
 }
 
 struct Named {
-  std::string calls;
+  std::string calls, line;  // the innermost one of the program
   bool in_recorder;  // its own code was running, which is none of the program's
 };
+
+std::string line_of(const Calls &calls, const Places &places) {
+  for (const void *code : calls)
+    if (const auto &frames = places.frames(code); !frames.empty() && !frames[0].of_library) return frames[0].at;
+  return "";
+}
 
 std::vector<Named> all_named(const Stacks &stacks, Places &places) {
   std::set<const void *> codes;
@@ -116,8 +126,24 @@ std::vector<Named> all_named(const Stacks &stacks, Places &places) {
   places.look_up({codes.begin(), codes.end()});
   std::vector<Named> out;
   for (const Calls &calls : stacks.all())
-    out.push_back({named_calls(calls, places), !calls.empty() && is_recorder(calls.front(), places)});
+    out.push_back(
+        {named_calls(calls, places), line_of(calls, places), !calls.empty() && is_recorder(calls.front(), places)});
   return out;
+}
+
+// Of each sample, the place that used a cache line which other threads used too; the next one where that has no line.
+std::vector<const void *> all_contended(const Stacks &stacks, Places &places) {
+  if (!places.modules()) return std::vector<const void *>(stacks.interrupted.size());
+  std::vector<const void *> found = contending(stacks, *places.modules());
+  std::set<const void *> codes(found.begin(), found.end());
+  places.look_up({codes.begin(), codes.end()});
+  auto has_line = [&](const void *code) {
+    const std::vector<Frame> &frames = places.frames(code);
+    return !frames.empty() && frames[0].at == places.at(code);
+  };
+  for (size_t i = 0; i < found.size(); i++)
+    if (found[i] && !has_line(found[i])) found[i] = reinterpret_cast<const void *>(stacks.interrupted[i].code + 1);
+  return found;
 }
 }  // namespace
 
@@ -134,19 +160,25 @@ std::string named_calls(const Calls &calls, const Places &places) {
 
 std::string sampled_lines(const Region &region, const OffTimes &times, const Stacks &stacks, Places &places) {
   std::vector<Named> names = all_named(stacks, places);
+  std::vector<const void *> contended = all_contended(stacks, places);
   std::map<uint64_t, Sum> found;
   for (const OffTime &one : times.all) {
     if (!one.stands_for || one.stack >= names.size()) continue;
     const Named &named = names[one.stack];
     if (named.calls.empty() || (named.in_recorder && !one.asleep)) continue;
     uint32_t number = number_in_text(*one.task, one.segment, region);
-    if (number != none) found[number].by_calls[{one.asleep, named.calls}] += one.stands_for;
+    if (number == none) continue;
+    found[number].by_calls[{one.asleep ? slept : ran, named.calls}] += one.stands_for;
+    const void *shared = one.sample ? contended[one.sample - 1] : nullptr;
+    if (!one.asleep && !named.line.empty()) found[number].by_calls[{at, named.line}] += one.stands_for;
+    bool is_systems = !library_of_system(shared, places).empty();
+    if (shared && !is_systems && !places.at(shared).empty())
+      found[number].by_calls[{shares, places.at(shared)}] += one.stands_for;
   }
   std::string out;
   for (auto &[number, sum] : found)
     for (auto &[calls, time] : sum.by_calls) {
-      const char *did = calls.first ? " slept " : " ran ";
-      out += std::to_string(number) + did + std::to_string(time) + " " + calls.second + "\n";
+      out += std::to_string(number) + words[calls.first] + std::to_string(time) + " " + calls.second + "\n";
     }
   return out;
 }

@@ -104,12 +104,15 @@ void SegmentTable::task(std::string_view clauses, std::string_view place) {
   blocks.push_back({true, of_place, here});
   here = {false, of_place, ++tasks};
   uint32_t of_kind = open(Nothing, 0);
+  std::size_t last = std::exchange(before, SIZE_MAX);
   if (clauses.empty()) return;
   std::string key(clauses);
   key += '#' + std::to_string(of_place);
   auto [met, is_new] = clauses_met.emplace(std::move(key), written.size());
   if (is_new) written.push_back({of_kind, std::string(clauses)});
-  written[met->second].count++;
+  before = met->second;
+  written[before].count++;
+  written[before].again += before == last;
 }
 
 void SegmentTable::group(std::string_view place) {
@@ -142,7 +145,7 @@ bool SegmentTable::finish() {
   list.clear();
   for (const Clauses &one : written)
     list += (list.empty() ? "[" : ", [") + std::to_string(one.kind) + ", " + in_json(one.words) + ", " +
-            std::to_string(one.count) + "]";
+            std::to_string(one.count) + ", " + std::to_string(one.again) + "]";
   line.put_bare("own", "[" + own + "]").put_bare("clauses", "[" + list + "]");
   taker("\n" + line.end() + "\n");
   return kinds.size() < most_words && words.size() < most_words;

@@ -35,7 +35,7 @@ class SegmentTable {
   struct Clauses {
     uint32_t kind;
     std::string words;
-    uint64_t count = 0;
+    uint64_t count = 0, again = 0;  // tasks, and those right behind another one with the same
   };
 
   std::function<void(std::string_view)> taker;
@@ -49,6 +49,7 @@ class SegmentTable {
   std::vector<std::size_t> groups;  // of the blocks
   Code here;
   bool is_pending = false;  // a group has just begun
+  std::size_t before = SIZE_MAX;  // clauses of the task that was made last
   uint32_t tasks = 0, begun = 0, closed = 0;
   std::vector<uint16_t> kinds_of;  // segments, as far as they are not handed on
   std::vector<uint32_t> tasks_of, costs;

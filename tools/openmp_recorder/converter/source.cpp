@@ -13,12 +13,6 @@ constexpr size_t most_at_once = 4000;  // addresses of one call
 
 std::string base_name(const std::string &path) { return path.substr(path.rfind('/') + 1); }
 
-std::string quoted(const std::string &word) {
-  std::string out = "'";
-  for (char c : word) out += c == '\'' ? std::string("'\\''") : std::string(1, c);
-  return out + "'";
-}
-
 // The address as the module's file has it, of the call and not of what follows it.
 uint64_t in_file(const void *code, const ModuleOfRun &module) {
   return reinterpret_cast<uint64_t>(code) - 1 - module.base;
@@ -76,6 +70,12 @@ void leave_headers(std::vector<Frame> &frames) {
   if (own != frames.end() && is_known(own->at)) frames.erase(frames.begin(), own);
 }
 }  // namespace
+
+std::string quoted(const std::string &word) {
+  std::string out = "'";
+  for (char c : word) out += c == '\'' ? std::string("'\\''") : std::string(1, c);
+  return out + "'";
+}
 
 bool is_of_system(const std::string &source) {
   for (const char *folder : {"/usr/include/", "/usr/lib/", "/usr/bin/../"})  // clang's paths go through its own folder

@@ -248,7 +248,7 @@ const Record &ThreadReader::tell_sample() {
   record.order = std::max(record.order, one.order);
   record.wall = std::max(record.wall, time.wall(record.order));
   record.stood_still = 0;
-  record.task = 0;
+  record.task = one.number;
   record.other = one.stands_for;
   record.code = 0;
   record.path = one.stack;

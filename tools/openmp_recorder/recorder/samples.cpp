@@ -30,7 +30,7 @@ using log_form::RawSample;
 using log_form::window_bytes;
 
 constexpr long apart = 2000000;  // nanoseconds of the processor; kernels look at their ticks, often each 4 ms
-constexpr size_t largest = sizeof(RawSample) + log_form::most_frames * sizeof(uint64_t);
+constexpr size_t largest = sizeof(RawSample) + (log_form::most_frames + log_form::general_registers) * sizeof(uint64_t);
 
 // In a handler too: calls of the kernel alone. The room is taken from the disk, so that no write can fail.
 char *map_window(const char *path, uint64_t number) {
@@ -48,8 +48,6 @@ char *map_memory() {
   void *pages = mmap(nullptr, window_bytes, PROT_READ | PROT_WRITE, MAP_PRIVATE | MAP_ANONYMOUS, -1, 0);
   return pages == MAP_FAILED ? nullptr : static_cast<char *>(pages);
 }
-
-size_t bytes_of(const RawSample &sample) { return sizeof sample + sample.frames * sizeof(uint64_t); }
 
 // The system's functions would link another library, or be those of the program.
 int make_timer(Samples *of) {
@@ -137,7 +135,7 @@ void Samples::end_thread() {
 void Samples::keep_half() {
   size_t kept = 0, number = 0;
   for (size_t at = 0; at < used;) {
-    size_t bytes = bytes_of(*reinterpret_cast<RawSample *>(window + at));
+    size_t bytes = reinterpret_cast<RawSample *>(window + at)->bytes();
     if (number++ % 2) {
       std::memmove(window + kept, window + at, bytes);
       reinterpret_cast<RawSample *>(window + kept)->stands_for *= 2;
@@ -187,7 +185,7 @@ RawSample &Samples::sample_here(const ucontext_t &context) {
 void Samples::publish(RawSample &sample, int64_t began) {
   sample.wall = began;
   sample.took = static_cast<uint16_t>(std::min<int64_t>(wall_time() - began, UINT16_MAX));
-  used += bytes_of(sample);
+  used += sample.bytes();
   __atomic_store_n(&sample.at, read_time_stamp(After::Itself), __ATOMIC_RELEASE);
 }
 
@@ -199,6 +197,8 @@ void Samples::take(const siginfo_t &signal, const ucontext_t &context) {
   if (!make_room()) return;
   RawSample &sample = sample_here(context);
   sample.slept = 0;
+  frames::State state = registers_of(context);
+  std::copy_n(state.values.begin(), sample.registers(), sample.calls() + sample.frames);
   sample.stands_for = static_cast<uint32_t>(since * (apart / 1000));
   since = 0;
   publish(sample, began);

@@ -77,7 +77,7 @@ constexpr uint32_t most_paths = 16384, most_calls = 32;
 
 // What a thread ran, one sample behind the other in windows of the file: the time is 0 where a window has no more.
 constexpr uint64_t window_bytes = 1 << 16;
-constexpr unsigned most_frames = 48;
+constexpr unsigned most_frames = 48, general_registers = 16;
 struct RawSample {
   uint64_t at;  // the time-stamp counter
   int64_t wall;  // CLOCK_MONOTONIC
@@ -85,6 +85,8 @@ struct RawSample {
   uint16_t took;  // nanoseconds
   uint8_t frames, slept;  // whether the thread slept for so long, in the function that is called innermost
   uint64_t *calls() { return reinterpret_cast<uint64_t *>(this + 1); }  // addresses outwards, as many as frames
+  unsigned registers() const { return slept ? 0 : general_registers; }  // behind them, in DWARF's order
+  size_t bytes() const { return sizeof *this + (frames + registers()) * sizeof(uint64_t); }
 };
 static_assert(sizeof(RawSample) == 24, "as LOG.md has it");
 

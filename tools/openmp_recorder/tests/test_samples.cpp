@@ -8,7 +8,9 @@
 #include <string>
 #include <vector>
 
+#include "machine_code.hpp"
 #include "sampled_calls.hpp"
+#include "shared_lines.hpp"
 #include "whole.hpp"
 
 namespace {
@@ -19,6 +21,7 @@ class Window {
   Window &add(uint64_t at, std::vector<uint64_t> calls, bool slept = false) {
     RawSample raw{at, 0, 4000, 10, static_cast<uint8_t>(calls.size()), slept};
     bytes.append(reinterpret_cast<const char *>(&raw), sizeof raw);
+    calls.resize(calls.size() + raw.registers());
     bytes.append(reinterpret_cast<const char *>(calls.data()), calls.size() * sizeof calls[0]);
     return *this;
   }
@@ -33,7 +36,7 @@ class Window {
     close(file);
     log_form::Head head{};
     head.counter = log_form::Counter::TimeStamp;
-    std::vector<Sample> found = read_samples(name, head, stacks);
+    std::vector<Sample> found = read_samples(name, head, stacks, 0);
     unlink(name);
     return is_whole ? found : std::vector<Sample>();
   }
@@ -80,9 +83,56 @@ TEST(samples_belong_to_the_segment_that_runs) {
   places.put_frames(code(100), {{"leaf", "a.c:1"}, {"inlined", "a.c:2"}});
   places.put_frames(code(200), {{"outer", "a.c:3"}});
   places.put_frames(code(300), {{"other", "a.c:4"}});
-  EXPECT(sampled_lines(*made.found.whole, made.found.whole->off, stacks, places),
-         "1 ran 4000 outer;inlined;leaf\n2 ran 8000 other\n2 ran 4000 outer;inlined;leaf\n2 slept 900 other\n");
+  EXPECT(
+      sampled_lines(*made.found.whole, made.found.whole->off, stacks, places),
+      "1 ran 4000 outer;inlined;leaf\n1 at 4000 a.c:1\n2 ran 8000 other\n2 ran 4000 outer;inlined;leaf\n2 slept 900 other\n"
+      "2 at 4000 a.c:1\n2 at 8000 a.c:4\n");
   EXPECT(off_lines(*made.found.whole, made.found.whole->off), "");
+}
+
+TEST(an_instruction_uses_memory_by_its_registers) {
+  ModuleOfRun module{0x5000, 0, 0, false, "", nullptr, {}};
+  Registers registers{};
+  registers[2] = 3, registers[10] = 0x1000;
+  auto address = [&](const char *text) {
+    std::optional<MemoryUse> use = memory_use(text);
+    return use ? address_of(*use, registers, module) + use->writes : 0;
+  };
+  EXPECT(address("lock addq $0x1,0x4040a0(,%rcx,8)"), 0x4040b9u);
+  EXPECT(address("mov    -0x8(%r10),%eax"), 0xff8u);
+  EXPECT(address("cmp    %rax,(%r10,%rcx,4)"), 0x100cu);
+  EXPECT(address("lock cmpxchg %rdx,(%r10)"), 0x1001u);
+  EXPECT(address("incl   0x2f3c(%rip)        # 40a0 <count>"), 0x90a1u);
+  for (const char *none : {"lea    0x8(%r10),%rax", "call   1040 <f>", "mov    %fs:0x28,%rax", "add    $0x1,%rax",
+                           "nopw   0x0(%rax,%rax,1)", "movups (%r16),%xmm0"})
+    EXPECT(memory_use(none).has_value(), false);
+}
+
+TEST(what_was_used_is_known_while_its_registers_are_the_same) {
+  Instructions all{{10, "add    %r9,(%r10)"}, {14, "mov    %rdx,%r10"}, {18, "mov    (%rsi),%esi"},
+                   {22, "test   %cl,%cl"},    {24, "incl   (%rcx)"},    {28, "jne    10"},
+                   {30, "addq   $0x1,(%rdx)"}};
+  auto used = [&](uint64_t code) {
+    std::vector<uint64_t> out;
+    for (const MemoryUse &use : used_near(all, code)) out.push_back(use.code);
+    return out;
+  };
+  EXPECT(used(14) == std::vector<uint64_t>({10, 18}), true);
+  EXPECT(used(22) == std::vector<uint64_t>({24}), true);
+  EXPECT(used(30) == std::vector<uint64_t>({30}), true);
+  EXPECT(used(15).empty(), true);
+}
+
+TEST(a_line_is_contended_where_threads_use_it_at_once_and_one_writes) {
+  constexpr int64_t later = 100000000;
+  std::vector<bool> found = are_contended({{0, 0x1000, 0, 5, true},
+                                           {1, 0x1038, 1, 9, false},
+                                           {2, 0x1040, 1, 9, true},
+                                           {3, 0x1000, 1, later, true},
+                                           {4, 0x2000, 0, 5, false},
+                                           {5, 0x2000, 1, 5, false},
+                                           {6, 0x1040, 1, 10, true}});
+  EXPECT(found == std::vector<bool>({true, true, false, false, false, false, false}), true);
 }
 
 static std::string calls_of(const std::vector<const char *> &innermost_first) {
@@ -135,7 +185,7 @@ TEST(code_of_the_recorder_is_none_of_the_program) {
   Places places(&modules);
   places.put_frames(code(100), {{"main", "a.c:1"}});
   EXPECT(sampled_lines(*made.found.whole, made.found.whole->off, stacks, places),
-         "1 ran 4000 main\n1 slept 900 main\n");
+         "1 ran 4000 main\n1 slept 900 main\n1 at 4000 a.c:1\n");
 }
 
 TEST(code_in_headers_of_the_system_is_called_by_the_program) {

@@ -8,6 +8,7 @@ from spanprof.errors import reading
 
 LEAST = 5           # samples, below which they say nothing
 A_SAMPLE = 4000     # microseconds
+IN_CALLS = "ran", "slept"
 SHARES = (0.8, 0.5, 0.3)    # of the samples that a function has to have, tried one after the other
 OF_SYSTEM = "@"     # behind a function of the system's libraries
 NO_NAME = "["       # before the name of a file, which stands for a function that has no symbol
@@ -36,9 +37,12 @@ class Ran(NamedTuple):
 
 
 class Sampled(NamedTuple):
-    """By place: the microseconds of each list of calls, outermost first, in which code ran, or slept."""
+    """By place: the microseconds of each list of calls, outermost first, in which code ran, or slept; of each line at
+    which it used memory that other threads used at the same time, where one of them wrote it; and of each that ran."""
     ran: dict
     slept: dict
+    shares: dict = {}
+    at: dict = {}
 
 
 @lru_cache(maxsize=4096)
@@ -60,22 +64,23 @@ def is_of_ranks(calls):
 
 
 def samples_in(path):
-    """A line of the file has a segment, what it did, microseconds, and in which calls: `12 ran 8000 main;sort;compare`."""
+    """A line of the file has a segment, what it did, microseconds, and in which calls, or at which line:
+    `12 ran 8000 main;sort;compare`."""
     if path:
         with reading(path), open(path, encoding="utf-8", errors="replace") as lines:
             for line in lines:
                 number, did, time, calls = line.rstrip("\n").split(" ", 3)
                 if did not in Sampled._fields:
                     raise ValueError("a thread neither ran nor slept: " + did)
-                yield int(number), did, int(time), known(calls)
+                yield int(number), did, int(time), known(calls) if did in IN_CALLS else calls
 
 
 def calls_of(path, names):
-    found = Sampled(defaultdict(Counter), defaultdict(Counter))
+    found = Sampled(*(defaultdict(Counter) for _ in Sampled._fields))
     for number, did, time, calls in samples_in(path):
         if 0 <= number < len(names):
             getattr(found, did)[names[number]][calls] += time
-    return Sampled(dict(found.ran), dict(found.slept))
+    return Sampled(*map(dict, found))
 
 
 @lru_cache(maxsize=4096)

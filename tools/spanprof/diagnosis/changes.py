@@ -113,20 +113,6 @@ def candidates(facts, seen):
     return out + list(own_tasks(facts))
 
 
-def without(found, lost):
-    """The statements, with costs less by what their segments lost."""
-    row, current, left = found.row[:], 0, dict(lost)
-    groups = found.of_kind(lambda one: one.kind == "taskgroup")
-    for i, number in enumerate(row):
-        if number < 0:
-            current += number not in groups     # each other mark begins a segment
-        elif left.get(current):
-            less = min(number, left[current])
-            left[current] -= less
-            row[i] -= less
-    return found.changed(row)
-
-
 class Bench:
     """A text on which changes are tried, on as many threads as the run could have had. All have these seconds, or as
     long as the run took and no less than ten seconds; `longest` is what one of them took."""
@@ -135,10 +121,7 @@ class Bench:
         self.facts, self.head = facts, text.head
         self.until, self.longest = time.monotonic() + (seconds or seconds_for(text.head)), 0
         self.unit = text.head.nanoseconds or 1
-        lost = {segment: time // self.unit for segment, time in facts.preempted_in.items()}
         self.kept = text.statements()
-        if lost and text.head.clock == "wall":
-            self.kept = without(self.kept, lost)
         self.seen = survey(self.kept)
         self.costs = costs_for(text.head, self.seen)
 

@@ -58,23 +58,24 @@ def with_alike(loss, found):
 
 
 def causes_of(facts, found, steps, code):
-    """The first is that of the step that is worth most, and a second one where it may bring a tenth of the run's time.
-    Where the program has none of its own it is the machine, and what the program did in the rest of the time."""
+    """The first is that of the step that is worth most, and a second one where it may bring a tenth of the run's time,
+    as has to the first one on a busy machine. Where the program has none of its own it is the machine, and what the
+    program did in the rest of the time."""
     out, seen = [], set()
     for step in steps:
         loss = matching(step, found)
         loss = loss and with_alike(loss, found)
-        if not loss or step.kind in seen or loss.time < least_of(facts, found, BY_KIND[step.kind].least):
+        if not loss or step.kind in seen or loss.time < least_of(facts, found, step.kind):
             continue
-        if not out or step.worth >= SECOND * facts.now:
+        if step.worth >= SECOND * facts.now or not (out or facts.taken):
             out.append(loss)
             seen.add(step.kind)
     if out:
         return out[:2]
     ran = facts.own_time - sum(loss.time for loss in found if loss.kind in NO_CAUSE)
     named = [with_alike(loss, found) for loss in found if loss.kind in BY_KIND and loss.kind != "machine"]
-    largest = [loss for loss in named if loss.time >= least_of(facts, found, BY_KIND[loss.kind].least)]
-    if code < EFFICIENT * ran and largest:
+    largest = [loss for loss in named if loss.time >= least_of(facts, found, loss.kind)]
+    if code < EFFICIENT * ran and largest and not facts.taken:
         return largest[:1]
     is_machine = facts.share(facts.taken) >= BY_KIND["machine"].least
     machine, rest = [Loss("machine", "", facts.taken)] * is_machine, Loss("efficient", "", ran - code)

@@ -11,6 +11,9 @@ OF_NUMBER = r"omp_get_thread_num\s*\(\s*\)"
 THREAD_NUMBER = re.compile(r"\b(\w+)\s*=\s*" + OF_NUMBER)
 POINTER = re.compile(r"[*&]\s*(\w+)\s*=\s*[&(]*\s*$")
 LOOP = re.compile(r"\b(for|while|do)\b")
+VARIABLE = re.compile(r"\bfor\s*\([^;=:]*?(?:\b(\w+)\s*=|\b(\w+)\s*:[^:])")
+COMMENT = re.compile(r"\s*//.*")
+CALLED = re.compile(r"(?:[\w.\[\]>-]+\s*[-+*/]?=\s*)?([A-Za-z_]\w*)\s*\((.*)")
 # Of the names of places, waits and regions, and what their directives have.
 CONSTRUCTS = (("taskwait", "taskwait"), ("taskgroup", "taskgroup"), ("loop", "for"), ("section", "sections"),
               ("task at", "task"), ("creating a task", "task"))
@@ -93,3 +96,41 @@ def is_of_some_turns(lines, number):
     condition = block_around(lines, number)
     loop = block_around(lines, condition) if condition and "if" in code_of(lines[condition - 1]) else 0
     return bool(loop) and bool(LOOP.search(code_of(lines[loop - 1]))) and makes_tasks(lines, loop, condition)
+
+
+def ends_a_turn(lines, number):
+    """Whether nothing comes behind the only wait of a loop's body, so that nothing there uses what its tasks found; and
+    they name the loop's variable, other than to choose among a few: each turn has data of its own."""
+    loop = block_around(lines, number)
+    variable = VARIABLE.search(code_of(lines[loop - 1])) if loop else None
+    behind = next(filter(None, (COMMENT.sub("", code_of(line)).strip() for line in lines[number:])), "")
+    body = lines[loop:number - 1]
+    if not variable or behind[:1] != "}" or any(has(line, "taskwait") for line in body):
+        return False
+    used = re.compile(r"\b%s\b(?!\s*[%%&^])" % (variable[1] or variable[2]))
+    return any(has(line, "task") for line in body) and any(used.search(code_of(line)) for line in body)
+
+
+def called_by_task(lines, here):
+    """The function that the statement of a task calls first, with all that stands in its line; None where that is no
+    call."""
+    code = (COMMENT.sub("", code_of(line)).strip(" {") for line in lines[here:here + LONGEST])
+    return CALLED.match(next(filter(None, code), ""))
+
+
+def is_between_halves(lines, number):
+    """Whether a wait stands between two tasks of a block that call the same function with other arguments, as each does
+    for a part of what there is."""
+    block = block_around(lines, number)
+    before = [here for here in range(block + 1, min(number, len(lines))) if has(lines[here - 1], "task")]
+    behind = next((here for here in range(number + 1, min(number + LONGEST, len(lines)) + 1)
+                   if DIRECTIVE.match(lines[here - 1]) or code_of(lines[here - 1]).strip()), 0)
+    if not before or not behind or not has(lines[behind - 1], "task"):
+        return False
+    one, other = called_by_task(lines, before[-1]), called_by_task(lines, behind)
+    return bool(one and other) and one[1] == other[1] and one[2] != other[2]
+
+
+def is_needless(lines, number):
+    """Whether a wait may be."""
+    return any(test(lines, number) for test in (is_of_some_turns, ends_a_turn, is_between_halves))

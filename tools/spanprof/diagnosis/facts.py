@@ -1,5 +1,4 @@
 """What is known of one recorded run, as plain data: everything else of a diagnosis is made of it."""
-import heapq
 import re
 import statistics
 from array import array
@@ -15,9 +14,10 @@ from spanprof.diagnosis.calls import Sampled, calls_of, is_of_ranks, plain
 from spanprof.diagnosis.library_locks import set_library_locks
 from spanprof.diagnosis.lock_times import locks_of
 from spanprof.diagnosis.places import A_START, AROUND_REGIONS, in_text, read_places
+from spanprof.diagnosis.undisturbed import is_disturbed, set_disturbed, starved_alone
 from spanprof.errors import reading
 from spanprof.head import head_of
-from spanprof.idle import exact_idle, idle_by_place, most_at_once, rounded, together
+from spanprof.idle import idle_by_place, most_at_once
 from spanprof.recording import document
 from spanprof.regions import program_of, union
 from spanprof.segment_table import code_in
@@ -25,10 +25,8 @@ from spanprof.text_file import TextFile
 from spanprof.whatif.numbers import numbers_of
 
 RUNTIMES = {"llvm": "LLVM", "gnu": "gcc"}
-# Preempted segments; idle time is shared among all at once, so many take long. Of thirteen recordings the machine's
-# losses were within 1.3 points of those with all of them apart; with none three causes were wrong.
-MOST_APART = 64
 EXCLUDING = "mutexinoutset"     # the remark of a text that has inoutset in its place
+OWN_CLOCK = "own"               # by which costs are without the time in which a thread was preempted
 OF_GCC = "lines of gcc"         # that of a text whose tasks or waits are of gcc's code
 
 
@@ -66,11 +64,10 @@ class Facts:
     outside: int = 0
     delayed_by: Dict[str, int] = field(default_factory=dict)
     starved_by: Dict[str, int] = field(default_factory=dict)
-    starved_off: Dict[str, int] = field(default_factory=dict)       # of `starved_by`, while what ran was preempted
+    starved_off: Dict[str, int] = field(default_factory=dict)       # of `starved_by`, due to other programs
     starting_by: Dict[str, float] = field(default_factory=dict)     # of `delayed_by`, while regions start and end
     asleep_by: Dict[str, int] = field(default_factory=dict)
     preempted_by: Dict[str, int] = field(default_factory=dict)
-    preempted_in: Dict[int, int] = field(default_factory=dict)      # by segment, where its cost has it
     taken: int = 0                      # of the threads' time, by other programs, where that is much
     calls: Sampled = Sampled({}, {})
     places: dict = field(default_factory=dict)
@@ -83,7 +80,7 @@ class Facts:
     nested: int = 0                     # threads at once, with those of inner regions
     is_of_gcc: bool = False             # some constructs have the line of a statement before them
     is_imported: bool = False           # of another tool's tasks
-    waits_of_some_turns: set = field(default_factory=set)   # in an `if` of the loop that makes the tasks
+    needless: set = field(default_factory=set)      # waits that may be, by the source
     usage: Optional[dict] = None
     coverage: Optional[float] = None
     runs: int = 1
@@ -174,43 +171,13 @@ def starting_shares(found):
     return {name: starting[name] / time for name, time in whole.items() if time}
 
 
-def kept_waiting(facts, lasted, preempted, time):
-    """Of the time for which threads starved while a segment lasted so long: had it been preempted no more than code was
-    on average, each had waited for so much less; and of the rest as much is due to that as of the code."""
-    average = facts.preempted / max(facts.code + facts.preempted, 1)
-    alone = min(time, (facts.threads - 1) * max(0, preempted - average * lasted))
-    return int(alone + average * (time - alone))
-
-
-def set_idle(facts, found):
-    """Of the segments that were preempted most it is known how long others starved while each lasted; of the rest as
-    much of that time is due to it as of the code at their place."""
-    apart, rest = set(heapq.nlargest(MOST_APART, facts.preempted_in, facts.preempted_in.get)), Counter()
-    for segment in facts.preempted_in.keys() - apart:
-        rest[found.places[segment]] += facts.preempted_in[segment]
-    keys = list(found.places)
-    for segment in apart:
-        keys[segment] = found.places[segment], segment
-    delayed, starved = exact_idle(found.rows, keys, found.threads)
-    facts.delayed_by = rounded(together(delayed, lambda key: key[0] if isinstance(key, tuple) else key))
-    for key, time in rounded(starved).items():
-        name, segment = key if isinstance(key, tuple) else (key, None)
-        if segment is None:
-            off = int(time * rest[name] / max(facts.places[name].cost + rest[name], 1)) if name in rest else 0
-        else:
-            lasted = found.rows.end[segment] - found.rows.begin[segment]
-            off = kept_waiting(facts, lasted, facts.preempted_in[segment], time)
-        facts.starved_by[name] = facts.starved_by.get(name, 0) + time
-        facts.starved_off[name] = facts.starved_off.get(name, 0) + off
-
-
 def set_breakdown(facts, found):
     found = of_those_at_once(found, facts.threads)
     facts.threads = found.threads
     for name, part in found.parts.items():
         setattr(facts, name.replace(" ", "_"), part)
     facts.starting_by = starting_shares(found)
-    set_idle(facts, found)
+    facts.delayed_by, facts.starved_by = idle_by_place(found.rows, found.places, found.threads)
 
 
 def greedy_end(path, threads):
@@ -239,12 +206,11 @@ def off_by_segment(path, head):
 
 
 def set_off(facts, off, program):
-    """By place, and what was preempted by segment."""
+    """By place."""
     for segment, (slept, preempted) in off.items():
         name = program.kinds[program.code.of[segment]]
         facts.asleep_by[name] = facts.asleep_by.get(name, 0) + slept
         facts.preempted_by[name] = facts.preempted_by.get(name, 0) + preempted
-        facts.preempted_in[segment] = preempted
 
 
 def set_ranks(facts):
@@ -256,16 +222,10 @@ def set_ranks(facts):
             facts.asleep_by[name] = facts.asleep_by.get(name, 0) + 1000 * sum(waits.values())
 
 
-def costs_of(code, off, head):
-    """In nanoseconds. Those by the wall clock alone have the time in which a thread was preempted, and lose it here."""
+def costs_of(code, head):
+    """In nanoseconds."""
     unit = head.nanoseconds or 1
-    costs = code.cost if unit == 1 else array("Q", (cost * unit for cost in code.cost))
-    if head.clock != "wall" or not any(preempted for _, preempted in off.values()):
-        return costs
-    costs = costs[:]
-    for segment, (_, preempted) in off.items():
-        costs[segment] = max(0, costs[segment] - preempted)
-    return costs
+    return code.cost if unit == 1 else array("Q", (cost * unit for cost in code.cost))
 
 
 def runtime_name(runtime):
@@ -344,7 +304,7 @@ def facts_of(recording, end_of=greedy_end):
     code, head = code_in(path), head_of(path)
     off = {segment: times for segment, times in off_by_segment(recording.file("off"), head).items()
            if 0 <= segment < len(code)}
-    program, numbers = read_places(code, costs_of(code, off, head)), client.measured(path)
+    program, numbers = read_places(code, costs_of(code, head)), client.measured(path)
     facts = of_text(head, program, numbers)
     set_meta(facts, meta)
     facts.locks, regions = locks_of(recording.file("locks"), head), program_of(path)
@@ -354,6 +314,8 @@ def facts_of(recording, end_of=greedy_end):
     set_ranks(facts)
     try:
         set_breakdown(facts, account_of(head, numbers["work"], document(recording), program.names))
+        if is_disturbed(facts) and head.clock == OWN_CLOCK:
+            set_disturbed(facts, starved_alone(path, program.names, facts.threads))
     except NoAccount:
         set_by_greedy(facts, head, end_of(path, facts.threads))
     set_library_locks(facts)

@@ -5,7 +5,7 @@ Threads x elapsed time = code as on one thread + the losses.
 from typing import NamedTuple
 
 from spanprof.diagnosis.calls import A_SAMPLE, RUNTIME, in_system, shares
-from spanprof.diagnosis.causes import BUSY
+from spanprof.diagnosis.causes import BUSY, BY_KIND, SECOND
 from spanprof.diagnosis.places import A_START, AROUND_REGIONS, OF_THREADS, OWN, SERIAL, SHARE
 from spanprof.text import BEGINNING, TURNS, where
 
@@ -19,11 +19,12 @@ MANY = 8                # tasks for each thread, from which on to make them may 
 UNSURE = 0.1
 MUCH = 0.1              # of the run's time, from which on handling tasks may be what is lost
 UNEVEN = 1.5            # of the average piece: from which on the largest one is uneven
-A_FAULT = 4000          # nanoseconds, with the page that it clears
+A_FAULT, A_PAGE = 4000, 4096    # nanoseconds, with the page that it clears, of so many bytes
 MUCH_SYSTEM = 0.25      # of the processor time, from which on time in the kernel is a loss
 STARTED = 5000000       # nanoseconds that a program and its runtime take to start
 NO_CAUSE = ("recorder", "startup")
 FINE = ("small_tasks", "creation")      # of all tasks together
+OF_WAITS = ("small_tasks", "small_regions", "exclusion", "sleep", "too_many_threads")
 OF_SHAPE = ("too_few_tasks", "imbalance", "dependence", "wait")
 
 
@@ -105,11 +106,16 @@ def kind_of_task(facts, place):
     made = facts.places.get("task at " + place.at)
     if not place.tasks and made and 2 * made.undeferred > made.tasks > 0:
         return "undeferred"
-    shared = most_shared(place)
-    if shared and 2 * place.items[shared] > place.tasks > facts.threads:
+    if is_in_a_row(place) and place.tasks > facts.threads:
         return "dependence"
     is_uneven = place.tasks >= facts.threads and place.largest > UNEVEN * place.average
     return "imbalance" if is_uneven else "too_few_tasks"
+
+
+def is_in_a_row(place):
+    """Whether most tasks of a place write the same item, or the same one as the task that was made before them."""
+    shared = most_shared(place)
+    return shared is not None and 2 * max(place.items[shared], place.again) > place.tasks
 
 
 def most_shared(place):
@@ -148,6 +154,8 @@ def kind_of_delayed(facts, name):
     place = facts.places.get(name)
     if kind_of_preempted(facts) == "too_many_threads":
         return "too_many_threads"
+    if not place and often_begun(facts):
+        return "small_regions"
     if place and is_divided(place):
         return "loop_schedule"
     if place and place.exclusive:
@@ -200,13 +208,18 @@ def asleep_share(facts, name):
 
 def kind_of_sleep(facts, name):
     """A thread that wakes up may wait for a processor, and that counts as sleep too: so where others take processors,
-    and no sample has a call that waits, it is theirs."""
+    and no sample has a call that waits, it is theirs. In no call threads sleep too while others change what memory the
+    program has."""
     is_busy = facts.preempted > BUSY * (facts.code + facts.preempted)
+    if facts.calls.ran and name not in facts.calls.slept and A_FAULT * faults_again(facts.usage or {}) > facts.asleep:
+        return "system"
     return kind_of_preempted(facts) if is_busy and facts.calls.ran and name not in facts.calls.slept else "sleep"
 
 
 def starved_off_share(facts, name):
-    """Of the time for which threads had nothing to run but this code."""
+    """Of the time for which threads had nothing to run but this code; where no more is known, as much as of it."""
+    if not facts.starved_off:
+        return preempted_share(facts, name)
     return facts.starved_off.get(name, 0) / max(facts.starved_by.get(name, 0), 1)
 
 
@@ -252,10 +265,16 @@ def most_often(facts, found):
     """The region that lost most by starting and ending."""
     times = {}
     for loss in found:
-        if loss.kind == "small_regions" and loss.time:
+        if loss.kind == "small_regions" and loss.place:
             at = facts.places[loss.place].at
             times[at] = times.get(at, 0) + loss.time
-    return max(times, key=times.get, default="")
+    return max(times, key=times.get, default=often_begun(facts))
+
+
+def often_begun(facts):
+    """The region that takes most of the run, and each time no longer than a thread may take to start."""
+    return next((region.place for region in facts.regions if region.times > MANY and
+                 2 * region.elapsed > facts.elapsed and region.elapsed < A_START * region.times), "")
 
 
 def missing_threads(facts):
@@ -285,13 +304,18 @@ def system_time(facts):
     usage = facts.usage or {}
     system, user = usage.get("system_ns") or 0, usage.get("user_ns") or 0
     if not system or system < MUCH_SYSTEM * (system + user):
-        return 0
+        return min(system, A_FAULT * faults_again(usage))
     for_faults = min(fault_time(facts), facts.code * system // (system + user))
     return max(0, min(system, max(for_faults, facts.code - user)) - begun(facts))
 
 
 def fault_time(facts):
     return A_FAULT * ((facts.usage or {}).get("minor_faults") or 0)
+
+
+def faults_again(usage):
+    """Page faults beyond one for each page that the program had at once: of memory that it gave back and took again."""
+    return max(0, (usage.get("minor_faults") or 0) - usage["peak_bytes"] // A_PAGE) if usage.get("peak_bytes") else 0
 
 
 def has_many_faults(facts):
@@ -326,9 +350,13 @@ def start_of(facts, losses_found):
 
 
 def dearer(facts):
-    """By place, what its code cost beyond what it did on one thread."""
-    one = facts.cost_on_one or {}
-    return {name: max(0, place.cost - one[name]) for name, place in facts.places.items() if name in one}
+    """By place, what its code cost beyond what it did on one thread; or where that is not known at most, by samples of
+    what threads contend for."""
+    one = facts.cost_on_one
+    if one is not None:
+        return {name: max(0, place.cost - one[name]) for name, place in facts.places.items() if name in one}
+    return {name: int(facts.places[name].cost * min(1, sum(shares.values()) / sum(facts.calls.ran[name].values())))
+            for name, shares in facts.calls.shares.items() if name in facts.places and name in facts.calls.ran}
 
 
 def lock_name(lock):
@@ -404,9 +432,11 @@ def useful_time(facts, found):
     return max(1, facts.whole_time - sum(loss.time for loss in found if loss.kind in (*NO_CAUSE, "machine")))
 
 
-def least_of(facts, found, share):
-    """The least loss that is a cause: a share of the useful time, and more on a busy machine."""
-    return share * useful_time(facts, found) + UNSURE * facts.taken
+def least_of(facts, found, kind):
+    """The least loss that is a cause: a share of the useful time. On a busy machine it is a tenth at least, and more of
+    waits, in which other programs may have a part; they have none in costs."""
+    least = max(BY_KIND[kind].least, SECOND * bool(facts.taken))
+    return least * useful_time(facts, found) + UNSURE * facts.taken * (kind in OF_WAITS)
 
 
 def code_on_one(facts, found):

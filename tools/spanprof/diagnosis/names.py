@@ -1,9 +1,10 @@
 """How places, waits and depend items are named to people: functions, lines, and items as the source spells them."""
 import re
+from itertools import accumulate
 from typing import NamedTuple
 
-from spanprof.diagnosis.calls import NO_NAME, OFFSET, innermost, plain
-from spanprof.diagnosis.directives import construct_of, directive_line, is_of_some_turns, own_item
+from spanprof.diagnosis.calls import A_SAMPLE, LEAST, NO_NAME, OF_SYSTEM, OFFSET, innermost, plain
+from spanprof.diagnosis.directives import DIRECTIVE, construct_of, directive_line, is_needless, own_item
 from spanprof.diagnosis.places import OF_THREADS, OWN, SERIAL, lines_between
 from spanprof.source_lines import LONGEST, STRING, after_directive, code_lines, line_of, statement_end
 from spanprof.text import BEGINNING, where
@@ -16,6 +17,8 @@ LINE = re.compile(r"[^\s:/]+:\d+$")
 LONGEST_CALLED = 50     # columns of a function and its caller
 ATOMIC = re.compile(r"omp\s+atomic|\bstd::atomic\b|\bfetch_(add|sub|or|and|xor)\b|__atomic_|__sync_", re.I)
 MUCH_CODE = 0.2         # of all code, from which on a place is looked at
+MUCH_SHARED = 0.1       # of the samples of code
+HOT = 0.8               # of the samples of code, that the lines have which are told of it
 NO_CALLS = ("if", "for", "while", "switch", "return", "sizeof")
 KINDS = ("in", "out", "inout", "inoutset", "mutexinoutset", "depobj")
 WRITES = {"out": "inout"}       # as the recorder writes it
@@ -68,18 +71,24 @@ def block_end(lines, number):
 
 
 class Suspect(NamedTuple):
-    """An item that each thread has next to those of others, or an atomic operation without one; and its line."""
+    """An item that each thread has next to those of others, an atomic operation, or whatever a line writes; and the
+    line."""
     item: str
     at: str
+    is_atomic: bool = False
 
     def __str__(self):
-        return "%s next to other threads' (%s)" % self if self.item else "the atomic at " + self.at
+        if self.is_atomic:
+            return "the atomic at " + self.at
+        return "%s next to other threads' (%s)" % self[:2] if self.item else "what %s writes" % self.at
 
     @property
     def instead(self):
         """What to write in its place."""
-        return "a local copy of %s (%s), written back once" % self if self.item else \
-            "a reduction in place of the atomic at " + self.at
+        if self.is_atomic:
+            return "a reduction in place of the atomic at " + self.at
+        what = "%s (%s)" % self[:2] if self.item else str(self)
+        return "a local copy of %s, written back once" % what
 
 
 class Names:
@@ -118,9 +127,10 @@ class Names:
         what, at, _ = name.rpartition(" at ")
         return what + at + function if function else name
 
-    def is_of_some_turns(self, wait):
+    def is_needless(self, wait):
+        """Whether the source has a reason to think so."""
         line = self.begin(wait, wait)
-        return bool(line) and is_of_some_turns(self.lines_of(line.file), line.number)
+        return bool(line) and is_needless(self.lines_of(line.file), line.number)
 
     def directive(self, name, at):
         """The directive of a place, its lines joined, without a comment behind it."""
@@ -133,6 +143,8 @@ class Names:
 
     def stretch(self, place):
         """File, first and last line of a place's code, as far as they are known."""
+        if self.hot(place):
+            return self.hot(place)[:3]
         file, first, last = lines_between(place)
         if place.name == BEGINNING and file:
             function = self.function(place)
@@ -143,9 +155,24 @@ class Names:
             return file, begin, last if last >= begin else max(end, block_end(self.lines_of(file), begin))
         return file, first, last
 
+    def hot(self, place):
+        """Of serial code that is in no function but the outermost: file, first and last line of those that have most of
+        its samples, and the function. None where they are not known."""
+        at, ran = (found.get(place.name, {}) for found in (self.facts.calls.at, self.facts.calls.ran))
+        if place.kind != SERIAL or self.ran(place) or sum(at.values()) < LEAST * A_SAMPLE:
+            return None
+        most = sorted(at, key=at.get, reverse=True)
+        before = accumulate([0] + [at[line] for line in most])
+        lines = [line_of(line) for line, so_far in zip(most, before) if so_far < HOT * sum(at.values())]
+        numbers = [line.number for line in lines if line and lines[0] and line.file == lines[0].file]
+        called = max(ran, key=ran.get, default=("",))[-1]
+        return (lines[0].file, min(numbers), max(numbers), called.partition(OF_SYSTEM)[0]) if numbers else None
+
     def function(self, place):
         """That which the place's code is in; that of the construct that ends it where it begins with none."""
         functions = self.facts.functions
+        if self.hot(place):
+            return self.hot(place)[3]
         at = line_of(place.at) or line_of(place.last_end)
         if at:
             return functions.get("%s:%d" % at, "")
@@ -158,17 +185,36 @@ class Names:
         """What may slow code of these places, or that has much of the cost, on several threads: an atomic operation, or
         items of threads next to each other; None where the source shows neither."""
         found = places or [one for one in self.facts.places.values() if one.cost > MUCH_CODE * self.facts.code]
-        for file, first, last in map(self.stretch, sorted(found, key=lambda place: -place.cost)):
-            lines, first = self.lines_of(file), first or last
-            if not 0 < first <= last <= len(lines):
-                continue
-            for number in range(first, last + 1):
-                if ATOMIC.search(lines[number - 1]):
-                    return Suspect("", "%s:%d" % (file, number))
-            item = own_item(lines, first, last)
-            if item:
-                return Suspect(item[0], "%s:%d" % (file, item[1]))
+        for place in sorted(found, key=lambda place: -place.cost):
+            one = self.contended(place) or self.suspect_in(*self.stretch(place))
+            if one:
+                return one
         return None
+
+    def contended(self, place):
+        """The same by samples: what the lines have that use memory which threads share, or else the first of them."""
+        shares, ran = (found.get(place.name, {}) for found in (self.facts.calls.shares, self.facts.calls.ran))
+        if sum(shares.values()) < MUCH_SHARED * sum(ran.values()):
+            return None
+        lines = list(filter(None, map(line_of, sorted(shares, key=shares.get, reverse=True))))
+        found = (self.suspect_in(line.file, self.with_directive(line), line.number) for line in lines)
+        return next(filter(None, found), Suspect("", "%s:%d" % lines[0]) if lines else None)
+
+    def with_directive(self, line):
+        """The line before, where it is a directive."""
+        before = self.lines_of(line.file)[max(line.number - 2, 0):line.number - 1]
+        return line.number - any(map(DIRECTIVE.match, before))
+
+    def suspect_in(self, file, first, last):
+        """What these lines have."""
+        lines, first = self.lines_of(file), first or last
+        if not 0 < first <= last <= len(lines):
+            return None
+        for number in range(first, last + 1):
+            if ATOMIC.search(lines[number - 1]):
+                return Suspect("", "%s:%d" % (file, number), is_atomic=True)
+        item = own_item(lines, first, last)
+        return Suspect(item[0], "%s:%d" % (file, item[1])) if item else None
 
     def line(self, name):
         """The same of a wait, a lock or a region."""

@@ -37,6 +37,7 @@ class Place:
     inoutset: int = 0       # of these, with such an item
     exclusive: int = 0      # of these, that exclude each other
     items: Counter = field(default_factory=Counter)     # depend items of these tasks, by type and name
+    again: int = 0          # tasks that write the same items as the one made before them
     positions: dict = field(default_factory=dict)       # of an item: its place among those of its type in a task
 
     def add(self, costs, at, end):
@@ -47,11 +48,12 @@ class Place:
         self.pieces, self.cost = self.pieces + len(costs), self.cost + sum(costs)
         self.ends[end] += sum(costs)
 
-    def add_tasks(self, number, clauses):
-        """As many tasks that have these clauses."""
+    def add_tasks(self, number, clauses, again):
+        """As many tasks that have these clauses, so many of them right behind another one with them."""
         task = construct("task", clauses, "")
         self.undeferred += number * task.is_undeferred
         self.inoutset += number * any(kind == "inoutset" for kind, _ in task.items)
+        self.again += again * any(kind != "in" for kind, _ in task.items)
         met = Counter()
         for item in task.items:
             self.items[item] += number
@@ -165,9 +167,9 @@ def read_places(code, costs):
         place = program.places.setdefault(names[number], Place(names[number], kind_of(kind)))
         place.add(pieces, kind.begin, code.kinds[following].end)
         place.tasks += len(pieces) * (not kind.is_root and not kind.after)
-    for number, clauses, count in code.clauses:
+    for number, clauses, count, again in code.clauses:
         if number is not None:      # a thread's own code has none
-            program.places[names[number]].add_tasks(count, clauses)
+            program.places[names[number]].add_tasks(count, clauses, again)
     set_longest(program)
     for name, cost in uneven_of(program).items():
         program.places[name].uneven = cost

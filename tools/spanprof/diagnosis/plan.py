@@ -1,10 +1,11 @@
 """The change that brings most, and the best one on top of it, each with the run's time before and after."""
-from dataclasses import dataclass
+from dataclasses import dataclass, replace
 from typing import Optional
 
 from spanprof.diagnosis.causes import BY_KIND, WORTH_A_CHANGE
 from spanprof.diagnosis.changes import Change
-from spanprof.diagnosis.losses import begun, in_code_losses, kind_of_task, least_of, most_shared, share_of_start
+from spanprof.diagnosis.losses import (begun, in_code_losses, is_in_a_row, kind_of_task, least_of, most_shared,
+                                       share_of_start)
 from spanprof.diagnosis.places import SERIAL, TASK
 from spanprof.text import BEGINNING
 
@@ -14,9 +15,11 @@ BOUND_LEAST = 0.3   # of the gain of a bound: less is rare
 # How often such a change is one that a program allows: what it brings is weighed with it.
 LIKELY = {"in-for-inout": 1.0, "defer": 1.0, "split": 0.8, "task": 0.6, "drop-depend": 0.3, "drop-wait": 0.3}
 # A wait for tasks that depend items order too may not be needed; nor one that only some turns of the loop reach that
-# makes the tasks, as if these used a few buffers in turns.
+# makes the tasks, as if these used a few buffers in turns; nor one that ends turns which work on data of their own.
 ORDERED = 0.9
+IN_A_ROW = 0.9      # tasks that are made to run one after the other by items of several are mostly meant to run at once
 AT_THE_ENDS = 0.4   # code before all constructs, or after them, mostly reads, fills or frees
+ALIKE = 0.7         # of the gain of a change, that another one in its place brings at least
 LATER = 0.08        # of the time before it, that a change on top of another brings at least
 FEW_HOLD = 0.4      # items that fewer than half of a place's tasks hold are seldom read alone
 
@@ -32,6 +35,7 @@ class Step:
     high: int
     likely: float = 1.0
     change: Optional[Change] = None
+    is_instead: bool = False    # of the step before it
 
     @property
     def gain(self):
@@ -73,11 +77,13 @@ def is_at_an_end(facts, name):
 
 def likely(facts, seen, change):
     if change.kind == "drop-wait":
-        free = all(seen.ordered[one.word] or one.word in facts.waits_of_some_turns for one in change.requests)
+        free = all(seen.ordered[one.word] or one.word in facts.needless for one in change.requests)
         return ORDERED if free else LIKELY["drop-wait"]
     if change.kind == "in-for-inout":
         place = holder(facts, change.place)
         return LIKELY[change.kind] if 2 * place.items[most_shared(place)] >= place.tasks else FEW_HOLD
+    if change.kind == "drop-depend" and is_in_a_row(facts.places[facts.key(change.place)]):
+        return IN_A_ROW
     return AT_THE_ENDS if is_at_an_end(facts, change.place) else LIKELY[change.kind]
 
 
@@ -119,8 +125,7 @@ def bound_of(facts, now, loss):
 
 def bounds(facts, now, found):
     """Of the losses for which no change of the text is tried."""
-    least = {kind: least_of(facts, found, cause.least) for kind, cause in BY_KIND.items()
-             if cause.is_bound}
+    least = {kind: least_of(facts, found, kind) for kind, cause in BY_KIND.items() if cause.is_bound}
     return [bound_of(facts, now, loss) for loss in found if loss.kind in least and loss.time >= least[loss.kind]]
 
 
@@ -129,10 +134,17 @@ def best_of(steps, least=WORTH_A_CHANGE):
     return max(worthy, key=lambda step: step.worth, default=None)
 
 
+def instead_of(first, ranked):
+    """Where a wait may be needed, or may not, the other change that wins back most of what the first one does."""
+    other = [step for step in ranked if step.change and step.kind != first.kind and "wait" in (step.kind, first.kind)
+             and step.gain >= ALIKE * first.gain]
+    return [replace(step, is_instead=True) for step in other[:1]]
+
+
 def steps_after(facts, bench, found, first, ranked):
-    """The best steps on top of the first one."""
-    plan, made = [first], list(first.change.requests if first.change else ())
-    done = {(first.kind, first.place)}
+    """What may take the place of the first step, and the best steps on top of it."""
+    made, others = list(first.change.requests if first.change else ()), instead_of(first, ranked)
+    plan, done = [first], {(step.kind, step.place) for step in [first, *others]}
     while len(plan) < STEPS and bench.has_time():
         now, before = plan[-1].after, bench.end(made)
         tried = bench.tries([step.change for step in ranked if step.change and step.change != first.change][:2 * STEPS],
@@ -144,4 +156,4 @@ def steps_after(facts, bench, found, first, ranked):
         plan.append(step)
         done.add((step.kind, step.place))
         made += step.change.requests if step.change else ()
-    return plan
+    return plan[:1] + others + plan[1:STEPS - len(others)]

@@ -62,5 +62,6 @@ def as_json(found, names):
     facts = found.facts
     return {"schema": SCHEMA, "program": facts.program, "times": times_json(found),
             "diagnosis": [cause_json(found, names, loss) for loss in found.causes if loss.kind in BY_KIND],
-            "plan": [dict(change_json(facts, names, step), cause=step.kind) for step in found.plan],
+            "plan": [dict(change_json(facts, names, step), cause=step.kind, instead=step.is_instead)
+                     for step in found.plan],
             "losses": losses_json(found), "code_share": round(facts.share(found.code_on_one), 6)}

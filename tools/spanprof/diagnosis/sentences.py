@@ -1,24 +1,28 @@
 """What is told of a run on a terminal: at most eight lines of at most 100 columns."""
 import re
+from collections import Counter
 
 from spanprof.account_words import lasting
 from spanprof.diagnosis.calls import NO_NAME, OFFSET, ONE_AT_A_TIME, asleep_in, innermost, together
 from spanprof.diagnosis.causes import BY_KIND, NAMES
-from spanprof.diagnosis.losses import (MANY, average_task, has_many_faults, losses, missing_threads, most_shared,
-                                       useful_time)
-from spanprof.diagnosis.places import SERIAL, SHARE
+from spanprof.diagnosis.facts import Region
+from spanprof.diagnosis.losses import (A_TASK, MANY, average_task, has_many_faults, is_maker, losses, missing_threads,
+                                       most_shared, useful_time)
+from spanprof.diagnosis.places import AFTER_REGION, SERIAL, SHARE
 from spanprof.diagnosis.plan import holder
 from spanprof.head import grouped
+from spanprof.source_lines import line_of
 from spanprof.text import SECTION, where
 
 WIDTH, MOST_LINES = 100, 8
 LABEL = 6
 NO_FASTER = 1.1
+MOST_SHARED = 2
 A_CHUNK = 50000        # nanoseconds that one lasts which is worth taking
 LEAST_TOLD = 0.005     # of the threads' time, from which on a part of it is told
 TRIED = {
     "in-for-inout": "depend(in: {item}) at {at} if only read, or a copy for each",
-    "drop-depend": "no depend items at {at}, if the tasks may run in any order",
+    "drop-depend": "finer depend items at {at}, or none if no order is needed",
     "drop-wait": "leave out {waits}, if no result is needed yet",
     "defer": "defer more tasks at {at}: change its if or final",
     "task": "make {where} a task of its own"}
@@ -35,11 +39,22 @@ def several(number, what):
 def words_of_place(facts, names, place):
     """Those of a place of code."""
     shared = most_shared(place)
-    count = place.items[shared] if shared else 0
-    ratio = place.cost / facts.cost_on_one[place.name] if (facts.cost_on_one or {}).get(place.name) else 1
+    count = max(place.items[shared], place.again) if shared else 0
     return {"tasks": several(place.tasks, "task"), "largest": lasting(place.largest),
             "average": lasting(int(place.average)), "item": names.item(place, shared) if shared else "",
-            "many": "all" if count == place.tasks else grouped(count), "dearer": "%.1f" % ratio}
+            "many": "all" if count == place.tasks else grouped(count),
+            "contended": words_of_memory(facts, names, place)}
+
+
+def words_of_memory(facts, names, place):
+    """What its code costs more than on one thread, or by samples its lines that use memory which threads share."""
+    alone = (facts.cost_on_one or {}).get(place.name)
+    if alone:
+        return "%s costs %.1f times as much on %d threads as on one: memory is contended" % (
+            names.place(place.name), place.cost / alone, facts.most_threads)
+    shares = facts.calls.shares.get(place.name, Counter())
+    lines = [line for line, _ in shares.most_common() if line_of(line)][:MOST_SHARED]
+    return "threads write the same cache lines at once: %s" % " and ".join(lines or [names.place(place.name)])
 
 
 def words_of_schedule(names, name, place):
@@ -83,6 +98,16 @@ def words_of_alone(facts, names, place):
     return "%.0f %% of %s of serial code" % (100 * part / max(whole, 1), lasting(whole))
 
 
+def words_of_creation(facts, names, name):
+    """A thread whose own code for each task lasts longer than to make one does what the task could do."""
+    makers = [place for place in facts.places.values() if is_maker(place)]
+    most = max(makers, key=lambda place: place.cost, default=None)
+    if not most or most.cost < A_TASK * most.pieces:
+        return "larger tasks at %s, or a taskloop" % names.at(name)
+    ran = names.ran(most)
+    return "move %s into the task at %s" % (ran.function if ran else "the code before it", names.at(name))
+
+
 def words_of_sleep(facts, name, told):
     """Such as `in read, called by load`, or of MPI for other ranks; what it may be where no sample tells."""
     function, caller = asleep_in(facts.calls.slept.get(name, {}))
@@ -98,10 +123,24 @@ def who_asked(facts, region):
     return ": the program asks for %d" % region.asked
 
 
+def words_of_barriers(facts, names, name):
+    """Of regions that take little time each, or of one with many barriers; and what to do."""
+    region = next((one for one in facts.regions + facts.inner if one.place == name), Region(name, 0, 0))
+    after, at = facts.places.get("%s at %s" % (AFTER_REGION, name)), names.place(name)
+    if after and after.pieces > MANY * region.times:
+        words = "%s at %s, %s apart: waiting at them"
+        apart = lasting(region.elapsed // after.pieces)
+        return {"short_regions": words % (several(after.pieces, "barrier"), at, apart),
+                "longer_regions": "fewer barriers at %s: nowait, or larger loops" % at}
+    words = "%s at %s take %s each: starting them"
+    return {"short_regions": words % (several(region.times, "region"), at, lasting(region.elapsed // region.times)),
+            "longer_regions": "move parallel at %s out of the loop around it" % at}
+
+
 def words_of_region(facts, names, name):
     """Of those that began at one place."""
     others = len(set(missing_threads(facts)) - {name})
-    out = {"got": "", "who_asked": "", "regions": "regions", "region_time": "little time",
+    out = {"got": "", "who_asked": "", **words_of_barriers(facts, names, name),
            "others": " and in %s" % several(others, "other") if others else "",
            "in_region": "in the region at " + names.place(name) if name else "in some region",
            "fewer": "use %s threads: num_threads or OMP_NUM_THREADS" % facts.processors}
@@ -112,8 +151,7 @@ def words_of_region(facts, names, name):
                        fewer="no nesting at %s: omp_set_max_active_levels(1)" % names.at(name))
     for region in facts.regions + facts.inner:
         if region.place == name:
-            out.update(got=several(region.threads, "thread"), who_asked=who_asked(facts, region),
-                       regions=several(region.times, "region"), region_time=lasting(region.elapsed // region.times))
+            out.update(got=several(region.threads, "thread"), who_asked=who_asked(facts, region))
     return out
 
 
@@ -168,9 +206,10 @@ def words(facts, names, name):
     place = facts.places.get(name)
     out = dict(words_of_run(facts), where=names.place(name), at=names.at(name), item="",
                in_what=words_of_sleep(facts, name, names.place(name)), tasks="", many="", largest="", average="",
-               dearer="", chunks="", a_chunk="", of_turns="",
+               contended="", chunks="", a_chunk="", of_turns="",
                alone="the others wait", suspect=words_of_suspect(facts, names),
-               shared=words_of_schedule(names, name, place), instead=instead(names, place, name),
+               shared=words_of_schedule(names, name, place), less_creating=words_of_creation(facts, names, name),
+               instead=instead(names, place, name),
                **words_of_region(facts, names, name), **words_of_lock(facts, names, name))
     if place:
         out.update(words_of_place(facts, names, place), alone=words_of_alone(facts, names, place),
@@ -298,6 +337,8 @@ def unsure(found, names):
     if facts.target == 1:
         return "what more threads would bring: record on more"
     if facts.cost_on_one is None and facts.true_one is None and facts.threads > 1:
+        if facts.calls.shares and any(loss.kind == "memory" for loss in found.causes):
+            return "what it costs on one thread: --full"
         at = names.suspect()
         return "whether %s it: --full" % (str(at) + " slows" if at else "atomics or shared memory slow")
     return ""
@@ -329,10 +370,14 @@ def note_lines(news):
     return ["%-*s%s%s" % (LABEL, "note", shortened(news[0], WIDTH - LABEL - len(more)), more)] if news else []
 
 
+def labels(plan):
+    return ["or" if step.is_instead else "then" if i else "do" for i, step in enumerate(plan)]
+
+
 def short_lines(found, names, more="", news=()):
     """`more` says where the rest stands, `news` what went wrong with the recording."""
     plan = [change_line(label, found.facts, names, step)
-            for label, step in zip(("do", "then", "then"), found.plan)]
+            for label, step in zip(labels(found.plan), found.plan)]
     lost = list(lost_lines(found, names))
     last = note_lines(list(news)) + sure_lines(found, names, more)
     return [shortened(first_line(found), WIDTH)] + lost + plan[:MOST_LINES - 1 - len(lost) - len(last)] + last

@@ -60,7 +60,7 @@ def told_of(recording, folders=(), seconds=None, end_of=greedy_end):
     beside = [os.path.dirname(os.path.abspath(recording.folder or recording.text)), os.getcwd()]
     names = Names(facts, Sources(list(folders) or beside, facts.sources))
     if bench:
-        facts.waits_of_some_turns = set(filter(names.is_of_some_turns, bench.seen.waits))
+        facts.needless = set(filter(names.is_needless, bench.seen.waits))
     return Told(diagnose(facts, bench), names)
 
 

@@ -9,7 +9,8 @@ CGROUP = "/sys/fs/cgroup"
 def usage_of(used):
     """Of what wait4 tells of the program and its own children."""
     return {"user_ns": round(used.ru_utime * 1e9), "system_ns": round(used.ru_stime * 1e9),
-            "minor_faults": used.ru_minflt, "voluntary_switches": used.ru_nvcsw, "involuntary_switches": used.ru_nivcsw}
+            "minor_faults": used.ru_minflt, "peak_bytes": 1024 * used.ru_maxrss,
+            "voluntary_switches": used.ru_nvcsw, "involuntary_switches": used.ru_nivcsw}
 
 
 def processors_of_quota(words):

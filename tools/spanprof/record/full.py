@@ -18,7 +18,7 @@ RUNS = 3
 def costs_by_place(path):
     """In nanoseconds, of a text of any size, with the places of a diagnosis."""
     code = code_in(path)
-    return {name: place.cost for name, place in read_places(code, costs_of(code, {}, head_of(path))).places.items()}
+    return {name: place.cost for name, place in read_places(code, costs_of(code, head_of(path))).places.items()}
 
 
 def cost_on_one(session):

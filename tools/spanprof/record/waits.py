@@ -3,7 +3,7 @@ import statistics
 from typing import NamedTuple
 
 from spanprof.account_words import lasting
-from spanprof.diagnosis.calls import is_of_ranks, samples_in
+from spanprof.diagnosis.calls import IN_CALLS, is_of_ranks, samples_in
 from spanprof.record.ranks import rank_in
 
 MUCH = 0.05     # of a rank's sampled time
@@ -24,9 +24,10 @@ class Waits(NamedTuple):
 def waits_of(recording):
     """None of a process that is no rank, or without samples."""
     rank, time, sampled = rank_in(recording.folder), 0, 0
-    for _, _, one, calls in samples_in(recording.file("calls")):
-        sampled += one
-        time += one * is_of_ranks(calls)
+    for _, did, one, calls in samples_in(recording.file("calls")):
+        if did in IN_CALLS:
+            sampled += one
+            time += one * is_of_ranks(calls)
     return Waits(rank, time, sampled) if rank is not None and sampled else None
 
 

@@ -88,7 +88,8 @@ def first_change(told):
 
 
 def then(told):
-    rows = [tag("li", tag("span", change_sentence(told.found.facts, told.names, step)), " ", gain(step))
+    rows = [tag("li", tag("span", "or in its place: " * step.is_instead,
+                          change_sentence(told.found.facts, told.names, step)), " ", gain(step))
             for step in told.found.plan[1:]]
     return [tag("h3", "Then, on top of it"), tag("ol", *rows)] if rows else []
 

@@ -2,10 +2,10 @@
 import gzip
 from collections import Counter
 
+from spanprof.diagnosis.calls import IN_CALLS
 from spanprof.errors import Fault, reading
 
 ASLEEP = ";[asleep]"
-DID = "ran", "slept"
 BYTES = 2       # how a message of protobuf says that a field is one of bytes
 
 
@@ -17,7 +17,7 @@ def stacks(recording):
     with reading(path), open(path, encoding="utf-8", errors="replace") as lines:
         for line in lines:
             _, did, time, calls = line.rstrip("\n").split(" ", 3)
-            if did in DID:
+            if did in IN_CALLS:
                 found[calls + ASLEEP * (did == "slept")] += int(time)
     return found
 

@@ -15,7 +15,7 @@ KINDS = [[True, "", "", "", ""], [False, "a.c:3", "", "", ""], [False, "a.c:3", 
          [True, "", "creating a task", "a.c:3", ""], [False, "one of the region's threads", "", "", "a.c:8"],
          [True, "", "creating a task", "one of the region's threads", "a.c:8"],
          [True, "", "taskgroup", "barrier of the region at a.c:8", "a.c:8"]]
-TOLD = {"segments": 7, "kinds": KINDS, "long": [6, 1 << 33], "own": [4, 1], "clauses": [[1, " depend(inout: x)", 1]]}
+TOLD = {"segments": 7, "kinds": KINDS, "long": [6, 1 << 33], "own": [4, 1], "clauses": [[1, " depend(inout: x)", 1, 0]]}
 ROWS = [(0, 0, 7), (1, 1, 5), (2, 1, 6), (3, 0, 0), (4, 2, 1), (5, 0, 0), (6, 0, 0)]    # kind, task, cost
 
 

@@ -51,11 +51,6 @@ class Candidates(unittest.TestCase):
         self.assertEqual([one.word for one in together[0].requests], ["taskwait at a.c:3", "taskwait at a.c:5"])
         self.assertFalse([one for one in module.waits(run, seen) if "barrier" in one.place])
 
-    def test_costs_lose_what_the_segment_was_preempted(self):
-        text = "omptasks 1\nwork 9\nwork 5\ntask {\nwork 4\n}\n"
-        found = module.without(of_stream(statements(text.splitlines(True))), {0: 11, 1: 7})
-        self.assertEqual([one.cost for one in found if one.kind == "work"], [0, 3, 0])
-
 
 class Tries(unittest.TestCase):
     """Without a program: an end is told by how many lines the changed text has."""

@@ -98,10 +98,10 @@ class Diagnoses(unittest.TestCase):
         self.assertEqual((found.lost_share(told.causes[0]), told.plan[0].before), (0.6, 50 * MS))
 
     def test_a_busy_machine_is_the_cause_where_the_program_lost_little_itself(self):
-        found = facts([place(TASKS)], preempted=200 * MS, starved=25 * MS, starved_by={TASKS: 25 * MS})
+        found = facts([place(TASKS)], preempted=200 * MS, starved=8 * MS, starved_by={TASKS: 8 * MS})
         told = diagnose(found, Bench({(): 90, asked("split", TASKS + "=4"): 80}))
         self.assertEqual((told.causes, found.lost_share(told.causes[0]), told.plan), (
-            [Loss("machine", "", 200 * MS), Loss("efficient", "", 25 * MS)], 0.5, []))
+            [Loss("machine", "", 200 * MS), Loss("efficient", "", 8 * MS)], 0.5, []))
 
     def test_at_best_all_threads_run_its_code_all_the_time(self):
         self.assertEqual(diagnose(facts([place(TASKS)], starved=200 * MS)).best, 50 * MS)
@@ -128,7 +128,7 @@ class Steps(unittest.TestCase):
     def test_a_wait_that_some_turns_reach_is_likely_needless(self):
         change, seen = single("drop-wait", "taskwait at a.c:9"), SimpleNamespace(ordered={"taskwait at a.c:9": 0})
         self.assertEqual(likely(facts(), seen, change), 0.3)
-        self.assertEqual(likely(facts(waits_of_some_turns={"taskwait at a.c:9"}), seen, change), 0.9)
+        self.assertEqual(likely(facts(needless={"taskwait at a.c:9"}), seen, change), 0.9)
 
     def test_the_ends_of_a_program(self):
         begins = place(BEGINS, SERIAL)

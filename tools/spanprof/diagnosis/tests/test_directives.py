@@ -1,6 +1,7 @@
 import unittest
 
-from spanprof.diagnosis.directives import block_around, construct_of, directive_line, is_of_some_turns, own_item
+from spanprof.diagnosis.directives import (block_around, construct_of, directive_line, ends_a_turn, is_between_halves,
+                                           is_of_some_turns, own_item)
 
 BATCHES = """int main() {
     for (int i = 0; i < 50; i++) {
@@ -65,6 +66,28 @@ class Directives(unittest.TestCase):
         self.assertIsNone(own_item([*lines[:7], "      s += x[i];", "  }", "  part[me] = s;", "}"], 7, 8))
         self.assertIsNone(own_item([*lines[:7], "      part[8 * me] += x[i];", "  }"], 7, 8))
         self.assertEqual(own_item(["  n[omp_get_thread_num()]++;"], 1, 1), ("n[omp_get_thread_num()]", 1))
+
+    def test_a_wait_that_ends_turns_with_data_of_their_own(self):
+        def is_one(turns, task, behind="}"):
+            return ends_a_turn([turns, "  for (int b = 0; b < 6; b++)", "#pragma omp task", task,
+                                "#pragma omp taskwait", "", behind], 5)
+        turns = "for (long shelf = 0; shelf < 30; shelf++) {"
+        self.assertTrue(is_one(turns, "found[shelf * 6 + b] = box(n);"))
+        self.assertTrue(is_one("for (const auto &shelf : shelves) {", "box(shelf, b);"))
+        self.assertFalse(is_one(turns, "found[b] = box(n);"))                   # the same data in each turn
+        self.assertFalse(is_one(turns, "relax(grid[shelf % 2], b);"))           # two of them
+        self.assertFalse(is_one(turns, "found[shelf] = box(n);", "use(found);"))
+        self.assertFalse(is_one("while (n--) {", "box(n);"))
+        self.assertFalse(ends_a_turn(BATCHES, 19))
+
+    def test_a_wait_between_two_halves(self):
+        lines = ["void sort(int *a, int n) {", "#pragma omp task", "  sort(a, n / 2);", "#ifndef FIXED",
+                 "#pragma omp taskwait", "#endif", "#pragma omp task // the rest", "  sort(a + n / 2, n - n / 2);",
+                 "#pragma omp taskwait", "  merge(a, n);", "}"]
+        self.assertTrue(is_between_halves(lines, 5))
+        self.assertFalse(is_between_halves(lines, 9))
+        self.assertFalse(is_between_halves([*lines[:7], "  merge(a, n);", *lines[8:]], 5))
+        self.assertFalse(is_between_halves([*lines[:7], lines[2], *lines[8:]], 5))
 
     def test_a_wait_behind_the_loop_that_makes_the_tasks(self):
         self.assertFalse(is_of_some_turns(BATCHES, 17))

@@ -8,9 +8,9 @@ from unittest import mock
 from spanprof.account import Account, Row, Rows
 from spanprof.diagnosis import facts as module
 from spanprof.diagnosis.calls import Sampled, calls_of
-from spanprof.diagnosis.facts import (Facts, costs_of, elapsed_in, function_in, inner_regions, kept_waiting,
-                                      nested_threads, of_those_at_once, off_by_segment, regions_of, runtime_name,
-                                      set_idle, set_meta, set_off, set_ranks, starting_shares)
+from spanprof.diagnosis.facts import (Facts, elapsed_in, function_in, inner_regions, nested_threads, of_those_at_once,
+                                      off_by_segment, regions_of, runtime_name, set_meta, set_off, set_ranks,
+                                      starting_shares)
 from spanprof.diagnosis.lock_times import Held, locks_of
 from spanprof.diagnosis.places import AFTER_REGION, OWN
 from spanprof.diagnosis.tests.worked import MS, TEXT, facts, program
@@ -52,14 +52,6 @@ class OfText(unittest.TestCase):
         differ = '# clocks differ: {"affected": 9, "work": 9, "by": 32, "times": 1}'
         module.set_by_greedy(self.found, read_head(HEAD + differ), 90)
         self.assertEqual((self.found.code, self.found.preempted, self.found.starved), (100000, 32000, 48000))
-
-    def test_costs_have_no_time_in_which_a_thread_was_preempted(self):
-        off, code = {4: (1000, 50000), 2: (0, 5000)}, program().code
-        costs = costs_of(code, off, read_head(HEAD))
-        self.assertEqual([costs[s] - 1000 * code.cost[s] for s in (2, 3, 4)], [-5000, 0, -50000])
-        self.assertEqual(costs_of(code, {0: (0, 99 * MS)}, read_head(HEAD))[0], 0)
-        cpu = read_head(HEAD.replace('"wall"', '"cpu"'))
-        self.assertEqual(list(costs_of(code, off, cpu)), [1000 * cost for cost in code.cost])
 
     def test_time_off_the_processor_by_place(self):
         set_off(self.found, {4: (1000, 50000), 2: (0, 5000)}, program())
@@ -139,15 +131,6 @@ class Starting(unittest.TestCase):
         places = [OWN + " at a.c:3", OWN + " at a.c:3", AFTER_REGION + " at a.c:3", "task at a.c:5"]
         found = starting_shares(SimpleNamespace(rows=Rows.of(rows), places=places))
         self.assertEqual(found, {places[0]: 52000 / 152000, places[2]: 1.0})
-
-    def test_who_starves_while_code_is_preempted_more_than_on_average_waits_for_that(self):
-        run = facts(preempted=0, preempted_in={1: 60})
-        rows = [Row(0, 0, 0, 40), Row(1, 0, 0, 100), Row(2, 0, 0, 40), Row(3, 0, 0, 40)]
-        set_idle(run, Account(4, 100, 220, 0, 180, 0, rows=Rows.of(rows), places=["a", "b", "a", "a"]))
-        self.assertEqual((run.starved_by, run.starved_off), ({"b": 180}, {"b": 180}))
-        run = facts(preempted=100 * MS)      # a quarter of the time of all code
-        self.assertEqual(kept_waiting(run, 100, 60, 180), 105 + 75 // 4)
-        self.assertEqual(kept_waiting(run, 100, 25, 180), 45)
 
     def test_threads_that_only_took_turns_are_not_idle(self):
         rows = [Row(0, 0, 0, 10), Row(5, 10, 10, 30), Row(0, 30, 30, 40)]

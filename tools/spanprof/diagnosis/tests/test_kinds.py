@@ -71,13 +71,20 @@ class Kinds(unittest.TestCase):
             found.places[making.name] = making
             self.assertEqual(self.first(found), kind)
 
+    def test_tasks_in_a_row(self):
+        chain = place(TASKS, again=5)
+        chain.items.update({("inout", "a%d" % number): 2 for number in range(4)})
+        self.assertEqual(self.first(starved_at(chain)), "dependence")
+        chain.again = 4
+        self.assertEqual(self.first(starved_at(chain)), "too_few_tasks")
+
     def test_undeferred(self):
         self.assertEqual(self.first(starved_at(place(TASKS, undeferred=8))), "undeferred")
 
     def test_loop_schedule(self):
         turns = place("turns of the loop at image.c:9", SHARE, uneven=200 * MS)
         self.assertEqual(self.first(delayed_at(turns)), "loop_schedule")
-        turns.uneven = 20 * MS      # what others waited for more is no fault of how it is divided
+        turns.uneven = 9 * MS      # what others waited for more is no fault of how it is divided
         self.assertEqual(self.first(delayed_at(turns, preempted=20 * MS)), "machine")
         held = [Held("image.c:27", "critical", 9, 1, 150 * MS)]
         self.assertEqual(self.first(delayed_at(turns, at_locks=20 * MS, locks=held)), "lock")
@@ -130,6 +137,12 @@ class Kinds(unittest.TestCase):
         self.assertEqual(self.first(found), "machine")
         inner = place(AFTER_REGION + " at image.c:20", SHARE, cost=MS, pieces=30, tasks=0)
         self.assertEqual(self.first(delayed_at(inner)), "machine")
+
+    def test_small_regions_without_times(self):
+        run = facts([place(TASKS)], delayed=200 * MS, regions=[Region("image.c:20", 4, 90 * MS, times=9000)])
+        self.assertEqual((self.first(run), diagnose(run).causes[0].place), ("small_regions", "image.c:20"))
+        run.regions[0].times = 90
+        self.assertEqual(self.first(run), "machine")
 
     def test_uneven_starts_of_small_regions(self):
         turns = place("turns of the loop at image.c:20", SHARE, cost=100 * MS, pieces=9000)

@@ -82,6 +82,15 @@ class Losses(unittest.TestCase):
         self.assertEqual(system(user_ns=310 * MS, system_ns=120 * MS), 0)
         self.assertEqual(system(user_ns=290 * MS, system_ns=110 * MS, minor_faults=10000), 40 * MS)
 
+    def test_pages_that_are_taken_again_are_a_loss_and_those_that_are_taken_once_are_not(self):
+        def lost(pages, asleep=0):
+            usage = {"user_ns": 350 * MS, "system_ns": 50 * MS, "minor_faults": 12000, "peak_bytes": 4096 * pages}
+            found = facts([place("task at a.c:1")], usage=usage, asleep=asleep, asleep_by={"task at a.c:1": asleep},
+                          calls=Sampled({"task at a.c:1": {("main",): 9}}, {}))
+            return sum(loss.time for loss in losses(found) if loss.kind == "system")
+        self.assertEqual((lost(12000), lost(2000)), (0, 40 * MS))
+        self.assertEqual(lost(2000, asleep=30 * MS), 70 * MS)   # while others change what memory there is
+
     def test_code_of_several_threads_is_shared_out_unevenly(self):
         parts = place("code of one of the region's threads", OF_THREADS, cost=40 * MS, pieces=4, tasks=4,
                       uneven=60 * MS)

@@ -22,6 +22,13 @@ class Places(unittest.TestCase):
         self.assertEqual(place.positions[("in", "a2")], 0)
         self.assertEqual(program().places["task at image.c:33"].undeferred, 1)
 
+    def test_tasks_that_write_the_same_as_the_one_before(self):
+        text = "omptasks 1\n" + "".join(
+            "task depend(%s) {  # a.c:%d\nwork 1\n}\n" % pair for pair in
+            (("inout: a1", 3), ("inout: a1", 3), ("inout: a1", 3), ("inout: a2", 3), ("in: a2", 5), ("in: a2", 5)))
+        found = program(text).places
+        self.assertEqual([found["task at a.c:%d" % line].again for line in (3, 5)], [2, 0])
+
     def test_threads_code_has_its_region(self):
         lines = ["omptasks 1\n"]
         for at in ("a.c:3", "a.c:9", "a.c:3"):

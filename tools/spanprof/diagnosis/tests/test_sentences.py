@@ -1,4 +1,5 @@
 import unittest
+from collections import Counter
 from types import SimpleNamespace
 
 from spanprof.diagnosis.calls import Sampled
@@ -9,7 +10,7 @@ from spanprof.diagnosis.facts import Region
 from spanprof.diagnosis.lock_times import Held
 from spanprof.diagnosis.losses import Loss
 from spanprof.diagnosis.names import Names, Suspect, block_end, items_in
-from spanprof.diagnosis.places import OF_THREADS, OWN, SERIAL, SHARE, TASK, Place
+from spanprof.diagnosis.places import AFTER_REGION, OF_THREADS, OWN, SERIAL, SHARE, TASK, Place
 from spanprof.diagnosis.plan import Step
 from spanprof.diagnosis.schema import as_json
 from spanprof.diagnosis.sentences import (WIDTH, change_sentence, first_digits, lost_sentence, short_lines, shortened,
@@ -109,8 +110,9 @@ class Sentences(unittest.TestCase):
             "more  spanprof-record --all"])
 
     def test_page_faults_are_told_where_they_are_most_of_it(self):
-        for faults, told in ((90000, "85 % of the processor time is the kernel's: 90,000 page faults"),
-                             (600, "85 % of the processor time is the kernel's: system calls")):
+        at = " in image.c:9 (tone)"
+        for faults, told in ((90000, "85 % of the processor time is the kernel's: 90,000 page faults" + at),
+                             (600, "85 % of the processor time is the kernel's: system calls" + at)):
             run = found(usage={"user_ns": 60 * MS, "system_ns": 340 * MS, "minor_faults": faults})
             self.assertEqual(lost_sentence(run, Names(run, SOURCES), Loss("system", TASKS, 1)), told)
 
@@ -149,10 +151,49 @@ class Sentences(unittest.TestCase):
         self.assertEqual(list(map(first_digits, (7, 42, 999, 1178648))), [7, 42, 990, 1100000])
 
     def test_in_place_of_what_is_contended(self):
-        found = [Suspect("", "a.c:9"), Suspect("part[me]", "a.c:9")]
+        found = [Suspect("", "a.c:9", True), Suspect("part[me]", "a.c:9")]
         self.assertEqual(list(map(str, found)), ["the atomic at a.c:9", "part[me] next to other threads' (a.c:9)"])
-        self.assertEqual([one.instead for one in found], ["a reduction in place of the atomic at a.c:9",
-                                                          "a local copy of part[me] (a.c:9), written back once"])
+        self.assertEqual([one.instead for one in found + [Suspect("", "a.c:9")]], [
+            "a reduction in place of the atomic at a.c:9", "a local copy of part[me] (a.c:9), written back once",
+            "a local copy of what a.c:9 writes, written back once"])
+
+    def test_what_samples_show_is_contended_is_told_with_its_line(self):
+        run = found()
+        run.places[TASKS].cost = 300 * MS
+        ran = {("main", "tone"): 10 * 4000}
+        run.calls = Sampled({TASKS: ran}, {}, {TASKS: Counter({"image.c:11": 24000, "image.c:12": 8000})})
+        lines = short_lines(diagnose(run), Names(run, SOURCES))
+        self.assertEqual(lines[1:3], [
+            "lost  60 %  threads write the same cache lines at once: image.c:11 and image.c:12",
+            "do    a local copy of what image.c:11 writes, written back once            100 ms -> at best 40.0 ms"])
+        self.assertIn("not known: what it costs on one thread: --full", lines[4])
+
+    def test_serial_code_is_told_by_the_lines_that_samples_saw(self):
+        run = found()
+        run.calls = Sampled({"the beginning": {("main",): 10 * 4000}}, {}, {},
+                            {"the beginning": Counter({"image.c:13": 20000, "image.c:14": 16000, "image.c:5": 4000})})
+        self.assertEqual(Names(run, SOURCES).place("the beginning"), "main (image.c:13-14)")
+        run.calls.ran["the beginning"] = {("main", "fill"): 10 * 4000}
+        self.assertEqual(Names(run, SOURCES).place("the beginning"), "fill (called by main)")
+
+    def test_what_a_thread_does_itself_for_each_task_is_moved_into_it(self):
+        run = found()
+        maker = place("after creating a task at image.c:9", OF_THREADS, cost=200 * MS, pieces=400, tasks=0)
+        run.places[maker.name] = maker
+        run.calls = Sampled({maker.name: {("main", "split"): 10 * 4000}}, {})
+        step = Step("creation", TASKS, 100 * MS, 50 * MS, 40 * MS, 60 * MS)
+        self.assertEqual(change_sentence(run, Names(run, SOURCES), step), "move split into the task at image.c:9")
+        maker.pieces = 400000
+        self.assertIn("larger tasks at image.c:9", change_sentence(run, Names(run, SOURCES), step))
+
+    def test_many_barriers_are_not_many_regions(self):
+        run = found(regions=[Region("image.c:6", 4, 90 * MS, times=9000)])
+        self.assertEqual(lost_sentence(run, Names(run, SOURCES), Loss("small_regions", "image.c:6", 1)),
+                         "9,000 regions at image.c:6 take 10.0 us each: starting them costs too much")
+        run.regions[0].times, name = 1, AFTER_REGION + " at image.c:6"
+        run.places[name] = Place(name, SERIAL, pieces=9000)
+        self.assertEqual(lost_sentence(run, Names(run, SOURCES), Loss("small_regions", "image.c:6", 1)),
+                         "9,000 barriers at image.c:6, 10.0 us apart: waiting at them costs too much")
 
     def test_of_a_lock_of_the_system_only_the_waits_are_counted(self):
         self.assertEqual([times_of(Held("a.c:1", kind, 9000, 1, 2)) for kind in ("critical", "mutex")],
@@ -183,7 +224,7 @@ class Sentences(unittest.TestCase):
                 ("in-for-inout", "a0", "dependence",
                  "depend(in: tab[f(0, 1)]) at image.c:9 if only read, or a copy for each"),
                 ("drop-depend", TASKS, "dependence",
-                 "no depend items at image.c:9, if the tasks may run in any order"),
+                 "finer depend items at image.c:9, or none if no order is needed"),
                 ("drop-wait", "taskwait at image.c:12", "wait",
                  "leave out the taskwait at image.c:12, if no result is needed yet"),
                 ("defer", TASKS, "undeferred", "defer more tasks at image.c:9: change its if or final"),

@@ -8,7 +8,7 @@ from spanprof.record.facts import (facts_of_program, facts_of_run, processors_of
 from spanprof.record.run import Ended
 from spanprof.regions import Program, Region
 
-USED = resource.struct_rusage((1.5, 0.25, 0, 0, 0, 0, 410, 3, 0, 0, 0, 0, 0, 0, 12, 7))
+USED = resource.struct_rusage((1.5, 0.25, 8, 0, 0, 0, 410, 3, 0, 0, 0, 0, 0, 0, 12, 7))
 ENDED = Ended(0, 5000, USED)
 PROGRAM = Program(5000, [Region(1, 1, 0, 100, 4, 8, 0, 90, 0, "a.c:3"),
                          Region(2, 0, 200, 900, 2, 0, 1, 90, 0, "a.c:9"),
@@ -18,8 +18,8 @@ PROGRAM = Program(5000, [Region(1, 1, 0, 100, 4, 8, 0, 90, 0, "a.c:3"),
 class Usage(unittest.TestCase):
     def test_fields(self):
         self.assertEqual(usage_of(USED), {
-            "user_ns": 1500000000, "system_ns": 250000000, "minor_faults": 410, "voluntary_switches": 12,
-            "involuntary_switches": 7})
+            "user_ns": 1500000000, "system_ns": 250000000, "minor_faults": 410, "peak_bytes": 8192,
+            "voluntary_switches": 12, "involuntary_switches": 7})
 
 
 class Processors(unittest.TestCase):

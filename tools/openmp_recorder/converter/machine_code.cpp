@@ -1,0 +1,156 @@
+#include "machine_code.hpp"
+
+#include <algorithm>
+#include <cstdio>
+#include <cstdlib>
+#include <cstring>
+
+#include "source.hpp"
+
+namespace {
+// Instructions: what takes long has its sample at the next one, or soon behind; where it is tried anew, before it.
+constexpr unsigned most_back = 3, most_ahead = 2;
+
+bool begins_with(const std::string &word, std::initializer_list<const char *> starts) {
+  return std::any_of(starts.begin(), starts.end(), [&](auto *start) { return !word.rfind(start, 0); });
+}
+
+// `add` of `lock addq $0x1,(%rax)`; the rest has the operands.
+std::string name_of(const std::string &instruction, std::string *rest = nullptr) {
+  size_t begin = 0, end = 0;
+  std::string name;
+  do {
+    begin = instruction.find_first_not_of(" \t", end);
+    if (begin == std::string::npos) return name;
+    end = std::min(instruction.find_first_of(" \t", begin), instruction.size());
+    name = instruction.substr(begin, end - begin);
+  } while (begins_with(name, {"lock", "bnd", "notrack", "data16", "rep"}));
+  if (rest) *rest = instruction.substr(end, instruction.find_first_of("#<", end) - end);
+  return name;
+}
+
+// At the commas that stand in no brackets.
+std::vector<std::string> operands_of(const std::string &rest) {
+  std::vector<std::string> out(1);
+  int depth = 0;
+  for (char c : rest) {
+    depth += (c == '(') - (c == ')');
+    if (c == ',' && !depth) out.emplace_back();
+    else if (c != ' ' && c != '\t') out.back() += c;
+  }
+  return out;
+}
+
+// As DWARF numbers them, of whatever width; -1 of all others.
+int register_of(std::string name) {
+  if (name.size() < 3 || name[0] != '%') return -1;
+  name.erase(0, 1);
+  if (name[0] == 'r' && name[1] >= '0' && name[1] <= '9') {
+    int number = std::atoi(name.c_str() + 1);
+    return number < static_cast<int>(log_form::general_registers) ? number : -1;
+  }
+  if (name.size() == 3 && (name[0] == 'r' || name[0] == 'e')) name.erase(0, 1);
+  if (name.size() == 2 && (name[1] == 'l' || name[1] == 'h')) name[1] = 'x';
+  constexpr const char *names[] = {"ax", "dx", "cx", "bx", "si", "di", "bp", "sp"};
+  for (int i = 0; i < 8; i++)
+    if (!name.compare(0, 2, names[i]) && name.size() < 4) return i;
+  return -1;
+}
+
+bool is_memory(const std::string &operand) {
+  if (operand.find(':') != std::string::npos) return false;  // of the thread's own, or of a string
+  return operand.find('(') != std::string::npos || !operand.compare(0, 2, "0x");
+}
+
+// The last operand is what an instruction writes, but for those that only compare, and those with one that read it.
+bool writes_last(const std::string &name, size_t operands) {
+  if (begins_with(name, {"cmpxchg", "xchg", "xadd"})) return true;
+  if (operands == 1) return begins_with(name, {"inc", "dec", "not", "neg", "set", "fst", "fist", "pop"});
+  return !begins_with(name, {"cmp", "test", "ucomi", "comi", "vucomi", "vcomi", "ptest", "vptest", "push"}) &&
+         name != "bt" && name != "btl" && name != "btq";
+}
+}  // namespace
+
+bool goes_elsewhere(const std::string &instruction) {
+  return begins_with(name_of(instruction), {"j", "call", "ret", "leave", "syscall"});
+}
+
+int written_register(const std::string &instruction) {
+  std::string rest, name = name_of(instruction, &rest);
+  std::vector<std::string> all = operands_of(rest);
+  return writes_last(name, all.size()) || begins_with(name, {"lea"}) ? register_of(all.back()) : -1;
+}
+
+std::optional<MemoryUse> memory_use(const std::string &instruction) {
+  std::string rest, name = name_of(instruction, &rest);
+  if (begins_with(name, {"lea", "nop", "prefetch"}) || goes_elsewhere(instruction)) return std::nullopt;
+  std::vector<std::string> all = operands_of(rest);
+  auto found = std::find_if(all.begin(), all.end(), is_memory);
+  if (found == all.end()) return std::nullopt;
+  MemoryUse use{0};
+  size_t bracket = std::min(found->find('('), found->size());
+  use.displacement = std::strtoull(found->c_str(), nullptr, 16);
+  std::string inside = bracket < found->size() ? found->substr(bracket + 1, found->find(')') - bracket - 1) : "";
+  use.of_file = inside == "%rip";
+  if (size_t told = instruction.find("# "); use.of_file) {
+    if (told == std::string::npos) return std::nullopt;
+    use.displacement = std::strtoull(instruction.c_str() + told + 2, nullptr, 16);
+  } else if (!inside.empty()) {
+    std::vector<std::string> parts = operands_of(inside);
+    use.base = register_of(parts[0]);
+    if (parts.size() > 1) use.index = register_of(parts[1]);
+    if (parts.size() > 2) use.scale = static_cast<unsigned>(std::atoi(parts[2].c_str()));
+    if ((!parts[0].empty() && use.base < 0) || (parts.size() > 1 && use.index < 0)) return std::nullopt;
+  }
+  use.writes = found + 1 == all.end() && writes_last(name, all.size());
+  return use;
+}
+
+// A line is `  4014a5:<tab>add    $0x1,%rax`.
+Instructions disassembled(const ModuleOfRun &module, uint64_t first, uint64_t end) {
+  char range[96];
+  snprintf(range, sizeof range, " --start-address=0x%zx --stop-address=0x%zx ", static_cast<size_t>(first),
+           static_cast<size_t>(end));
+  std::string command = "objdump -d --no-show-raw-insn" + std::string(range) + quoted(module.path) + " 2>/dev/null";
+  Instructions out;
+  FILE *lines = popen(command.c_str(), "r");
+  char line[512];
+  while (lines && fgets(line, sizeof line, lines)) {
+    char *behind = nullptr;
+    uint64_t at = std::strtoull(line, &behind, 16);
+    if (behind != line && behind[0] == ':' && behind[1] == '\t')
+      out[at] = std::string(behind + 2, strcspn(behind + 2, "\n"));
+  }
+  if (lines) pclose(lines);
+  return out;
+}
+
+std::vector<MemoryUse> used_near(const Instructions &all, uint64_t code) {
+  std::vector<MemoryUse> out;
+  std::vector<int> written;
+  auto add = [&](Instructions::const_iterator one) {
+    std::optional<MemoryUse> use = memory_use(one->second);
+    auto is_same = [&](int it) { return it < 0 || std::find(written.begin(), written.end(), it) == written.end(); };
+    if (!use || !is_same(use->base) || !is_same(use->index)) return;
+    use->code = one->first;
+    out.push_back(*use);
+  };
+  auto here = all.find(code), back = here;
+  for (unsigned i = 0; i < most_back && back != all.begin() && back != all.end(); i++) {
+    --back;
+    if (goes_elsewhere(back->second)) break;
+    written.push_back(written_register(back->second));
+    add(back);
+  }
+  written.clear();
+  for (unsigned i = 0; i < most_ahead && here != all.end() && !goes_elsewhere(here->second); i++, ++here) {
+    add(here);
+    written.push_back(written_register(here->second));
+  }
+  return out;
+}
+
+uint64_t address_of(const MemoryUse &use, const Registers &registers, const ModuleOfRun &module) {
+  auto value = [&](int number) { return number < 0 ? 0 : registers[static_cast<size_t>(number)]; };
+  return (use.of_file ? module.base : 0) + use.displacement + value(use.base) + use.scale * value(use.index);
+}

@@ -1,0 +1,30 @@
+// What instructions do with memory, by objdump: which address one used, where the registers behind it are known.
+#pragma once
+#include <map>
+#include <optional>
+#include <string>
+#include <vector>
+
+#include "logged_samples.hpp"
+#include "modules_of_run.hpp"
+
+struct MemoryUse {
+  uint64_t code;  // of the instruction, as the module's file has it
+  int base = -1, index = -1;  // numbers of registers
+  unsigned scale = 1;
+  uint64_t displacement = 0;
+  bool of_file = false;  // then that is an address of the file
+  bool writes = false;
+};
+
+// `lock addq $0x1,0x10(,%rcx,8)`: the memory that it uses, and whether its registers are still the same behind it;
+// nothing where it uses none, or one that only the processor knows.
+std::optional<MemoryUse> memory_use(const std::string &instruction);
+int written_register(const std::string &instruction);  // -1 where it writes none, or none that is known
+bool goes_elsewhere(const std::string &instruction);  // as jumps and calls do
+
+using Instructions = std::map<uint64_t, std::string>;  // by their addresses in the file
+Instructions disassembled(const ModuleOfRun &module, uint64_t first, uint64_t end);
+// What a thread used that was interrupted before an instruction, by the few around it: the last one before it first.
+std::vector<MemoryUse> used_near(const Instructions &all, uint64_t code);
+uint64_t address_of(const MemoryUse &use, const Registers &registers, const ModuleOfRun &module);

@@ -1,0 +1,98 @@
+#include "shared_lines.hpp"
+
+#include <algorithm>
+#include <map>
+
+#include "machine_code.hpp"
+
+namespace {
+constexpr unsigned line_bits = 6;
+constexpr int64_t at_once = 20000000;  // nanoseconds, five samples of a thread
+constexpr size_t most_functions = 16;
+constexpr uint64_t longest = 1 << 14, most_bytes = 32;  // of a function, and of two instructions
+constexpr uint64_t least = 100;  // of all sampled time, the part of a function that is looked at
+
+struct Function {
+  const ModuleOfRun *module;
+  uint64_t first;  // in the file
+  bool operator<(const Function &other) const {
+    return module != other.module ? module < other.module : first < other.first;
+  }
+};
+
+struct Found {
+  uint64_t time = 0, end = 0;
+  std::vector<size_t> samples;
+};
+
+uint64_t in_file(const Interrupted &one, const ModuleOfRun &module) { return one.code - module.base; }
+
+// A long one, or code without a symbol, is read from a little before: instructions are soon found again.
+uint64_t begin_of(uint64_t at, const ModuleOfRun &module) {
+  auto symbol = module.file ? module.file->function_at(at) : std::nullopt;
+  uint64_t far = longest / 64;
+  return symbol && symbol->offset < longest ? at - symbol->offset : at - std::min(at, at % far + far);
+}
+
+std::map<Function, Found> functions_of(const Stacks &stacks, const ModulesOfRun &modules) {
+  std::map<Function, Found> found;
+  for (size_t i = 0; i < stacks.interrupted.size(); i++) {
+    const Interrupted &one = stacks.interrupted[i];
+    const ModuleOfRun *module = modules.of(reinterpret_cast<const void *>(one.code));
+    if (!module || module->is_runtime) continue;
+    uint64_t at = in_file(one, *module);
+    Found &function = found[{module, begin_of(at, *module)}];
+    function.time += one.stands_for;
+    function.end = std::max(function.end, at + most_bytes);
+    function.samples.push_back(i);
+  }
+  return found;
+}
+
+// Those in which most of the time was spent: each is read by a program of its own.
+std::vector<std::pair<Function, Found>> longest_of(const std::map<Function, Found> &found) {
+  std::vector<std::pair<Function, Found>> out(found.begin(), found.end());
+  uint64_t whole = 0;
+  for (auto &one : out) whole += one.second.time;
+  std::sort(out.begin(), out.end(), [](auto &one, auto &other) { return one.second.time > other.second.time; });
+  size_t many = 0;
+  while (many < std::min(out.size(), most_functions) && out[many].second.time * least >= whole) many++;
+  out.resize(many);
+  return out;
+}
+}  // namespace
+
+std::vector<bool> are_contended(const std::vector<Used> &all) {
+  std::map<uint64_t, std::vector<size_t>> by_line;
+  for (size_t i = 0; i < all.size(); i++) by_line[all[i].address >> line_bits].push_back(i);
+  std::vector<bool> out(all.size());
+  for (auto &[line, uses] : by_line) {
+    std::sort(uses.begin(), uses.end(), [&](size_t one, size_t other) { return all[one].wall < all[other].wall; });
+    for (size_t i = 0; i < uses.size(); i++)
+      for (size_t j = i + 1; j < uses.size() && all[uses[j]].wall - all[uses[i]].wall < at_once; j++) {
+        const Used &one = all[uses[i]], &other = all[uses[j]];
+        if (one.thread != other.thread && (one.writes || other.writes)) out[uses[i]] = out[uses[j]] = true;
+      }
+  }
+  return out;
+}
+
+std::vector<const void *> contending(const Stacks &stacks, const ModulesOfRun &modules) {
+  std::vector<Used> all;
+  std::vector<const void *> places, out(stacks.interrupted.size());
+  for (auto &[function, found] : longest_of(functions_of(stacks, modules))) {
+    const ModuleOfRun &module = *function.module;
+    Instructions code = disassembled(module, function.first, found.end);
+    for (size_t i : found.samples) {
+      const Interrupted &one = stacks.interrupted[i];
+      for (const MemoryUse &use : used_near(code, in_file(one, module))) {
+        all.push_back({i, address_of(use, one.registers, module), one.thread, one.wall, use.writes});
+        places.push_back(reinterpret_cast<const void *>(module.base + use.code + 1));
+      }
+    }
+  }
+  std::vector<bool> contended = are_contended(all);
+  for (size_t i = all.size(); i-- > 0;)
+    if (contended[i]) out[all[i].sample] = places[i];
+  return out;
+}
