@@ -60,7 +60,7 @@ def is_of_ranks(calls):
 
 
 def samples_in(path):
-    """A line of the file has a segment, what it did, microseconds, and in which calls: `12 ran 8000 main;sort;compare`."""
+    """A line of the file has a segment, what it did, how long and in which calls: `12 ran 8000 main;sort;compare`."""
     if path:
         with reading(path), open(path, encoding="utf-8", errors="replace") as lines:
             for line in lines:
