@@ -74,12 +74,11 @@ def write(path, files, record):
     """With the time that SOURCE_DATE_EPOCH says, so that one commit makes one wheel."""
     date = time.gmtime(max(EPOCH, int(os.environ.get("SOURCE_DATE_EPOCH", EPOCH))))[:6]
     lines = "".join(record_line(name, words) for name, words, _ in files) + record + ",,\n"
-    with zipfile.ZipFile(path, "w", zipfile.ZIP_DEFLATED) as wheel:
+    with zipfile.ZipFile(path, "w") as wheel:
         for name, words, mode in files + [(record, lines.encode(), PLAIN)]:
             about = zipfile.ZipInfo(name, date)
             setattr(about, "external_attr", mode << 16)
-            about.compress_type = zipfile.ZIP_DEFLATED
-            wheel.writestr(about, words)
+            wheel.writestr(about, words, zipfile.ZIP_DEFLATED)
 
 
 def main(prefix, folder, glibc):

@@ -268,6 +268,10 @@ if command -v mpicc > /dev/null && command -v mpirun > /dev/null; then
     [ "$(grep -c 'ranks.rank[0-2].spanprof, the whole program' err)" = 3 ] || fail "a launcher: not a line for each rank"
     for rank in 0 1 2; do expect_recording ranks.rank$rank; done
     rm -r ranks.rank*
+    expect "a late rank" 0 spanprof-record -- mpirun --oversubscribe -n 3 ./ranks late
+    expect_word "a late rank" 'rank  the others wait for rank 1: '
+    expect_word "a late rank" 'spanprof-report ranks.rank1.spanprof'
+    rm -r ranks.rank*
     expect "ranks" 0 mpirun --oversubscribe -n 3 spanprof-record --all --unit us -- ./ranks
     [ "$(grep -c '^ranks.rank[0-2].spanprof, the whole program' err)" = 3 ] || fail "ranks: not a line for each"
     for rank in 0 1 2; do expect_recording ranks.rank$rank; done

@@ -98,17 +98,19 @@ def writing_there(path, mode, how):
 def writing(path, mode="w", **how):
     """A file that gets its name once it is whole; where it cannot be written the one of that name stays."""
     how = how if "b" in mode else {"encoding": "utf-8", **how}
-    path = os.path.realpath(path) if path != "-" else path
+    final = os.path.realpath(path)
     with naming(path):
-        if path == "-" or os.path.exists(path) and not os.path.isfile(path):
+        if path == "-" or os.path.exists(final) and not os.path.isfile(final):
             with writing_there(path, mode, how) as file:
                 yield file
             return
-        part = "%s.part%d" % (path, os.getpid())
+        if os.path.exists(final) and not os.access(final, os.W_OK):
+            raise PermissionError(errno.EACCES, os.strerror(errno.EACCES))
+        part = "%s.part%d" % (final, os.getpid())
         try:
             with open(part, mode, **how) as file:
                 yield file
-            os.replace(part, path)
+            os.replace(part, final)
         finally:
             if os.path.exists(part):
                 os.remove(part)

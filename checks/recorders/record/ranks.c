@@ -1,5 +1,6 @@
-// Each process of MPI's runs tasks of its own, the later the more.
+// Each process of MPI's runs tasks of its own, the later the more. With a word the others then wait for rank 1.
 #include <mpi.h>
+#include <time.h>
 #include <unistd.h>
 
 int main(int count, char **words) {
@@ -12,6 +13,9 @@ int main(int count, char **words) {
 #pragma omp task
         usleep(2000);
     }
+    while (count > 1 && rank == 1 && clock() < CLOCKS_PER_SEC) {
+    }
+    MPI_Barrier(MPI_COMM_WORLD);
     MPI_Finalize();
     return 0;
 }

@@ -85,7 +85,8 @@ class Printed(InFolder):
         self.assertEqual(told[-1], "other ranks   mine.rank0.spanprof, the whole program: work 100 us, span 70 us")
 
     def test_the_rank_that_others_wait_for(self):
-        folders = [recording(self.folder, "mine.rank%d" % rank, calls="0 ran %d main;MPI_Recv\n0 ran 90000 sort\n" % time)
+        calls = "0 ran %d main;MPI_Recv\n0 ran 90000 sort\n"
+        folders = [recording(self.folder, "mine.rank%d" % rank, calls=calls % time)
                    for rank, time in enumerate((80000, 2000, 90000))]
         self.works["mine.rank0.spanprof"] = 200
         told = self.told(*folders)
@@ -96,8 +97,9 @@ class Printed(InFolder):
         self.diagnosed.side_effect = lambda _, is_cut: (None, "no diagnosis") if is_cut else self.fail("diagnosed")
         stopped = {"told": "stopped", "why": "full", "recorded": 1500000}
         told = self.told(recording(self.folder), things=[stopped], all=False)
-        self.assertEqual(told, ["mine.spanprof: a note", "mine.spanprof: the disk was full 1.5 ms after recording began, "
-                                "and what followed is not recorded", "mine.spanprof: no diagnosis"])
+        self.assertEqual(told, ["mine.spanprof: a note",
+                                "mine.spanprof: the disk was full 1.5 ms after recording began, and what followed is "
+                                "not recorded", "mine.spanprof: no diagnosis"])
 
     def test_children_have_no_summary(self):
         told = self.told(recording(self.folder), recording(self.folder, "mine.child1"))

@@ -5,7 +5,8 @@ from spanprof.recording import open_recording
 from spanprof.tests.in_folder import InFolder
 from spanprof.tests.recordings import recording
 
-CALLS = "0 ran 90000 main;PMPI_Init\n0 slept 20000 main;MPI_Allreduce\n1 ran 30000 main;PMPI_Waitall\n1 ran 9000 relax\n"
+CALLS = "0 ran 90000 main;PMPI_Init\n0 slept 20000 main;MPI_Allreduce\n1 ran 30000 main;PMPI_Waitall\n" \
+    "1 ran 9000 relax\n"
 
 
 def of(*times):
