@@ -3,7 +3,6 @@ import unittest
 
 from spanprof.diagnosis.calls import Sampled
 from spanprof.diagnosis.facts import Region
-from spanprof.diagnosis.calls import Sampled
 from spanprof.diagnosis.losses import Loss, by_place, code_on_one, divided, losses, system_time
 from spanprof.diagnosis.places import OF_THREADS, SERIAL, SHARE, TASK
 from spanprof.diagnosis.tests.worked import MS, facts, place
