@@ -116,7 +116,9 @@ struct Named {
 
 std::string line_of(const Calls &calls, const Places &places) {
   for (const void *code : calls)
-    if (const auto &frames = places.frames(code); !frames.empty() && !frames[0].of_library) return frames[0].at;
+    if (const auto &frames = places.frames(code);
+        library_of_system(code, places).empty() && !frames.empty() && !frames[0].of_library)
+      return frames[0].at;
   return "";
 }
 

@@ -98,6 +98,9 @@ const std::string &Places::path(const std::string &file) const {
 
 void Places::take(const void *code, std::vector<Frame> frames) {
   leave_headers(frames);
+  // A construct's function of gcc may begin with code of a function that is inlined in it.
+  if (of_run && of_run->begins_construct(code) && frames.size() > 1 && frames.back().is_outlined)
+    frames.erase(frames.begin(), frames.end() - 1);
   bool has_line = !frames.empty() && is_known(frames[0].at);
   if (has_line) known[code] = frames[0].at;
   auto remove = [&](auto which) { frames.erase(std::remove_if(frames.begin(), frames.end(), which), frames.end()); };

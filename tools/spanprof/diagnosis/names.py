@@ -165,8 +165,9 @@ class Names:
         before = accumulate([0] + [at[line] for line in most])
         lines = [line_of(line) for line, so_far in zip(most, before) if so_far < HOT * sum(at.values())]
         numbers = [line.number for line in lines if line and lines[0] and line.file == lines[0].file]
-        called = max(ran, key=ran.get, default=("",))[-1]
-        return (lines[0].file, min(numbers), max(numbers), called.partition(OF_SYSTEM)[0]) if numbers else None
+        called = max(ran, key=ran.get, default=())
+        function = next((name for name in called[::-1] if OF_SYSTEM not in name), "main")
+        return (lines[0].file, min(numbers), max(numbers), function) if numbers else None
 
     def function(self, place):
         """That which the place's code is in; that of the construct that ends it where it begins with none."""
