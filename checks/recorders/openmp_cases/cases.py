@@ -75,8 +75,9 @@ def run(words, folder, settings):
     said = done.stderr + converted(folder, environment)
     files = {}
     for path in filter(os.path.isfile, glob.glob(os.path.join(folder, "out*"))):
-        with open(path, encoding="utf-8") as file:
-            files[os.path.basename(path)] = in_words(file.read())
+        if not path.endswith(".segments"):      # which is no text
+            with open(path, encoding="utf-8") as file:
+                files[os.path.basename(path)] = in_words(file.read())
     if files.get("out.times", "").startswith("times "):     # of the whole program they stand alone
         files["out.timed"] = files["out.tasks"] + "---\n" + files["out.times"]
     return Left(done.returncode, said, files, numbers_of(files), list(refused_runs(files)))

@@ -5,6 +5,7 @@
 namespace {
 constexpr std::size_t of_a_block = 1 << 16;
 constexpr uint64_t most_words = 1 << 16, long_cost = UINT32_MAX;
+constexpr uint32_t no_kind = UINT32_MAX;  // of tasks whose kind hangs on the region
 constexpr std::string_view of_a_thread = "one of the region's threads", barrier = "barrier of the region", at = " at ";
 constexpr std::string_view after_words[] = {"", "creating a task", "taskgroup", "taskwait"};
 
@@ -109,7 +110,7 @@ void SegmentTable::task(std::string_view clauses, std::string_view place) {
   std::string key(clauses);
   key += '#' + std::to_string(of_place);
   auto [met, is_new] = clauses_met.emplace(std::move(key), written.size());
-  if (is_new) written.push_back({of_kind, std::string(clauses)});
+  if (is_new) written.push_back({is_of_region(of_place) ? no_kind : of_kind, std::string(clauses)});
   before = met->second;
   written[before].count++;
   written[before].again += before == last;
@@ -144,8 +145,8 @@ bool SegmentTable::finish() {
   line.put("segments", segments).put_bare("kinds", "[" + list + "]").put_bare("long", "[" + long_costs + "]");
   list.clear();
   for (const Clauses &one : written)
-    list += (list.empty() ? "[" : ", [") + std::to_string(one.kind) + ", " + in_json(one.words) + ", " +
-            std::to_string(one.count) + ", " + std::to_string(one.again) + "]";
+    list += (list.empty() ? "[" : ", [") + (one.kind == no_kind ? "null" : std::to_string(one.kind)) + ", " +
+            in_json(one.words) + ", " + std::to_string(one.count) + ", " + std::to_string(one.again) + "]";
   line.put_bare("own", "[" + own + "]").put_bare("clauses", "[" + list + "]");
   taker("\n" + line.end() + "\n");
   return kinds.size() < most_words && words.size() < most_words;
