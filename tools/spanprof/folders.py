@@ -9,7 +9,9 @@ TOOLS = os.path.dirname(os.path.dirname(os.path.abspath(__file__)))     # instal
 TOP = os.path.dirname(TOOLS)
 PREFIX = os.path.dirname(TOP)
 INSTALLED_BUILDS = os.path.join(PREFIX, "lib", "spanprof")
-FRONTS = os.path.join(TOOLS, "bin", "spanprof"), os.path.join(PREFIX, "bin", "spanprof")
+# Scripts, or links, that start the programs of this installation.
+FRONTS = os.path.join(TOOLS, "bin", "spanprof"), *(os.path.join(PREFIX, "bin", program)
+                                                   for program in ("spanprof", "spanprof_large"))
 REFERENCE = os.path.join(TOP, "reference")
 
 
@@ -39,7 +41,7 @@ def words_in(name):
 
 
 def on_path(program):
-    """The program on the PATH; not the script of the same name, which asks it."""
+    """The program on the PATH; not a script of the same name, which asks that of this installation."""
     found = shutil.which(program)
     is_front = found and os.path.realpath(found) in map(os.path.realpath, FRONTS)
     return None if is_front else found
