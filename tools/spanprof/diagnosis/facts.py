@@ -78,6 +78,7 @@ class Facts:
     regions: List[Region] = field(default_factory=list)     # inside no other
     inner: List[Region] = field(default_factory=list)       # with threads of their own
     nested: int = 0                     # threads at once, with those of inner regions
+    tasks_in_regions: bool = True       # or all outside, where there is one thread
     is_of_gcc: bool = False             # some constructs have the line of a statement before them
     is_imported: bool = False           # of another tool's tasks
     needless: set = field(default_factory=set)      # waits that may be, by the source
@@ -309,6 +310,7 @@ def facts_of(recording, end_of=greedy_end):
     set_meta(facts, meta)
     facts.locks, regions = locks_of(recording.file("locks"), head), program_of(path)
     facts.regions, facts.inner, facts.nested = regions_of(regions), inner_regions(regions), nested_threads(regions)
+    facts.tasks_in_regions = not regions or any(region.tasks for region in regions.regions)
     set_off(facts, off, program)
     facts.calls = calls_of(recording.file("calls"), program.names)
     set_ranks(facts)

@@ -3,7 +3,7 @@ import re
 from collections import Counter
 
 from spanprof.account_words import lasting
-from spanprof.diagnosis.calls import NO_NAME, OFFSET, ONE_AT_A_TIME, asleep_in, innermost, together
+from spanprof.diagnosis.calls import NO_NAME, OFFSET, ONE_AT_A_TIME, SHARES, asleep_in, innermost, together
 from spanprof.diagnosis.causes import BY_KIND, NAMES
 from spanprof.diagnosis.facts import Region
 from spanprof.diagnosis.losses import (A_TASK, MANY, average_task, has_many_faults, is_maker, losses, missing_threads,
@@ -25,6 +25,7 @@ TRIED = {
     "drop-depend": "finer depend items at {at}, or none if no order is needed",
     "drop-wait": "leave out {waits}, if no result is needed yet",
     "defer": "defer more tasks at {at}: change its if or final",
+    "outside": "create the tasks of {at} in a parallel region, in single",
     "task": "make {where} a task of its own"}
 ONE_BY_ONE = r"schedule\s*\(\s*(\w+\s*:\s*)?(dynamic|guided)"
 SPLIT = {"serial": "parallelise {where}: loop or tasks", "imbalance": "divide the longest tasks at {where}",
@@ -191,8 +192,17 @@ def words_of_suspect(facts, names):
     if facts.cost_on_one is not None:
         return "; only less work helps"
     at, ran = names.suspect(), innermost(together(facts.calls.ran, facts.calls.ran))
-    most = ", %.0f %% of it in %s" % (100 * ran.share, ran.function) if ran else ", as far as one run shows"
+    most = ", %.0f %% of it in %s" % (100 * ran.share, ran.function) if ran else words_of_line(facts)
     return ", with " + str(at) if at else most
+
+
+def words_of_line(facts):
+    """That in which code ran most, where no function has much of it."""
+    at, ran = (together(found, found) for found in (facts.calls.at, facts.calls.ran))
+    line = max(at, key=at.get, default="")
+    if not line or at[line] < SHARES[-1] * sum(ran.values()):
+        return ", as far as one run shows"
+    return ", %.0f %% of it at %s" % (100 * at[line] / sum(ran.values()), line)
 
 
 def instead(names, place, name):
@@ -256,7 +266,7 @@ def change_sentence(facts, names, step):
         item = names.item(holder(facts, place), ("inout", place))
         found["item"] = item.partition(": ")[2]
     found["waits"] = waits(names, [one.word for one in step.change.requests])
-    return TRIED[kind].format(**found)
+    return TRIED["outside" if kind == "defer" and not facts.tasks_in_regions else kind].format(**found)
 
 
 def shortened(text, width):
@@ -299,11 +309,11 @@ def first_line(found):
 
 
 def lost_lines(found, names):
+    """Behind what other programs took the rest has no share: it would be of another whole."""
     facts = found.facts
     for i, loss in enumerate(found.causes):
-        share = facts.lost_share(loss)
-        line = "%-*s%2.0f %%  %s" % (LABEL, "lost" * (i == 0), 100 * share, lost_sentence(facts, names, loss))
-        yield shortened(line, WIDTH)
+        share = "%2.0f %%" % (100 * facts.lost_share(loss)) if i == 0 or loss.kind != "efficient" else "    "
+        yield shortened("%-*s%s  %s" % (LABEL, "lost" * (i == 0), share, lost_sentence(facts, names, loss)), WIDTH)
 
 
 def loss_name(names, loss):

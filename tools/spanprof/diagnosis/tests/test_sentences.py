@@ -128,10 +128,12 @@ class Sentences(unittest.TestCase):
         self.assertEqual(lines[:4], [
             "image: 100 ms on 4 threads, 50.0 ms undisturbed. At best 50.0 ms.",
             "lost  50 %  other programs used the processors: record again on an idle machine",
-            "       0 %  little: threads ran code 100 % of the rest, as far as one run shows",
+            "            little: threads ran code 100 % of the rest, as far as one run shows",
             "sure  1 run, machine busy: 50 %"])
         run.calls = Sampled({TASKS: {("main", "tone"): 9 * 4000}}, {})
         self.assertIn("100 % of it in tone", short_lines(diagnose(run), Names(run, SOURCES))[2])
+        run.calls = Sampled({TASKS: {("main", "[libc.so.6]"): 9 * 4000}}, {}, {}, {TASKS: Counter({"image.c:9": 18000})})
+        self.assertIn("50 % of it at image.c:9", short_lines(diagnose(run), Names(run, SOURCES))[2])
 
     def test_what_went_wrong_has_a_line(self):
         run = found()
@@ -235,6 +237,11 @@ class Sentences(unittest.TestCase):
             change = single(option, word)
             step = Step(kind, TASKS if option == "in-for-inout" else change.place, 2, 1, 1, 1, 1.0, change)
             self.assertEqual(change_sentence(run, Names(run, SOURCES), step), told)
+
+    def test_tasks_outside_of_regions_want_one(self):
+        run, step = found(tasks_in_regions=False), Step("undeferred", TASKS, 2, 1, 1, 1, 1.0, single("defer", TASKS))
+        self.assertEqual(change_sentence(run, Names(run, SOURCES), step),
+                         "create the tasks of image.c:9 in a parallel region, in single")
 
     def test_a_task_that_goes_on_after_it_has_created_another_could_create_more(self):
         rest = "after creating a task at image.c:9"
