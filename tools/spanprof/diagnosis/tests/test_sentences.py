@@ -132,7 +132,7 @@ class Sentences(unittest.TestCase):
             "sure  1 run, machine busy: 50 %"])
         run.calls = Sampled({TASKS: {("main", "tone"): 9 * 4000}}, {})
         self.assertIn("100 % of it in tone", short_lines(diagnose(run), Names(run, SOURCES))[2])
-        run.calls = Sampled({TASKS: {("main", "[libc.so.6]"): 9 * 4000}}, {}, {}, {TASKS: Counter({"image.c:9": 18000})})
+        run.calls = Sampled({TASKS: {("main", "[libc.so.6]"): 9 * 4000}}, {}, {}, {TASKS: {"image.c:9": 18000}})
         self.assertIn("50 % of it at image.c:9", short_lines(diagnose(run), Names(run, SOURCES))[2])
 
     def test_what_went_wrong_has_a_line(self):
