@@ -274,8 +274,8 @@ def shortened(text, width):
 
 
 def gain_words(step):
-    """Without a lock the code is cheaper too."""
-    bound = "%s" if step.change else "%s or less" if step.kind == "lock" else "at best %s"
+    """Without a lock, or lines that threads contend for, the code may be cheaper too."""
+    bound = "%s" if step.change else "%s or less" if step.kind in ("lock", "memory") else "at best %s"
     return "%s -> %s" % (lasting(step.before), bound % lasting(step.after))
 
 

@@ -167,7 +167,7 @@ class Sentences(unittest.TestCase):
         lines = short_lines(diagnose(run), Names(run, SOURCES))
         self.assertEqual(lines[1:3], [
             "lost  60 %  threads write the same cache lines at once: image.c:11 and image.c:12",
-            "do    a local copy of what image.c:11 writes, written back once            100 ms -> at best 40.0 ms"])
+            "do    a local copy of what image.c:11 writes, written back once            100 ms -> 40.0 ms or less"])
         self.assertIn("not known: what it costs on one thread: --full", lines[4])
 
     def test_serial_code_is_told_by_the_lines_that_samples_saw(self):
