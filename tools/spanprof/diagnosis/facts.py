@@ -83,6 +83,7 @@ class Facts:
     is_imported: bool = False           # of another tool's tasks
     needless: set = field(default_factory=set)      # waits that may be, by the source
     usage: Optional[dict] = None
+    stolen: float = 0.0                 # of the machine's processors' time, by its host
     coverage: Optional[float] = None
     runs: int = 1
     true_one: Optional[List[int]] = None        # elapsed times of unrecorded runs on one thread
@@ -234,6 +235,12 @@ def runtime_name(runtime):
     return " ".join(filter(None, [RUNTIMES.get(runtime.get("name"), runtime.get("name")), runtime.get("version")]))
 
 
+def stolen_share(host, elapsed):
+    """Of the time of all processors that the machine has."""
+    whole = (host.get("host_processors") or 0) * elapsed
+    return (host.get("stolen_ns") or 0) / whole if whole else 0.0
+
+
 def set_meta(facts, meta):
     threads, usage = meta.get("threads") or {}, meta.get("usage")
     facts.asked, facts.processors = threads.get("asked"), meta.get("processors")
@@ -242,6 +249,7 @@ def set_meta(facts, meta):
     facts.is_imported = bool(meta.get("imported"))
     facts.runs = len(meta.get("runs") or [1])
     facts.usage = usage or None
+    facts.stolen = stolen_share(meta.get("host") or {}, meta.get("elapsed_ns") or 0)
     facts.true_one, facts.true_many = meta.get("true_one"), meta.get("true_many")
     facts.cost_on_one = meta.get("cost_on_one")
 

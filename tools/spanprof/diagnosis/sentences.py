@@ -20,6 +20,7 @@ NO_FASTER = 1.1
 MOST_SHARED = 2
 A_CHUNK = 50000        # nanoseconds that one lasts which is worth taking
 LEAST_TOLD = 0.005     # of the threads' time, from which on a part of it is told
+MUCH_STOLEN = 0.02     # of the processors' time, from which on that of the machine's host is told
 TRIED = {
     "in-for-inout": "depend(in: {item}) at {at} if only read, or a copy for each",
     "drop-depend": "finer depend items at {at}, or none if no order is needed",
@@ -361,7 +362,8 @@ def sure_words(found):
              "recorder %.1f %%" % (100 * facts.share(facts.recorder)) if facts.recorder else "",
              "%.1f %% of the program seen" % (100 * facts.coverage) if facts.coverage is not None else "",
              "gains predicted" if any(step.change for step in found.plan) else "",
-             "machine busy: %.0f %%" % (100 * facts.share(facts.taken)) if facts.taken else ""]
+             "machine busy: %.0f %%" % (100 * facts.share(facts.taken)) if facts.taken else "",
+             "its host took %.0f %%" % (100 * facts.stolen) if facts.stolen >= MUCH_STOLEN else ""]
     return list(filter(None, parts))
 
 

@@ -8,6 +8,7 @@ from contextlib import suppress
 from typing import NamedTuple
 
 from spanprof.errors import NOT_EXECUTABLE, Fault
+from spanprof.record.host import facts_of_host, host_now
 
 PASSED_ON = (signal.SIGTERM, signal.SIGHUP, signal.SIGQUIT)
 
@@ -89,10 +90,11 @@ class PassedOn:
 
 
 class Ended(NamedTuple):
-    """`status` is the exit status, or less than 0 the signal; `elapsed` is in nanoseconds."""
+    """`status` is the exit status, or less than 0 the signal; `elapsed` is in nanoseconds; `host` is of the machine."""
     status: int
     elapsed: int
     usage: resource.struct_rusage
+    host: dict = {}
 
 
 def begun(path, words, variables):
@@ -105,16 +107,16 @@ def begun(path, words, variables):
 
 
 def watched(path, words, variables):
-    """How the program ended, how long it took, and what the system counted of it."""
+    """How the program ended, how long it took, what the system counted of it, and what the machine did meanwhile."""
     with PassedOn() as passed_on:
-        since = time.perf_counter_ns()
+        before, since = host_now(), time.perf_counter_ns()
         process = begun(path, words, variables)
         passed_on.to(process.pid)
         _, status, usage = os.wait4(process.pid, 0)
         passed_on.to(None)
         elapsed = time.perf_counter_ns() - since
         process.returncode = os.waitstatus_to_exitcode(status)
-        return Ended(process.returncode, elapsed, usage)
+        return Ended(process.returncode, elapsed, usage, facts_of_host(before, host_now()))
 
 
 def signal_name(status):

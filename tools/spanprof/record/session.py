@@ -159,9 +159,12 @@ class Session:
         found = [final for final in moved.values() if os.path.exists(os.path.join(final, TEXT))]
         return found, said.moved(moved)
 
-    def note_end(self, status):
-        if status < 0:
-            self.notes = self.notes + ["the program ended by " + signal_name(status)]
+    def note_end(self, ended):
+        if ended.status < 0:
+            self.note_once("the program ended by " + signal_name(ended.status))
+        suspended = ended.host.get("suspended_ns")
+        if suspended:
+            self.note_once("the machine was suspended for %.1f s meanwhile: record again" % (suspended / 1e9))
 
     def tell_nothing(self, status, said):
         what = "the run is recorded, and its text is not made" if has_failed(said.things) else "nothing is recorded"
@@ -171,7 +174,7 @@ class Session:
         """The program's end, the recordings, and what was said. `more` adds to the folder of the program's own, and
         answers what more is known of its run."""
         ended = self.run(self.work.stem)
-        self.note_end(ended.status)
+        self.note_end(ended)
         folders = self.work.folders
         said = self.write_all(folders, self.work.stem, ended)
         if more and folders and not ended.status and not has_failed(said.things):

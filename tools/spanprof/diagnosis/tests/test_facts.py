@@ -10,7 +10,7 @@ from spanprof.diagnosis import facts as module
 from spanprof.diagnosis.calls import Sampled, calls_of
 from spanprof.diagnosis.facts import (Facts, elapsed_in, function_in, inner_regions, nested_threads, of_those_at_once,
                                       off_by_segment, regions_of, runtime_name, set_meta, set_off, set_ranks,
-                                      starting_shares)
+                                      starting_shares, stolen_share)
 from spanprof.diagnosis.lock_times import Held, locks_of
 from spanprof.diagnosis.places import AFTER_REGION, OWN
 from spanprof.diagnosis.tests.worked import MS, TEXT, facts, program
@@ -71,6 +71,11 @@ class Recorded(unittest.TestCase):
         set_meta(found, {"threads": {"asked": 3}, "processors": 8, "runtime": {"name": "llvm", "version": "19"}})
         self.assertEqual((found.asked, found.processors, found.runtime, found.target), (3, 8, "LLVM 19", 3))
         self.assertEqual(runtime_name({}), "")
+
+    def test_what_the_host_took(self):
+        self.assertEqual(stolen_share({"host_processors": 4, "stolen_ns": 20}, 100), 0.05)
+        self.assertEqual(stolen_share({"host_processors": 4, "stolen_ns": None}, 100), 0.0)
+        self.assertEqual(stolen_share({}, 100), 0.0)
 
     def test_the_threads_that_a_run_could_have_had(self):
         self.assertEqual(facts(threads=2).target, 4)

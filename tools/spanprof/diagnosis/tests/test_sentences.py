@@ -130,6 +130,9 @@ class Sentences(unittest.TestCase):
             "lost  50 %  other programs used the processors: record again on an idle machine",
             "            little: threads ran code 100 % of the rest, as far as one run shows",
             "sure  1 run, machine busy: 50 %"])
+        run.stolen = 0.031
+        self.assertEqual(short_lines(diagnose(run), Names(run, SOURCES))[3],
+                         "sure  1 run, machine busy: 50 %, its host took 3 %")
         run.calls = Sampled({TASKS: {("main", "tone"): 9 * 4000}}, {})
         self.assertIn("100 % of it in tone", short_lines(diagnose(run), Names(run, SOURCES))[2])
         run.calls = Sampled({TASKS: {("main", "[libc.so.6]"): 9 * 4000}}, {}, {}, {TASKS: {"image.c:9": 18000}})

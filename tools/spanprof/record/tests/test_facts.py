@@ -9,7 +9,7 @@ from spanprof.record.run import Ended
 from spanprof.regions import Program, Region
 
 USED = resource.struct_rusage((1.5, 0.25, 8, 0, 0, 0, 410, 3, 0, 0, 0, 0, 0, 0, 12, 7))
-ENDED = Ended(0, 5000, USED)
+ENDED = Ended(0, 5000, USED, {"suspended_ns": 0})
 PROGRAM = Program(5000, [Region(1, 1, 0, 100, 4, 8, 0, 90, 0, "a.c:3"),
                          Region(2, 0, 200, 900, 2, 0, 1, 90, 0, "a.c:9"),
                          Region(3, 2, 1000, 1300, 4, 8, 0, 90, 0, "a.c:3")])
@@ -51,8 +51,8 @@ class Threads(unittest.TestCase):
 class Facts(unittest.TestCase):
     def test_of_a_run(self):
         found = facts_of_run(ENDED, {"OMP_NUM_THREADS": "8"}, 4)
-        self.assertEqual((found["threads"], found["processors"], found["elapsed_ns"]),
-                         ({"asked": 8}, 4, 5000))
+        self.assertEqual((found["threads"], found["processors"], found["elapsed_ns"], found["host"]),
+                         ({"asked": 8}, 4, 5000, {"suspended_ns": 0}))
 
     def test_of_a_program(self):
         self.assertEqual(facts_of_program(PROGRAM)["threads"], {"most": 4})
