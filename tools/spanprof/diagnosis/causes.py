@@ -52,6 +52,8 @@ TABLE = (
     Cause("efficient", 0.0, "little: threads ran code {code} % of {time}{suspect}"),
 )
 BY_KIND = {cause.kind: cause for cause in TABLE}
+# Without these other code may be cheaper too, so that what their losses took is no bound of the gain.
+CHEAPER = ("lock", "memory", "system", "sleep")
 # Short names of them, and of what is lost without a cause.
 NAMES = {"serial": "serial", "too_few_tasks": "too few tasks", "dependence": "dependences", "wait": "waits",
          "imbalance": "uneven tasks", "small_tasks": "small tasks", "creation": "creating tasks",

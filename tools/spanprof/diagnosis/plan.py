@@ -2,7 +2,7 @@
 from dataclasses import dataclass, replace
 from typing import Optional
 
-from spanprof.diagnosis.causes import BY_KIND, WORTH_A_CHANGE
+from spanprof.diagnosis.causes import BY_KIND, CHEAPER, WORTH_A_CHANGE
 from spanprof.diagnosis.changes import Change
 from spanprof.diagnosis.losses import (begun, in_code_losses, is_in_a_row, kind_of_task, least_of, most_shared,
                                        share_of_start)
@@ -44,6 +44,11 @@ class Step:
     @property
     def worth(self):
         return self.gain * self.likely
+
+    @property
+    def at_best(self):
+        """Whether no change of this kind brings more."""
+        return self.change is None and self.kind not in CHEAPER
 
 
 def holder(facts, name):

@@ -26,7 +26,7 @@ def change_json(facts, names, step):
     return {"kind": step.change.kind if step.change else step.kind, "what": change_sentence(facts, names, step),
             "requests": ["--%s %s" % one for one in step.change.requests] if step.change else [],
             "from_ms": milliseconds(step.before), "to_ms": milliseconds(step.after),
-            "low_ms": milliseconds(step.low), "high_ms": milliseconds(step.high), "at_best": step.change is None}
+            "low_ms": milliseconds(step.low), "high_ms": milliseconds(step.high), "at_best": step.at_best}
 
 
 def step_for(found, loss):

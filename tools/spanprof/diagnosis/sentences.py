@@ -4,7 +4,7 @@ from collections import Counter
 
 from spanprof.account_words import lasting
 from spanprof.diagnosis.calls import NO_NAME, OFFSET, ONE_AT_A_TIME, SHARES, asleep_in, innermost, together
-from spanprof.diagnosis.causes import BY_KIND, NAMES
+from spanprof.diagnosis.causes import BY_KIND, CHEAPER, NAMES
 from spanprof.diagnosis.facts import Region
 from spanprof.diagnosis.losses import (A_TASK, MANY, average_task, has_many_faults, is_maker, losses, missing_threads,
                                        most_shared, useful_time)
@@ -274,10 +274,18 @@ def shortened(text, width):
     return text if len(text) <= width else text[:width - 3].rstrip() + "..."
 
 
+def after_words(step):
+    """What the run takes after a step."""
+    return ("%s" if step.change else "at best %s" if step.at_best else "%s or less") % lasting(step.after)
+
+
+def or_less(found):
+    """Behind the time at best, where what is lost may cost more than its own time."""
+    return " or less" if any(loss.kind in CHEAPER for loss in found.causes) else ""
+
+
 def gain_words(step):
-    """Without a lock, or lines that threads contend for, the code may be cheaper too."""
-    bound = "%s" if step.change else "%s or less" if step.kind in ("lock", "memory") else "at best %s"
-    return "%s -> %s" % (lasting(step.before), bound % lasting(step.after))
+    return "%s -> %s" % (lasting(step.before), after_words(step))
 
 
 def change_line(label, facts, names, step):
@@ -305,8 +313,8 @@ def words_of_threads(facts):
 
 def first_line(found):
     facts = found.facts
-    return "%s: %s on %s%s. At best %s." % (facts.program or "program", lasting(found.now), words_of_threads(facts),
-                                            speed_words(facts), lasting(found.best))
+    return "%s: %s on %s%s. At best %s%s." % (facts.program or "program", lasting(found.now), words_of_threads(facts),
+                                              speed_words(facts), lasting(found.best), or_less(found))
 
 
 def lost_lines(found, names):

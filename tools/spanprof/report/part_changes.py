@@ -2,7 +2,7 @@
 import shlex
 
 from spanprof.account_words import lasting
-from spanprof.diagnosis.sentences import change_sentence
+from spanprof.diagnosis.sentences import after_words, change_sentence
 from spanprof.report.markup import note, section, tag
 from spanprof.report.tables import table
 
@@ -27,9 +27,8 @@ def change_cell(view, number, step):
 
 
 def row(view, number, step):
-    at_best = "" if step.change else "at best "
     between = "%s and %s" % (lasting(step.low), lasting(step.high)) if step.change else ""
-    return [change_cell(view, number, step), at_best + lasting(step.after),
+    return [change_cell(view, number, step), after_words(step),
             "%.0f %%" % (100 * step.gain / max(step.before, 1)), between]
 
 

@@ -1,7 +1,7 @@
 """The first screen: a sentence, three times, where the threads' time went, the change as a diff, the plan, how sure."""
 from spanprof.account_words import lasting
-from spanprof.diagnosis.sentences import (change_sentence, loss_name, lost_sentence, several, speed_words, sure_words,
-                                          unsure, words_of_threads)
+from spanprof.diagnosis.sentences import (after_words, change_sentence, loss_name, lost_sentence, or_less, several,
+                                          speed_words, sure_words, unsure, words_of_threads)
 from spanprof.diagnosis.source_change import diff
 from spanprof.report.figures import PROVED, badge
 from spanprof.report.markup import join, tag
@@ -30,10 +30,10 @@ def one_time(time, words):
 
 def times(found):
     now = "now, on " + words_of_threads(found.facts)
-    first = [one_time(step.after, "after the first change, %s" % ("predicted" if step.change else "at best"))
-             for step in found.plan[:1]]
+    first = [one_time(step.after, "after the first change, %s" % (
+        "predicted" if step.change else "at best" if step.at_best else "or less")) for step in found.plan[:1]]
     return tag("div", one_time(found.now, now), *first,
-               one_time(found.best, "at best: all threads busy all the time"), class_="times")
+               one_time(found.best, "at best%s: all threads busy all the time" % or_less(found)), class_="times")
 
 
 def parts(told):
@@ -77,7 +77,7 @@ def source_diff(told, step):
 
 def gain(step):
     less = " (−%.0f %%)" % (100 * (step.before - step.after) / step.before) if step.before else ""
-    return tag("b", lasting(step.before), " → ", "" if step.change else "at best ", lasting(step.after), less,
+    return tag("b", lasting(step.before), " → ", after_words(step), less,
                class_="gain")
 
 

@@ -39,6 +39,14 @@ class Screens(unittest.TestCase):
                       "Not known: whether atomics or shared memory slow it: --full."):
             self.assertIn(words, shown)
 
+    def test_the_gain_of_a_kind_without_which_code_is_cheaper_too_is_no_bound(self):
+        run, lost = found(), [Loss("memory", TASKS, 100 * MS)]
+        steps = [Step("memory", TASKS, 100 * MS, 75 * MS, 75 * MS, 90 * MS)]
+        shown = words_in(first_screen(Told(Diagnosis(run, lost, lost, steps, steps), Names(run, SOURCES))))
+        for words in ("75.0 msafter the first change, or less", "100 ms → 75.0 ms or less (−25 %)",
+                      "at best or less: all threads busy"):
+            self.assertIn(words, shown)
+
     def test_the_bar_is_the_whole(self):
         shares = parts(told())
         self.assertAlmostEqual(sum(share for _, share, _ in shares), 1, delta=0.005)
