@@ -27,6 +27,8 @@ OF_TASKS = re.compile(r"\b(cutoff|fold|taskwait|grainsize|depend|(too few|uneven
 NO_TASKS = re.compile(r"^tasks +0,", re.M)
 FIRST_LINES = 8
 REASONS = ("machine", "efficient")      # causes of which nobody changes the program
+INTERPRETER = "the interpreter ("       # nor is its code divided, or that of libraries without lines
+OF_GLUE = re.compile("parallelise code (before|after|in)")
 
 
 @dataclass
@@ -93,7 +95,8 @@ def faults(plain, again, recorded):
 def forbidden(said):
     """Sentences that cannot be so."""
     first = "\n".join(said.split("\n")[:FIRST_LINES])
-    told = [(NEVER, said), (OF_BARRIERS, first)] + [(OF_TASKS, first)] * bool(NO_TASKS.search(said))
+    told = [(NEVER, said), (OF_BARRIERS, first)] + [(OF_TASKS, first)] * bool(NO_TASKS.search(said)) + \
+        [(OF_GLUE, first)] * (INTERPRETER in said)
     yield from ("it says '%s'" % found[0] for pattern, words in told for found in pattern.finditer(words))
     for threads, busy in re.findall(r"on (\d+) threads: ([\d.]+) of them busy", said):
         if float(busy) > int(threads):
@@ -109,10 +112,10 @@ def account_faults(told):
 
 
 def diagnosis_faults(told):
-    causes = told["diagnosis"]
+    causes, is_interpreted = told["diagnosis"], INTERPRETER in str(told["losses"])
     if not causes:
         yield "no diagnosis"
-    elif causes[0]["kind"] not in REASONS and not causes[0]["change"]:
+    elif causes[0]["kind"] not in REASONS and not causes[0]["change"] and not is_interpreted:
         yield "no change for '%s'" % causes[0]["what"]
 
 

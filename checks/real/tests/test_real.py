@@ -46,6 +46,9 @@ class RealTest(unittest.TestCase):
         loops = SUMMARY + "do  a lower cutoff\nsure 1 run\ntasks         0, 1,000 pieces of loops\n"
         self.assertEqual(list(forbidden(loops)), ["it says 'cutoff'"])
         self.assertEqual(list(forbidden(loops.replace("0, 1", "10, 1"))), [])
+        glue = "do  parallelise code before exec_blas: loop\n"
+        self.assertEqual(list(forbidden(glue)), [])
+        self.assertEqual(list(forbidden(glue + "lost  the interpreter (R)")), ["it says 'parallelise code before'"])
         self.assertEqual(list(forbidden("gm: -5 ms on 2 threads")), ["it says '-5'"])
         self.assertEqual(list(forbidden("elapsed 1 s on 2 threads: 3.01 of them busy")), ["3.01 of 2 threads are busy"])
         self.assertEqual(list(forbidden(SUMMARY)), [])
@@ -57,11 +60,14 @@ class RealTest(unittest.TestCase):
         self.assertEqual(list(account_faults({"account": None, "no account": "why"})), ["no account: why"])
 
     def test_a_change_or_a_reason(self):
-        self.assertEqual(list(diagnosis_faults({"diagnosis": [{"kind": "machine", "change": None}]})), [])
-        self.assertEqual(list(diagnosis_faults({"diagnosis": [{"kind": "serial", "change": {"what": "divide"}}]})), [])
+        def told(losses=(), *causes):
+            return list(diagnosis_faults({"diagnosis": list(causes), "losses": list(losses)}))
         without = {"kind": "serial", "change": None, "what": "main runs on one thread"}
-        self.assertEqual(list(diagnosis_faults({"diagnosis": [without]})), ["no change for 'main runs on one thread'"])
-        self.assertEqual(list(diagnosis_faults({"diagnosis": []})), ["no diagnosis"])
+        self.assertEqual(told((), {"kind": "machine", "change": None}), [])
+        self.assertEqual(told((), {"kind": "serial", "change": {"what": "divide"}}), [])
+        self.assertEqual(told((), without), ["no change for 'main runs on one thread'"])
+        self.assertEqual(told([{"kind": "serial", "place": "the interpreter (R)"}], without), [])
+        self.assertEqual(told(), ["no diagnosis"])
 
 
 if __name__ == "__main__":

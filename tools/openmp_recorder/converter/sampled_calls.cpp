@@ -19,13 +19,24 @@ bool begins_with_one(const std::string &name, const std::vector<const char *> &s
   return std::any_of(starts.begin(), starts.end(), [&](auto *start) { return !name.rfind(start, 0); });
 }
 
+// Whether it is one of these files, whatever its version: `python3.11`, `libruby-3.1.so.3`.
+bool is_version_of_one(const std::string &name, const std::vector<std::string> &files) {
+  return std::any_of(files.begin(), files.end(), [&](const std::string &file) {
+    std::string rest = name.rfind(file, 0) ? "no" : name.substr(file.size());
+    return rest.substr(0, rest.find(".so")).find_first_not_of("0123456789.-") == std::string::npos;
+  });
+}
+
 // The library of the system, or the interpreter, that has it; empty where it is the program's, or another library's.
 std::string library_of_system(const void *code, const Places &places) {
   const ModuleOfRun *module = code && places.modules() ? places.modules()->of(code) : nullptr;
   std::string name = module ? module->path.substr(module->path.rfind('/') + 1) : "";
-  bool is_of_one = begins_with_one(name, {"libc.so", "libm.so", "ld-linux", "linux-vdso", "libstdc++", "libgcc_s",
-                                          "python3", "libpython3", "libR.so", "liboctinterp", "libperl"});
-  return is_of_one ? name : "";
+  bool is_systems = begins_with_one(name, {"libc.so", "libm.so", "ld-linux", "linux-vdso", "libstdc++", "libgcc_s"});
+  bool is_interpreter = name == "R" || is_version_of_one(name, {"python", "octave-cli", "octave-gui", "perl", "ruby",
+                                                                "guile", "lua", "libpython", "libR", "liboctinterp",
+                                                                "liboctave", "libperl", "libruby", "libguile",
+                                                                "liblua"});
+  return is_systems || is_interpreter ? name : "";
 }
 
 // As a program calls it: `sin` of `__sin_fma`.

@@ -4,6 +4,7 @@ from typing import List
 
 from spanprof.diagnosis.causes import BUSY, BY_KIND, EFFICIENT, SECOND
 from spanprof.diagnosis.losses import NO_CAUSE, OF_SHAPE, Loss, code_on_one, least_of, losses, merged
+from spanprof.diagnosis.own_code import interpreted_time, is_interpreter
 from spanprof.diagnosis.plan import best_of, bounds, step_of, steps_after
 
 POOL = 0.25     # of what the shape lost, that a change wins back of whose kind it is then
@@ -25,9 +26,10 @@ class Diagnosis:
 
     @property
     def best(self):
-        """Where all threads run its code all the time."""
+        """Where all threads run its code all the time, but for an interpreter's."""
         facts = self.facts
-        least = facts.now * self.code_on_one * facts.target / (facts.own_time * facts.usable or 1)
+        code = self.code_on_one + (facts.usable - 1) * interpreted_time(facts)
+        least = facts.now * code * facts.target / (facts.own_time * facts.usable or 1)
         return min(facts.now, int(least))
 
 
@@ -42,7 +44,7 @@ def as_won_back(facts, found, steps):
 
 def matching(step, found):
     """The loss that a step wins back."""
-    same = [loss for loss in found if loss.kind == step.kind]
+    same = [loss for loss in found if loss.kind == step.kind and not is_interpreter(loss.place)]
     return next((loss for loss in same if loss.place == step.place), same[0] if same else None)
 
 
@@ -53,8 +55,17 @@ def taken_by_others(facts, found):
 
 
 def with_alike(loss, found):
-    """Serial code is one cause, wherever it runs: at its place it is named, and all of it counts."""
-    return loss._replace(time=sum(one.time for one in found if one.kind == "serial")) if loss.kind == "serial" else loss
+    """Serial code is one cause, wherever it runs: at its place it is named, and all of it counts but an interpreter's,
+    which is one by itself."""
+    if loss.kind != "serial" or is_interpreter(loss.place):
+        return loss
+    return loss._replace(time=sum(one.time for one in found if one.kind == "serial" and not is_interpreter(one.place)))
+
+
+def with_interpreter(facts, found, causes):
+    """What an interpreter ran comes first where no other cause lost more."""
+    least = max([least_of(facts, found, "serial")] + [loss.time for loss in causes[:1]])
+    return [loss for loss in found if is_interpreter(loss.place) and loss.time >= least] + causes
 
 
 def causes_of(facts, found, steps, code):
@@ -71,12 +82,14 @@ def causes_of(facts, found, steps, code):
             out.append(loss)
             seen.add(step.kind)
     if out:
-        return out[:2]
+        return with_interpreter(facts, found, out)[:2]
     ran = facts.own_time - sum(loss.time for loss in found if loss.kind in NO_CAUSE)
     named = [with_alike(loss, found) for loss in found if loss.kind in BY_KIND and loss.kind != "machine"]
     largest = [loss for loss in named if loss.time >= least_of(facts, found, loss.kind)]
-    if code < EFFICIENT * ran and largest and not facts.taken:
-        return largest[:1]
+    lost = code < EFFICIENT * ran and not facts.taken
+    told = with_interpreter(facts, found, [loss for loss in largest if not is_interpreter(loss.place)][:lost])
+    if told:
+        return told[:1] + [loss for loss in told[1:2] if facts.own_share(loss.time) >= SECOND]
     is_machine = facts.share(facts.taken) >= BY_KIND["machine"].least
     machine, rest = [Loss("machine", "", facts.taken)] * is_machine, Loss("efficient", "", ran - code)
     return machine + [rest] * (not is_machine or code >= EFFICIENT * ran)
@@ -97,7 +110,7 @@ def diagnose(facts, bench=None):
     found = as_won_back(facts, found, steps)
     steps = [step for step in steps if step.gain > 0]
     causes = causes_of(facts, found, steps, code)
-    if not BY_KIND[causes[0].kind].is_of_program:
+    if not any(BY_KIND[loss.kind].is_of_program and not is_interpreter(loss.place) for loss in causes):
         return Diagnosis(facts, found, causes, code_on_one=code)
     first = best_of(steps)
     plan = steps_after(facts, bench, found, first, steps) if first and bench else [first] if first else []

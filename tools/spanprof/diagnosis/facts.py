@@ -13,6 +13,7 @@ from spanprof.account_program import NoAccount
 from spanprof.diagnosis.calls import Sampled, calls_of, is_of_ranks, plain
 from spanprof.diagnosis.library_locks import set_library_locks
 from spanprof.diagnosis.lock_times import locks_of
+from spanprof.diagnosis.own_code import interpreter_of
 from spanprof.diagnosis.places import A_START, AROUND_REGIONS, in_text, read_places
 from spanprof.diagnosis.undisturbed import is_disturbed, set_disturbed, starved_alone
 from spanprof.errors import reading
@@ -80,6 +81,7 @@ class Facts:
     nested: int = 0                     # threads at once, with those of inner regions
     tasks_in_regions: bool = True       # or all outside, where there is one thread
     is_of_gcc: bool = False             # some constructs have the line of a statement before them
+    interpreter: str = ""               # the file of that which runs the program
     is_imported: bool = False           # of another tool's tasks
     needless: set = field(default_factory=set)      # waits that may be, by the source
     usage: Optional[dict] = None
@@ -322,6 +324,7 @@ def facts_of(recording, end_of=greedy_end):
     set_off(facts, off, program)
     facts.calls = calls_of(recording.file("calls"), program.names)
     set_ranks(facts)
+    facts.interpreter = interpreter_of(facts)
     try:
         set_breakdown(facts, account_of(head, numbers["work"], document(recording), program.names))
         if is_disturbed(facts) and head.clock == OWN_CLOCK:

@@ -6,6 +6,7 @@ from typing import NamedTuple
 
 from spanprof.diagnosis.calls import A_SAMPLE, RUNTIME, in_system, shares
 from spanprof.diagnosis.causes import BUSY, BY_KIND, SECOND
+from spanprof.diagnosis.own_code import of_interpreter
 from spanprof.diagnosis.places import A_START, AROUND_REGIONS, OF_THREADS, OWN, SERIAL, SHARE
 from spanprof.text import BEGINNING, TURNS, where
 
@@ -424,7 +425,8 @@ def losses(facts):
     one_place = {"too_many_threads": crowded_region(facts), **dict.fromkeys(FINE, heaviest_name(facts)),
                  "too_few_threads": max(missing, key=missing.get, default=""),
                  "small_regions": most_often(facts, found)}
-    return merged(loss._replace(place=one_place.get(loss.kind, loss.place)) for loss in found)
+    return merged(of_interpreter(facts, [loss._replace(place=one_place.get(loss.kind, loss.place))
+                                         for loss in found]))
 
 
 def useful_time(facts, found):

@@ -5,6 +5,7 @@ from typing import NamedTuple
 
 from spanprof.diagnosis.calls import A_SAMPLE, LEAST, NO_NAME, OF_SYSTEM, OFFSET, innermost, plain
 from spanprof.diagnosis.directives import DIRECTIVE, construct_of, directive_line, is_needless, own_item
+from spanprof.diagnosis.own_code import called_code
 from spanprof.diagnosis.places import OF_THREADS, OWN, SERIAL, lines_between
 from spanprof.source_lines import LONGEST, STRING, after_directive, code_lines, line_of, statement_end
 from spanprof.text import BEGINNING, where
@@ -180,6 +181,8 @@ class Names:
         begin, end = code_at(place.at), code_at(place.last_end)
         if place.kind != SERIAL:
             return begin or end
+        if self.facts.interpreter:
+            return "code in libraries of " + self.facts.interpreter
         return "code %s %s" % ("after" if begin else "before", begin or end) if begin or end else "main"
 
     def suspect(self, places=None):
@@ -269,7 +272,7 @@ class Names:
 
     def ran(self, place):
         """The function in which serial code, or that of a thread, spent most of its time; None if it is not known."""
-        return innermost(self.facts.calls.ran.get(place.name, {})) if place.kind in (SERIAL, OF_THREADS) else None
+        return innermost(called_code(self.facts, place)) if place.kind in (SERIAL, OF_THREADS) else None
 
     def other(self, name):
         """A wait, a lock or a region."""

@@ -4,8 +4,9 @@ from typing import Optional
 
 from spanprof.diagnosis.causes import BY_KIND, CHEAPER, WORTH_A_CHANGE
 from spanprof.diagnosis.changes import Change
-from spanprof.diagnosis.losses import (begun, in_code_losses, is_in_a_row, kind_of_task, least_of, most_shared,
+from spanprof.diagnosis.losses import (in_code_losses, is_in_a_row, kind_of_task, least_of, most_shared,
                                        share_of_start)
+from spanprof.diagnosis.own_code import own_share
 from spanprof.diagnosis.places import SERIAL, TASK
 from spanprof.text import BEGINNING
 
@@ -102,11 +103,17 @@ def least_time(facts, code):
     return int(facts.seen * code / max(facts.usable * facts.elapsed, 1))
 
 
-def started(facts, change):
-    """Of the code that is divided, the share in which the program and its runtime start."""
-    divided = [one.word.rpartition("=")[0] for one in change.requests]
-    whole = sum(facts.places[facts.key(name)].cost for name in divided)
-    return share_of_start(facts) * begun(facts) / max(whole, 1) if BEGINNING in divided else 0.0
+def undivided(facts, name):
+    """Of the code at a place, the share in which the program and its runtime start, or that is not the program's."""
+    start = share_of_start(facts) if name == BEGINNING else 0.0
+    return 1 - (1 - start) * own_share(facts, name)
+
+
+def left_alone(facts, change):
+    """The same of all code that is divided."""
+    divided = [facts.places[facts.key(one.word.rpartition("=")[0])] for one in change.requests]
+    whole = sum(place.cost for place in divided)
+    return sum(undivided(facts, place.name) * place.cost for place in divided) / max(whole, 1)
 
 
 def step_of(facts, seen, now, before, tried):
@@ -115,7 +122,7 @@ def step_of(facts, seen, now, before, tried):
                          least_time(facts, facts.code + facts.asleep + facts.recorder)))
     kind, place = cause_of(facts, tried.change)
     if tried.change.kind == "split":
-        after += int((now - after) * started(facts, tried.change))
+        after += int((now - after) * left_alone(facts, tried.change))
     return Step(kind, place, now, after, int(after * (1 - SPREAD)), min(now, int(after * (1 + SPREAD))),
                 likely(facts, seen, tried.change), tried.change)
 

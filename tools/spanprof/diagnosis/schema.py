@@ -1,5 +1,6 @@
 """The diagnosis as JSON: docs/FORMATS.md has the fields."""
 from spanprof.diagnosis.causes import BY_KIND
+from spanprof.diagnosis.own_code import is_interpreter
 from spanprof.diagnosis.plan import best_of
 from spanprof.diagnosis.sentences import change_sentence, lost_sentence
 
@@ -30,7 +31,9 @@ def change_json(facts, names, step):
 
 
 def step_for(found, loss):
-    """The change that wins back most of a loss."""
+    """The change that wins back most of a loss; none of what an interpreter ran."""
+    if is_interpreter(loss.place):
+        return None
     steps = [step for step in found.plan[:1] + found.steps if step.kind == loss.kind]
     return next((step for step in steps if step.place == loss.place), None) or best_of(steps)
 

@@ -8,6 +8,7 @@ from spanprof.diagnosis.causes import BY_KIND, CHEAPER, NAMES
 from spanprof.diagnosis.facts import Region
 from spanprof.diagnosis.losses import (A_TASK, MANY, average_task, has_many_faults, is_maker, losses, missing_threads,
                                        most_shared, useful_time)
+from spanprof.diagnosis.own_code import interpreted_share, is_interpreter, words_of_interpreter
 from spanprof.diagnosis.places import AFTER_REGION, SERIAL, SHARE
 from spanprof.diagnosis.plan import holder
 from spanprof.head import grouped
@@ -91,7 +92,8 @@ def words_of_run(facts):
 def words_of_alone(facts, names, place):
     """How much of all serial code this code is, or, by samples, the function that it ran."""
     serial = [one for one in facts.places.values() if one.kind == SERIAL]
-    part, whole, ran = place.cost, sum(one.cost for one in serial), names.ran(place)
+    whole, ran = sum(one.cost for one in serial), names.ran(place)
+    part = place.cost * (1 - interpreted_share(facts, place.name))
     if place.kind != SERIAL or part == whole and not ran:
         return "the others wait"
     if ran:
@@ -218,7 +220,7 @@ def words(facts, names, name):
     out = dict(words_of_run(facts), where=names.place(name), at=names.at(name), item="",
                in_what=words_of_sleep(facts, name, names.place(name)), tasks="", many="", largest="", average="",
                contended="", chunks="", a_chunk="", of_turns="",
-               alone="the others wait", suspect=words_of_suspect(facts, names),
+               alone=words_of_interpreter(facts) if is_interpreter(name) else "the others wait", suspect=words_of_suspect(facts, names),
                shared=words_of_schedule(names, name, place), less_creating=words_of_creation(facts, names, name),
                instead=instead(names, place, name),
                **words_of_region(facts, names, name), **words_of_lock(facts, names, name))
