@@ -92,6 +92,7 @@ one 600 'whatif.sh kept' checks/programs/whatif.sh kept
 timed 900 openmp.sh checks/recorders/openmp.sh
 one 900 'causes.sh kept' checks/programs/causes.sh kept
 one 2400 library.sh checks/agree/library.sh
+one 2400 'library.sh of the reference' env LIBRARY=reference checks/agree/library.sh
 timed 900 'openmp_regions.sh 20' checks/recorders/openmp_regions.sh 20
 echo "$passed passed, $failed failed, $skipped skipped, $second_tries second tries"
 [ "$failed" -eq 0 ]

@@ -1,15 +1,17 @@
 #!/usr/bin/env bash
-# Builds the reference implementation, spanprof and spanprof_large, into reference/out by rustc alone. `cargo build
-# --release` builds the same programs into target/release, and `cargo test` tests them.
+# Builds the reference implementation, spanprof, spanprof_large and libspanprof for callers in C and Python, into
+# reference/out by rustc alone. `cargo build --release` builds the same into target/release, and `cargo test` tests it.
 #
-#     reference/build.sh [FOLDER]      into another folder; nothing is done where the programs there are newer than src/
+#     reference/build.sh [FOLDER]      into another folder; nothing is done where what is there is newer than src/
 set -euo pipefail
 case ${1:-} in -h | --help) sed -n '2,/^set/{/^set/!s/^# \{0,1\}//p}' "$0"; exit ;; esac
 src=$(cd "$(dirname "$0")" && pwd)/src
 out=${1:-${src%/src}/out}
 mkdir -p "$out"
-[ -z "$(find "$src" -name '*.rs' -newer "$out/spanprof_large" 2> /dev/null || echo missing)" ] && exit 0
+[ -z "$(find "$src" -name '*.rs' -newer "$out/libspanprof.so" 2> /dev/null || echo missing)" ] && exit 0
 rustc -O --edition 2021 --crate-type rlib --crate-name reference --out-dir "$out" "$src/lib.rs"
 for name in spanprof spanprof_large; do
     rustc -O --edition 2021 --extern reference="$out/libreference.rlib" -o "$out/$name" "$src/bin/$name.rs"
 done
+rustc -O --edition 2021 --extern reference="$out/libreference.rlib" --crate-type cdylib --crate-type staticlib \
+    --crate-name spanprof -C link-arg=-Wl,-soname,libspanprof.so.0 --out-dir "$out" "$src/c/lib.rs"

@@ -9,16 +9,16 @@ import os
 import shutil
 import sys
 
+from spanprof.checksums import SUFFIX
 from spanprof.errors import Fault
 from spanprof.folders import other_places_of
-from spanprof.proof import SUFFIX
 from spanprof.version import commit_of
 
 TOOLS = os.path.dirname(os.path.abspath(__file__))
 SPANPROF = os.path.join(TOOLS, "..", "crates", "spanprof", "out", "spanprof")
 LARGE = os.path.join(TOOLS, "..", "crates", "spanprof_large", "out", "spanprof_large")
 VERSION = "share/spanprof/VERSION"
-LIBRARY = os.path.join(TOOLS, "..", "out", "library")
+LIBRARY, SHARED_LIBRARY = os.path.join(TOOLS, "..", "out", "library"), "libspanprof.so"
 PACKAGING = os.path.join(TOOLS, "..", "packaging")
 OF_CMAKE = ("spanprof-config.cmake", "spanprof-config-version.cmake")
 LIST = os.path.join("share", "spanprof", "installed")
@@ -48,12 +48,18 @@ def shared_files():
             and not any(part in "/" + path for part in LEFT_OUT)]
 
 
+def library_of(spanprof, proved=LIBRARY):
+    """The folder of the library to install: the proved one, or else that of the program that is installed."""
+    is_there = os.path.isfile(os.path.join(proved, SHARED_LIBRARY))
+    return proved if is_there else os.path.dirname(spanprof)
+
+
 def of_library(folder):
     """libspanprof for callers in C and Python, with its header and page, where it is built."""
-    if not os.path.isfile(os.path.join(folder, "libspanprof.so")):
+    shared = os.path.join(folder, SHARED_LIBRARY)
+    if not os.path.isfile(shared):
         return []
-    shared = os.path.join(folder, "libspanprof.so")
-    return [(shared, "lib/libspanprof.so"), (shared, "lib/libspanprof.so.0"),
+    return [*with_checksum(shared, "lib/libspanprof.so"), (shared, "lib/libspanprof.so.0"),
             (os.path.join(folder, "libspanprof.a"), "lib/libspanprof.a"),
             (os.path.join(TOOLS, "..", "include", "spanprof.h"), "include/spanprof.h"),
             (os.path.join(PACKAGING, "spanprof.pc"), "lib/pkgconfig/spanprof.pc"),
@@ -178,7 +184,7 @@ def main():
     try:
         if command == "install":
             spanprof, large = programs(os.environ)
-            install(root, plan(spanprof, large), links(large))
+            install(root, plan(spanprof, large, library_of(spanprof)), links(large))
         else:
             print("%d files taken from %s" % (uninstall(root), root))
     except Fault as fault:

@@ -1,7 +1,7 @@
 #!/usr/bin/env bash
 # Proves the crate spanprof_c and builds libspanprof of it: out/library/libspanprof.a, and libspanprof.so. Both export
 # the functions of include/spanprof.h and nothing else, and take nothing from outside but malloc, realloc, free and
-# what copies bytes.
+# what copies bytes. libspanprof.so.sha256 is the checksum by which it is known as proved.
 #
 #     tools/library.sh [FOLDER]      where they go; out/library without it
 #
@@ -32,3 +32,4 @@ rm -f "$out/libspanprof.a"
 ar rcs "$out/libspanprof.a" "$scratch/spanprof.o"
 "$cc" -shared -Wl,-soname,libspanprof.so.0 -Wl,-z,relro,-z,now -o "$out/libspanprof.so.new" "$scratch/spanprof.o"
 mv "$out/libspanprof.so.new" "$out/libspanprof.so"
+(cd "$out" && sha256sum libspanprof.so > libspanprof.so.sha256)

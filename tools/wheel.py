@@ -14,7 +14,8 @@ import time
 import zipfile
 
 TOP = pathlib.Path(__file__).resolve().parents[1]
-MODULE = ("__init__.py", "library.py", "c_calls.py")    # of spanprof/, what callers import; the commands have their own
+# Of spanprof/ what callers import; the commands have their own.
+MODULE = ("__init__.py", "library.py", "c_calls.py", "checksums.py")
 OF_C = ("include/", "lib/cmake/", "lib/pkgconfig/", "lib/libspanprof", "share/man/man3/")
 EPOCH = 315532800   # 1980, the first year of a zip
 EXECUTABLE, PLAIN = 0o100755, 0o100644
@@ -53,9 +54,9 @@ def of_prefix(prefix, data):
 def of_module(prefix):
     for name in MODULE:
         yield "spanprof/" + name, (prefix / "share/spanprof/spanprof" / name).read_bytes(), PLAIN
-    library = prefix / "lib/libspanprof.so"
-    if library.exists():
-        yield "spanprof/libspanprof.so", library.read_bytes(), EXECUTABLE
+    for name, mode in (("libspanprof.so", EXECUTABLE), ("libspanprof.so.sha256", PLAIN)):
+        if (prefix / "lib" / name).exists():
+            yield "spanprof/" + name, (prefix / "lib" / name).read_bytes(), mode
 
 
 def of_facts(info, version, tag):

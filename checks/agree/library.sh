@@ -2,7 +2,8 @@
 # Takes libspanprof from out/library, or from a folder that is named, and calls all of it from C and from Python: on all
 # examples, at the limits and beyond them, on damaged texts, under AddressSanitizer, with each allocation refused, on
 # many threads, and from a wheel. What it answers is compared with the programs. Build these first, and the library by
-# tools/library.sh: where it is not built this is skipped. With LIBRARY=build, as after the gate, it is built here.
+# tools/library.sh: where it is not built this is skipped. With LIBRARY=build, as after the gate, it is built here; with
+# LIBRARY=reference that of the reference implementation is, which takes from outside what Rust's library does.
 #
 #     checks/agree/library.sh [PROGRAM [FOLDER]]
 set -euo pipefail
@@ -13,18 +14,26 @@ for tool in cc nm; do command -v "$tool" > /dev/null || { echo "skipped: $tool i
 folder=$(mktemp -d)
 trap 'rm -rf "$folder"' EXIT
 library=$(realpath -m "${2:-out/library}")
-[ "${LIBRARY:-}" != build ] || tools/library.sh "$library"
+case ${LIBRARY:-} in
+    build) tools/library.sh "$library" ;;
+    reference) command -v rustc > /dev/null || { echo "skipped: rustc is missing"; exit 0; }
+        reference/build.sh "$folder/reference" && library=$folder/reference ;;
+esac
 [ -f "$library/libspanprof.so" ] || { echo "skipped: tools/library.sh has not built the library"; exit 0; }
 export SPANPROF_LIBRARY=$library/libspanprof.so
 wrong=0
 fail() { echo "  $1"; wrong=$((wrong + 1)); }
+about=$(PYTHONPATH=tools python3 -B -c 'import spanprof; print("%s, proved: %s" % spanprof.about())')
+echo "$about"
+case ${LIBRARY:-},${about##* } in build,False | reference,True) fail "the library is not known for what it is" ;; esac
 
 # What it exports is what the header declares, and it takes memory and copies bytes.
 sed -n 's/^uint32_t \(spanprof_[a-z_]*\)(.*/\1/p' include/spanprof.h | sort > "$folder/declared"
 nm -D --defined-only "$SPANPROF_LIBRARY" | awk '{ print $3 }' | sort > "$folder/exported"
 cmp "$folder/declared" "$folder/exported" || fail "other functions than the header's"
-nm -D --undefined-only "$SPANPROF_LIBRARY" | awk '$1 == "U" { sub(/@.*/, "", $2); print $2 }' |
-    grep -vxE 'malloc|realloc|free|mem(cpy|move|set|cmp)|bcmp' && fail "it takes more from outside"
+[ "${LIBRARY:-}" = reference ] || { nm -D --undefined-only "$SPANPROF_LIBRARY" |
+    awk '$1 == "U" { sub(/@.*/, "", $2); print $2 }' |
+    grep -vxE 'malloc|realloc|free|mem(cpy|move|set|cmp)|bcmp' && fail "it takes more from outside"; }
 for words in 'c -std=c99' 'c++ -std=c++11'; do
     # shellcheck disable=SC2086
     cc -pedantic -Wall -Wextra -Werror -fsyntax-only -x $words include/spanprof.h || fail "the header in $words"

@@ -2,6 +2,7 @@
 
 use crate::documents::Document;
 use crate::graph::Graph;
+use crate::growth::listed;
 use crate::refusal::Refusal;
 use crate::times::{read_times, Times};
 use std::cmp::Reverse;
@@ -11,16 +12,25 @@ pub fn account(graph: &Graph, document: &Document, flag: Option<&str>) -> Result
     let times = read_times(document, graph.len())?;
     times.check(graph)?;
     Ok(match flag {
-        Some("--rows") => rows(graph, &times),
+        Some("--rows") => rows(&readies(graph, &times)?, &times),
         Some("--path") => path(graph, &times),
-        _ => sums(graph, &times),
+        _ => printed(&sums(readies(graph, &times)?, &times)?, &times),
     })
 }
 
+/// How long all threads together were busy, idle while a segment was ready, idle while none was, and outside of all
+/// segments.
+pub struct Sums {
+    pub busy: u64,
+    pub delayed: u64,
+    pub starved: u64,
+    pub outside: u64,
+}
+
 /// When the last predecessor of each segment ends.
-fn readies(graph: &Graph, times: &Times) -> Vec<u64> {
+pub fn readies(graph: &Graph, times: &Times) -> Result<Vec<u64>, Refusal> {
     let last_end = |segment| graph.preds(segment).iter().map(|pred| times.of(*pred).end).max();
-    graph.segments().map(|segment| last_end(segment).unwrap_or(times.first)).collect()
+    listed(graph.segments().map(|segment| last_end(segment).unwrap_or(times.first)))
 }
 
 fn sorted(mut moments: Vec<u64>) -> Vec<u64> {
@@ -47,22 +57,26 @@ fn delayed(readies: &[u64], begins: &[u64], ends: &[u64], threads: u32) -> u64 {
     sum
 }
 
-fn sums(graph: &Graph, times: &Times) -> Vec<u8> {
-    let begins = sorted(times.ran.iter().map(|ran| ran.begin).collect());
-    let ends = sorted(times.ran.iter().map(|ran| ran.end).collect());
+pub fn sums(readies: Vec<u64>, times: &Times) -> Result<Sums, Refusal> {
+    let begins = sorted(listed(times.ran.iter().map(|ran| ran.begin))?);
+    let ends = sorted(listed(times.ran.iter().map(|ran| ran.end))?);
     let (threads, elapsed) = (u64::from(times.threads), times.last - times.first);
     let busy: u64 = times.ran.iter().map(|ran| ran.end - ran.begin).sum();
-    let delayed = delayed(&sorted(readies(graph, times)), &begins, &ends, times.threads);
+    let delayed = delayed(&sorted(readies), &begins, &ends, times.threads);
     let outside = threads * (begins[0] - times.first + times.last - ends[ends.len() - 1]);
-    let starved = threads * elapsed - busy - delayed - outside;
-    let lines = [("threads", threads), ("elapsed", elapsed), ("busy", busy), ("delayed", delayed)];
-    let lines = lines.into_iter().chain([("starved", starved), ("outside", outside)]);
+    Ok(Sums { busy, delayed, starved: threads * elapsed - busy - delayed - outside, outside })
+}
+
+fn printed(sums: &Sums, times: &Times) -> Vec<u8> {
+    let run = [("threads", u64::from(times.threads)), ("elapsed", times.last - times.first)];
+    let idle = [("delayed", sums.delayed), ("starved", sums.starved), ("outside", sums.outside)];
+    let lines = run.into_iter().chain([("busy", sums.busy)]).chain(idle);
     lines.flat_map(|(name, value)| format!("{name} {value}\n").into_bytes()).collect()
 }
 
-fn rows(graph: &Graph, times: &Times) -> Vec<u8> {
+fn rows(readies: &[u64], times: &Times) -> Vec<u8> {
     let mut text = b"segment,thread,ready,begin,end\n".to_vec();
-    for ((segment, ready), ran) in readies(graph, times).iter().enumerate().zip(&times.ran) {
+    for ((segment, ready), ran) in readies.iter().enumerate().zip(&times.ran) {
         writeln!(text, "{segment},{},{ready},{},{}", ran.thread, ran.begin, ran.end).expect("memory takes it");
     }
     text
@@ -91,6 +105,7 @@ mod tests {
     use crate::cut::Table;
     use crate::documents::Document;
     use crate::graph::Graph;
+use crate::growth::listed;
     use crate::limits::ANY_SIZE;
     use crate::read::read;
     use crate::refusal::told;
@@ -99,7 +114,8 @@ mod tests {
         let text = format!("omptasks 1\nwork 5 task {{ work 3 }} work 2 taskwait work 1\n---\n{times}");
         let document = Document::split(text.as_bytes());
         let program = read(document.program, &ANY_SIZE).unwrap_or_else(|fault| panic!("{fault}"));
-        told(account(&Graph::of(&program, &Table::of(&program)), &document, flag))
+        let graph = Table::of(&program).and_then(|table| Graph::of(&program, &table));
+        told(graph.and_then(|graph| account(&graph, &document, flag)))
     }
 
     const TIMES: &str = "times 2 0 14\n0 0 0 5\n1 0 6 9\n2 0 9 11\n3 1 12 13\n";

@@ -4,6 +4,7 @@ use crate::analysis::analyse;
 use crate::cut::Table;
 use crate::documents::{number, words, Document};
 use crate::graph::Graph;
+use crate::growth::{listed, push};
 use crate::limits::{Limits, MOST_MOMENT};
 use crate::program::Program;
 use crate::read::read;
@@ -18,8 +19,8 @@ struct Claim {
     chain: Vec<u64>,
 }
 
-pub fn certify(program: &Program, graph: &Graph) -> Vec<u8> {
-    let found = analyse(graph);
+pub fn certify(program: &Program, graph: &Graph) -> Result<Vec<u8>, Refusal> {
+    let found = analyse(graph)?;
     let mut text = program.canonical_text();
     writeln!(text, "---\nend {}", found.span).expect("memory takes it");
     for (segment, start) in found.starts.iter().enumerate() {
@@ -30,50 +31,59 @@ pub fn certify(program: &Program, graph: &Graph) -> Vec<u8> {
         write!(text, " {segment}").expect("memory takes it");
     }
     text.push(b'\n');
-    text
+    Ok(text)
 }
 
-fn read_claim(rest: &[u8]) -> Option<Claim> {
+fn moment(word: Option<&[u8]>) -> Result<u64, Refusal> {
+    word.and_then(|word| number(word, MOST_MOMENT)).ok_or_else(bad_form)
+}
+
+fn read_claim(rest: &[u8]) -> Result<Claim, Refusal> {
     let mut words = words(rest);
-    if words.next()? != b"end" {
-        return None;
-    }
-    let end = number(words.next()?, MOST_MOMENT)?;
-    let mut starts = Vec::new();
+    ensure(words.next() == Some(&b"end"[..]), bad_form)?;
+    let mut claim = Claim { end: moment(words.next())?, starts: Vec::new(), chain: Vec::new() };
     loop {
-        match words.next()? {
-            b"start" => starts.push((number(words.next()?, MOST_MOMENT)?, number(words.next()?, MOST_MOMENT)?)),
-            b"chain" => break,
-            _ => return None,
+        match words.next() {
+            Some(b"start") => push(&mut claim.starts, (moment(words.next())?, moment(words.next())?))?,
+            Some(b"chain") => break,
+            _ => return Err(bad_form()),
         }
     }
-    let chain = words.map(|word| number(word, MOST_MOMENT)).collect::<Option<Vec<u64>>>()?;
-    (!chain.is_empty()).then_some(Claim { end, starts, chain })
+    for word in words {
+        push(&mut claim.chain, moment(Some(word))?)?;
+    }
+    ensure(!claim.chain.is_empty(), bad_form)?;
+    Ok(claim)
 }
 
 pub fn check(document: &Document, limits: &Limits) -> Result<Vec<u8>, Refusal> {
+    let (count, end) = verify(document, limits)?;
+    Ok(format!("accepted\nsegments {count}\nend {end}\n").into_bytes())
+}
+
+/// The number of segments and the end, where the certificate holds.
+pub fn verify(document: &Document, limits: &Limits) -> Result<(u64, u64), Refusal> {
     let program = read(document.program, limits)?;
-    let table = Table::of(&program);
-    let rest = document.rest.filter(|rest| rest.len() <= limits.claim);
-    let claim = rest.and_then(read_claim).ok_or_else(bad_form)?;
+    let table = Table::of(&program)?;
+    let claim = read_claim(document.rest.filter(|rest| rest.len() <= limits.claim).ok_or_else(bad_form)?)?;
     let count = table.segments.len() as u64;
     let is_each = claim.starts.iter().map(|(segment, _)| *segment).eq(0..count);
     ensure(is_each && claim.chain.iter().all(|segment| *segment < count), || refused("WrongCount"))?;
     let relation = Relation::new(&program, &table);
-    check_starts(&Graph::of(&program, &table), &relation, &claim)?;
+    check_starts(&Graph::of(&program, &table)?, &relation, &claim)?;
     check_chain(&table, &relation, &claim)?;
-    Ok(format!("accepted\nsegments {count}\nend {}\n", claim.end).into_bytes())
+    Ok((count, claim.end))
 }
 
 /// The starts are a legal schedule with this end. Where one breaks the relation, some one breaks a kept edge: the first
 /// segment that starts too soon is the same.
 fn check_starts(graph: &Graph, relation: &Relation, claim: &Claim) -> Result<(), Refusal> {
-    let ends: Vec<u64> = graph.costs.iter().zip(&claim.starts).map(|(cost, (_, start))| start + cost).collect();
+    let ends = listed(graph.costs.iter().zip(&claim.starts).map(|(cost, (_, start))| start + cost))?;
     for t in graph.segments() {
         let is_late = |s: u32| ends[s as usize] > claim.starts[t as usize].1;
         if graph.preds(t).iter().any(|pred| is_late(*pred)) {
             let s = relation.least_before(t, is_late).expect("a kept predecessor must precede");
-            return Err(refused(format!("Broken {s} {t}")));
+            return Err(Refusal::Pair("Broken", s, t));
         }
     }
     ensure(ends.iter().max() == Some(&claim.end), || refused("EndWrong"))
@@ -83,7 +93,7 @@ fn check_starts(graph: &Graph, relation: &Relation, claim: &Claim) -> Result<(),
 fn check_chain(table: &Table, relation: &Relation, claim: &Claim) -> Result<(), Refusal> {
     for step in claim.chain.windows(2) {
         let (s, t) = (step[0] as u32, step[1] as u32);
-        ensure(relation.must_precede(s, t), || refused(format!("ChainStep {s} {t}")))?;
+        ensure(relation.must_precede(s, t), || Refusal::Pair("ChainStep", s, t))?;
     }
     let sum: u64 = claim.chain.iter().map(|segment| table.segments[*segment as usize].cost).sum();
     ensure(sum == claim.end, || refused("ChainSum"))

@@ -38,17 +38,17 @@ impl Change {
 }
 
 pub fn what_if(mut graph: Graph, changes: &[Change]) -> Result<Vec<u8>, Refusal> {
-    let (was, mut work) = (earliest(&graph).1, graph.work());
+    let (was, mut work) = (earliest(&graph)?.1, graph.work());
     for change in changes {
         change.make(&mut graph.costs, &mut work).map_err(refused)?;
     }
-    Ok(report(&graph, was))
+    report(&graph, was)
 }
 
 /// The changes of a list, each on a line of its own.
 pub fn what_if_listed(mut graph: Graph, document: &Document) -> Result<Vec<u8>, Refusal> {
     document.rest.ok_or_else(bad_form)?;
-    let (was, mut work) = (earliest(&graph).1, graph.work());
+    let (was, mut work) = (earliest(&graph)?.1, graph.work());
     for (number, line) in document.lines() {
         let change = match words(line).take(2).collect::<Vec<_>>()[..] {
             [] => continue,
@@ -58,9 +58,9 @@ pub fn what_if_listed(mut graph: Graph, document: &Document) -> Result<Vec<u8>, 
         let change = change.ok_or(Refusal::Line(number, "BadForm"))?;
         change.make(&mut graph.costs, &mut work).map_err(|why| Refusal::Line(number, why))?;
     }
-    Ok(report(&graph, was))
+    report(&graph, was)
 }
 
-fn report(graph: &Graph, was: u64) -> Vec<u8> {
-    format!("work {}\nspan {}\nwas {was}\n", graph.work(), earliest(graph).1).into_bytes()
+fn report(graph: &Graph, was: u64) -> Result<Vec<u8>, Refusal> {
+    Ok(format!("work {}\nspan {}\nwas {was}\n", graph.work(), earliest(graph)?.1).into_bytes())
 }

@@ -72,35 +72,35 @@ fn answer(name: &str, found: &Found, input: &[u8], limits: &Limits) -> Result<Ve
     match name {
         "check" => check(&document, limits),
         "replay" => replay(&document, limits),
-        "account" => account(&graph_of(&read(document.program, limits)?), &document, found.flag.as_deref()),
-        "whatif" if found.flag.is_some() => what_if_listed(graph_of(&read(document.program, limits)?), &document),
+        "account" => account(&graph_of(&read(document.program, limits)?)?, &document, found.flag.as_deref()),
+        "whatif" if found.flag.is_some() => what_if_listed(graph_of(&read(document.program, limits)?)?, &document),
         _ => answer_of(name, found, &read(input, limits)?),
     }
 }
 
-fn graph_of(program: &Program) -> Graph {
-    Graph::of(program, &Table::of(program))
+fn graph_of(program: &Program) -> Result<Graph, Refusal> {
+    Graph::of(program, &Table::of(program)?)
 }
 
 fn answer_of(name: &str, found: &Found, program: &Program) -> Result<Vec<u8>, Refusal> {
-    Ok(match name {
+    match name {
         "span" => {
             let Meter { segments, work, span, .. } = Meter::of(program);
-            format!("segments {segments}\nwork {work}\nspan {span}\n").into_bytes()
+            Ok(format!("segments {segments}\nwork {work}\nspan {span}\n").into_bytes())
         }
-        "show" => program.canonical_text(),
-        "greedy" => reports::greedy(&graph_of(program), threads(found)?),
-        "curve" => reports::curve(&graph_of(program), threads(found)?),
-        "whatif" => what_if(graph_of(program), &found.changes)?,
-        "certify" => certify(program, &graph_of(program)),
+        "show" => Ok(program.canonical_text()),
+        "greedy" => reports::greedy(&graph_of(program)?, threads(found)?),
+        "curve" => reports::curve(&graph_of(program)?, threads(found)?),
+        "whatif" => what_if(graph_of(program)?, &found.changes),
+        "certify" => certify(program, &graph_of(program)?),
         "run" => match found.number {
-            Some(1..=MOST_WORKERS) => run(&graph_of(program)),
-            _ => return Err(refused("WorkerCount")),
+            Some(1..=MOST_WORKERS) => Ok(run(&graph_of(program)?)),
+            _ => Err(refused("WorkerCount")),
         },
         _ => {
-            let table = Table::of(program);
+            let table = Table::of(program)?;
             let rows = if name == "graph" { reports::graph } else { reports::slack };
-            rows(&table, &Graph::of(program, &table))
+            rows(&table, &Graph::of(program, &table)?)
         }
-    })
+    }
 }

@@ -1,6 +1,8 @@
 //! The segments and tasks of a program.
 
+use crate::growth::push;
 use crate::program::{Mark, Program};
+use crate::refusal::Refusal;
 
 #[derive(Clone, Copy, PartialEq, Eq)]
 pub enum Closing {
@@ -50,27 +52,27 @@ struct Cutter {
 }
 
 impl Table {
-    pub fn of(program: &Program) -> Table {
+    pub fn of(program: &Program) -> Result<Table, Refusal> {
         let table = Table { segments: Vec::new(), tasks: Vec::new() };
         let mut cutter = Cutter { table, open: Vec::new(), groups: Vec::new() };
-        cutter.begin_task(None, false);
+        cutter.begin_task(None, false)?;
         for mark in &program.marks {
             match mark {
                 Mark::Work(cost) => cutter.current().cost += cost,
                 Mark::Task(number) => {
-                    cutter.begin_task(Some(cutter.last()), program.tasks[*number as usize].undeferred);
+                    cutter.begin_task(Some(cutter.last()), program.tasks[*number as usize].undeferred)?;
                 }
-                Mark::EndTask => cutter.end_task(),
-                Mark::Wait => cutter.go_on(Closing::Waits),
+                Mark::EndTask => cutter.end_task()?,
+                Mark::Wait => cutter.go_on(Closing::Waits)?,
                 Mark::Group => {
                     let tasks_before = cutter.table.tasks.len() as u32;
-                    cutter.groups.push(OpenGroup { tasks_before, tasks: Vec::new() });
+                    push(&mut cutter.groups, OpenGroup { tasks_before, tasks: Vec::new() })?;
                 }
-                Mark::EndGroup => cutter.end_group(),
+                Mark::EndGroup => cutter.end_group()?,
             }
         }
         cutter.table.tasks[0].last = cutter.last();
-        cutter.table
+        Ok(cutter.table)
     }
 
     /// The task of a segment.
@@ -89,47 +91,48 @@ impl Cutter {
         self.table.segments.last_mut().expect("the root has a segment")
     }
 
-    fn open_segment(&mut self, task: u32, before: Option<u32>) {
-        self.table.segments.push(Segment { task, before, cost: 0, closing: Closing::EndsTask });
+    fn open_segment(&mut self, task: u32, before: Option<u32>) -> Result<(), Refusal> {
+        push(&mut self.table.segments, Segment { task, before, cost: 0, closing: Closing::EndsTask })
     }
 
-    fn begin_task(&mut self, creator: Option<u32>, undeferred: bool) {
+    fn begin_task(&mut self, creator: Option<u32>, undeferred: bool) -> Result<(), Refusal> {
         let number = self.table.tasks.len() as u32;
         if creator.is_some() {
             self.current().closing = Closing::Creates(number);
         }
         if let Some(group) = self.groups.last_mut() {
-            group.tasks.push(number);
+            push(&mut group.tasks, number)?;
         }
         let parent = self.open.last().copied();
-        self.table.tasks.push(Task { parent, creator, undeferred, last: 0, group: None });
-        self.open.push(number);
-        self.open_segment(number, None);
+        push(&mut self.table.tasks, Task { parent, creator, undeferred, last: 0, group: None })?;
+        push(&mut self.open, number)?;
+        self.open_segment(number, None)
     }
 
     /// Ends the task, and goes on in its parent.
-    fn end_task(&mut self) {
+    fn end_task(&mut self) -> Result<(), Refusal> {
         let number = self.open.pop().expect("a task is open");
         let last = self.last();
         let task = &mut self.table.tasks[number as usize];
         task.last = last;
         let (parent, creator) = (task.parent.expect("the root ends last"), task.creator);
-        self.open_segment(parent, creator);
+        self.open_segment(parent, creator)
     }
 
     /// Ends the segment, and goes on in the same task.
-    fn go_on(&mut self, closing: Closing) {
+    fn go_on(&mut self, closing: Closing) -> Result<(), Refusal> {
         let before = self.last();
         self.current().closing = closing;
-        self.open_segment(self.table.segments[before as usize].task, Some(before));
+        self.open_segment(self.table.segments[before as usize].task, Some(before))
     }
 
-    fn end_group(&mut self) {
+    fn end_group(&mut self) -> Result<(), Refusal> {
         let group = self.groups.pop().expect("a group is open");
-        self.go_on(Closing::EndsGroup { tasks_before: group.tasks_before });
+        self.go_on(Closing::EndsGroup { tasks_before: group.tasks_before })?;
         let after = self.last();
         for task in group.tasks {
             self.table.tasks[task as usize].group = Some(after);
         }
+        Ok(())
     }
 }

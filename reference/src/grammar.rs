@@ -1,5 +1,6 @@
 //! The grammar of both versions: tokens to pieces, up to the first token that is wrong in its place.
 
+use crate::growth::push;
 use crate::limits::{Limits, MOST_COST, MOST_INDEX, MOST_LOOP_NESTING};
 use crate::program::Kind;
 use crate::refusal::{ensure, Refusal};
@@ -14,11 +15,11 @@ pub struct Index {
     pub line: usize,
 }
 
-/// A part of a text, with the line of its token.
+/// A part of a text, with the line of its token. An index is known by its number.
 pub enum Piece<'a> {
     /// The word `task`, an item, and the `{` behind the clauses.
     Task { line: usize },
-    Item { kind: Kind, name: &'a [u8], index: Option<Box<Index>>, line: usize },
+    Item { kind: Kind, name: &'a [u8], index: Option<u32>, line: usize },
     TaskOpens { undeferred: bool, is_final: bool, line: usize },
     /// The word `taskgroup`, and its `{`.
     Group { line: usize },
@@ -46,6 +47,7 @@ pub struct Parser<'a> {
     /// Those of the open loops, the outermost first.
     variables: Vec<&'a [u8]>,
     pub pieces: Vec<Piece<'a>>,
+    pub indexes: Vec<Index>,
 }
 
 impl<'a> Parser<'a> {
@@ -55,7 +57,8 @@ impl<'a> Parser<'a> {
             Version::Two => (usize::MAX, MOST_LOOP_NESTING),
         };
         let scanner = Scanner::new(text, version, most_bytes);
-        Parser { scanner, version, most_nesting, blocks: Vec::new(), variables: Vec::new(), pieces: Vec::new() }
+        let (blocks, variables, pieces, indexes) = (Vec::new(), Vec::new(), Vec::new(), Vec::new());
+        Parser { scanner, version, most_nesting, blocks, variables, pieces, indexes }
     }
 
     /// Finds the pieces of the text, up to its first wrong token.
@@ -106,15 +109,15 @@ impl<'a> Parser<'a> {
         match token.text {
             b"work" => {
                 let cost = self.number(MOST_COST)?;
-                self.pieces.push(Piece::Work { cost: cost.value(), line: cost.line });
+                push(&mut self.pieces, Piece::Work { cost: cost.value(), line: cost.line })?;
             }
             b"task" => {
-                self.pieces.push(Piece::Task { line });
+                push(&mut self.pieces, Piece::Task { line })?;
                 self.clauses()?;
             }
-            b"taskwait" => self.pieces.push(Piece::Wait { line }),
+            b"taskwait" => push(&mut self.pieces, Piece::Wait { line })?,
             b"taskgroup" => {
-                self.pieces.push(Piece::Group { line });
+                push(&mut self.pieces, Piece::Group { line })?;
                 let brace = self.sign(b"{")?;
                 self.open(brace, Piece::GroupOpens { line: brace.line })?;
             }
@@ -127,9 +130,8 @@ impl<'a> Parser<'a> {
 
     fn open(&mut self, brace: Token<'a>, piece: Piece<'a>) -> Result<(), Refusal> {
         ensure(self.blocks.len() < self.most_nesting, || brace.fault("TooDeep"))?;
-        self.blocks.push(Block { opening: self.pieces.len(), line: brace.line });
-        self.pieces.push(piece);
-        Ok(())
+        push(&mut self.blocks, Block { opening: self.pieces.len(), line: brace.line })?;
+        push(&mut self.pieces, piece)
     }
 
     fn close(&mut self, brace: Token<'a>) -> Result<(), Refusal> {
@@ -144,8 +146,7 @@ impl<'a> Parser<'a> {
             Piece::GroupOpens { .. } => Piece::EndGroup,
             _ => Piece::EndTask,
         };
-        self.pieces.push(end);
-        Ok(())
+        push(&mut self.pieces, end)
     }
 
     fn begin_loop(&mut self, line: usize) -> Result<(), Refusal> {
@@ -153,7 +154,7 @@ impl<'a> Parser<'a> {
         ensure(!self.variables.contains(&variable.text), || variable.fault("BadWord"))?;
         let (from, to) = (self.number(MOST_INDEX)?.value(), self.number(MOST_INDEX)?.value());
         let brace = self.sign(b"{")?;
-        self.variables.push(variable.text);
+        push(&mut self.variables, variable.text)?;
         self.open(brace, Piece::For { from, to, line, length: 0 })
     }
 
@@ -198,12 +199,13 @@ impl<'a> Parser<'a> {
         self.sign(b":")?;
         loop {
             let name = self.word()?;
-            self.pieces.push(Piece::Item { kind, name: name.text, index: None, line: name.line });
+            push(&mut self.pieces, Piece::Item { kind, name: name.text, index: None, line: name.line })?;
             let mut next = self.token("BadWord")?;
             if next.text == b"[" {
                 let found = self.index()?;
+                push(&mut self.indexes, found)?;
                 if let Some(Piece::Item { index, .. }) = self.pieces.last_mut() {
-                    *index = Some(Box::new(found));
+                    *index = Some(self.indexes.len() as u32 - 1);
                 }
                 next = self.token("BadWord")?;
             }

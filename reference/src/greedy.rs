@@ -1,6 +1,8 @@
 //! The greedy schedule of a graph on some threads.
 
 use crate::graph::{Graph, Lists};
+use crate::growth::{enter, filled, listed, push};
+use crate::refusal::Refusal;
 use std::cmp::Reverse;
 use std::collections::BinaryHeap;
 
@@ -25,70 +27,72 @@ struct State<'a> {
 }
 
 /// The schedule that takes ready segments and free threads in ascending order.
-pub fn schedule(graph: &Graph, successors: &Lists, threads: u32) -> Schedule {
+pub fn schedule(graph: &Graph, successors: &Lists, threads: u32) -> Result<Schedule, Refusal> {
     let mut state = State {
         graph,
         successors,
-        left: graph.segments().map(|segment| graph.preds(segment).len() as u32).collect(),
+        left: listed(graph.segments().map(|segment| graph.preds(segment).len() as u32))?,
         ready: BinaryHeap::new(),
-        free: (0..threads).map(Reverse).collect(),
+        free: listed((0..threads).map(Reverse))?.into(),
         running: BinaryHeap::new(),
         ended: Vec::new(),
-        run: Schedule { starts: vec![0; graph.len()], threads: vec![None; graph.len()], end: 0 },
+        run: Schedule { starts: filled(0, graph.len())?, threads: filled(None, graph.len())?, end: 0 },
     };
-    state.release(0);
-    state.begin_ready();
+    state.release(0)?;
+    state.begin_ready()?;
     while let Some(Reverse((moment, _))) = state.running.peek() {
         state.run.end = *moment;
-        state.end_running();
-        state.begin_ready();
+        state.end_running()?;
+        state.begin_ready()?;
     }
-    state.run
+    Ok(state.run)
 }
 
 impl State<'_> {
     /// All predecessors of a segment have ended: it is ready, or ends where it costs nothing.
-    fn release(&mut self, segment: u32) {
+    fn release(&mut self, segment: u32) -> Result<(), Refusal> {
         if self.graph.costs[segment as usize] > 0 {
-            self.ready.push(Reverse(segment));
-            return;
+            return enter(&mut self.ready, Reverse(segment));
         }
         self.run.starts[segment as usize] = self.run.end;
-        self.ended.push(segment);
+        push(&mut self.ended, segment)
     }
 
     /// Counts those that have ended, and releases the segments that waited for them alone.
-    fn count_ended(&mut self) {
+    fn count_ended(&mut self) -> Result<(), Refusal> {
         while let Some(segment) = self.ended.pop() {
             for next in self.successors.of(segment) {
                 self.left[*next as usize] -= 1;
                 if self.left[*next as usize] == 0 {
-                    self.release(*next);
+                    self.release(*next)?;
                 }
             }
         }
+        Ok(())
     }
 
     /// Ends all segments that end at this moment.
-    fn end_running(&mut self) {
+    fn end_running(&mut self) -> Result<(), Refusal> {
         while let Some(Reverse((end, segment))) = self.running.peek().copied() {
             if end > self.run.end {
-                return;
+                break;
             }
             self.running.pop();
             self.free.extend(self.run.threads[segment as usize].map(Reverse));
-            self.ended.push(segment);
+            push(&mut self.ended, segment)?;
         }
+        Ok(())
     }
 
-    fn begin_ready(&mut self) {
-        self.count_ended();
+    fn begin_ready(&mut self) -> Result<(), Refusal> {
+        self.count_ended()?;
         while !self.ready.is_empty() && !self.free.is_empty() {
             if let (Some(Reverse(segment)), Some(Reverse(thread))) = (self.ready.pop(), self.free.pop()) {
                 self.run.starts[segment as usize] = self.run.end;
                 self.run.threads[segment as usize] = Some(thread);
-                self.running.push(Reverse((self.run.end + self.graph.costs[segment as usize], segment)));
+                enter(&mut self.running, Reverse((self.run.end + self.graph.costs[segment as usize], segment)))?;
             }
         }
+        Ok(())
     }
 }

@@ -5,29 +5,30 @@
 //! A text goes through these modules: `tokens`, `grammar` and `read` make a `program`, `cut` its segments,
 //! `siblings` and `graph` the kept edges. `reports`, `certificate`, `replay`, `changes` and `account` answer.
 
-mod account;
-mod analysis;
-mod certificate;
+pub mod account;
+pub mod analysis;
+pub mod certificate;
 mod changes;
 pub mod commands;
-mod cut;
+pub mod cut;
 mod devices;
-mod documents;
+pub mod documents;
 mod grammar;
-mod graph;
-mod greedy;
-mod limits;
-mod memory;
+pub mod graph;
+pub mod greedy;
+pub mod growth;
+pub mod limits;
+pub mod memory;
 mod meter;
-mod program;
-mod read;
-mod refusal;
+pub mod program;
+pub mod read;
+pub mod refusal;
 mod relation;
 mod replay;
-mod reports;
+pub mod reports;
 mod run;
 mod siblings;
-mod times;
+pub mod times;
 mod tokens;
 mod words;
 

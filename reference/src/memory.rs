@@ -2,10 +2,7 @@
 
 use std::alloc::{GlobalAlloc, Layout, System};
 
-struct OrEnds;
-
-#[global_allocator]
-static ALLOCATOR: OrEnds = OrEnds;
+pub struct OrEnds;
 
 // SAFETY: the system's allocator does it, and no null pointer is passed on.
 unsafe impl GlobalAlloc for OrEnds {

@@ -1,7 +1,13 @@
 //! A program: the flat list of its marks, and its canonical text.
 
+use crate::growth::push;
+use crate::limits::{MOST_ITEMS, MOST_WORD_BYTES};
+use crate::refusal::Refusal;
 use crate::tokens::Version;
 use std::ops::Range;
+
+/// Of a depend item in the canonical text: ` depend(inoutset: `, its name, its index and `)`.
+const MOST_BYTES_OF_ITEM: usize = MOST_WORD_BYTES + 40;
 
 #[derive(Clone, Copy, Debug, Default, PartialEq, Eq)]
 pub enum Kind {
@@ -64,9 +70,10 @@ impl Kind {
 }
 
 impl Program {
-    pub fn new(version: Version) -> Program {
-        let root = Clauses { undeferred: false, items: 0..0 };
-        Program { version, marks: Vec::new(), tasks: vec![root], items: Vec::new(), names: Vec::new() }
+    pub fn new(version: Version) -> Result<Program, Refusal> {
+        let mut tasks = Vec::new();
+        push(&mut tasks, Clauses { undeferred: false, items: 0..0 })?;
+        Ok(Program { version, marks: Vec::new(), tasks, items: Vec::new(), names: Vec::new() })
     }
 
     pub fn items_of(&self, task: u32) -> &[Item] {
@@ -82,6 +89,14 @@ impl Program {
             self.print_line(*mark, &mut text);
         }
         text
+    }
+
+    /// How many bytes of the line of a mark are no blanks.
+    pub fn solid_bytes(&self, mark: Mark) -> Result<usize, Refusal> {
+        let mut text = Vec::new();
+        text.try_reserve(MOST_BYTES_OF_ITEM * (2 + MOST_ITEMS))?;
+        self.print_line(mark, &mut text);
+        Ok(text.iter().filter(|byte| !b" \n".contains(byte)).count())
     }
 
     /// The line of a mark in the canonical text.

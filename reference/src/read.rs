@@ -1,6 +1,7 @@
 //! The program of a text of either version, or the first fault of the text.
 
 use crate::grammar::{Index, Parser, Piece};
+use crate::growth::{boxed, push};
 use crate::limits::{Limits, MOST_INDEX, MOST_ITEMS, MOST_ROWS, MOST_TEXT_BYTES, MOST_WORK};
 use crate::program::{Clauses, Item, Kind, Mark, Program};
 use crate::refusal::{ensure, Refusal};
@@ -27,14 +28,18 @@ pub fn read(text: &[u8], limits: &Limits) -> Result<Program, Refusal> {
         parsed.clone()?;
     }
     // In version 1 a limit that a piece passes comes before what is wrong with a later token.
-    let mut builder = Builder::new(version, limits);
+    let mut builder = Builder::new(version, limits, &parser.indexes)?;
     builder.expand(&parser.pieces)?;
     parsed?;
     Ok(builder.program)
 }
 
+/// Of an index with its brackets.
+const MOST_INDEX_BYTES: usize = 16;
+
 struct Builder<'a> {
     limits: &'a Limits,
+    indexes: &'a [Index],
     program: Program,
     numbers: HashMap<Box<[u8]>, u32>,
     /// Those of the variables of the loops around what comes next, the outermost first.
@@ -57,10 +62,10 @@ struct Counts {
 }
 
 impl<'a> Builder<'a> {
-    fn new(version: Version, limits: &'a Limits) -> Builder<'a> {
-        let (program, counts) = (Program::new(version), Counts::default());
+    fn new(version: Version, limits: &'a Limits, indexes: &'a [Index]) -> Result<Builder<'a>, Refusal> {
+        let (program, counts) = (Program::new(version)?, Counts::default());
         let (numbers, values, finals, location) = (HashMap::new(), Vec::new(), Vec::new(), Vec::new());
-        Builder { limits, program, numbers, values, finals, counts, location }
+        Ok(Builder { limits, indexes, program, numbers, values, finals, counts, location })
     }
 
     /// Takes the expansion of pieces: the body of a loop comes once for each value of its variable.
@@ -72,7 +77,7 @@ impl<'a> Builder<'a> {
                 for value in from..=to {
                     self.counts.turns += 1;
                     ensure(self.counts.turns <= self.limits.turns, || Refusal::Line(line, "TooManyTurns"))?;
-                    self.values.push(value);
+                    push(&mut self.values, value)?;
                     self.expand(body)?;
                     self.values.pop();
                 }
@@ -87,7 +92,7 @@ impl<'a> Builder<'a> {
     fn take(&mut self, piece: &Piece) -> Result<(), Refusal> {
         match piece {
             Piece::Task { line } => self.add_segments(2, true, *line),
-            Piece::Item { kind, name, index, line } => self.item(*kind, name, index.as_deref(), *line),
+            Piece::Item { kind, name, index, line } => self.item(*kind, name, index.map(|number| &self.indexes[number as usize]), *line),
             Piece::TaskOpens { undeferred, is_final, line } => self.open_task(*undeferred, *is_final, *line),
             Piece::Group { line } => self.add_segments(1, false, *line),
             Piece::GroupOpens { line } => self.add(Mark::Group, *line),
@@ -120,13 +125,13 @@ impl<'a> Builder<'a> {
         let has_room = self.program.items.len() - self.first_item() < MOST_ITEMS && all < self.limits.items;
         ensure(has_room, || Refusal::Line(line, "TooManyItems"))?;
         self.location.clear();
+        self.location.try_reserve(name.len() + MOST_INDEX_BYTES)?;
         self.location.extend_from_slice(name);
         if let Some(index) = index {
             self.add_index(index)?;
         }
-        let name = self.number_of_location();
-        self.program.items.push(Item { kind, name });
-        Ok(())
+        let name = self.number_of_location()?;
+        push(&mut self.program.items, Item { kind, name })
     }
 
     /// Where the items of the task that comes begin.
@@ -139,26 +144,27 @@ impl<'a> Builder<'a> {
         let size = if index.minus { value.abs_diff(index.by) } else { value.saturating_add(index.by) };
         ensure(size <= MOST_INDEX, || Refusal::Line(index.line, "BadNumber"))?;
         let sign = if index.minus && value < index.by { "-" } else { "" };
-        write!(self.location, "[{sign}{size}]").expect("memory takes it");
+        write!(self.location, "[{sign}{size}]").expect("there is room");
         Ok(())
     }
 
-    fn number_of_location(&mut self) -> u32 {
+    fn number_of_location(&mut self) -> Result<u32, Refusal> {
         if let Some(number) = self.numbers.get(self.location.as_slice()) {
-            return *number;
+            return Ok(*number);
         }
         let number = self.program.names.len() as u32;
-        self.numbers.insert(self.location.clone().into(), number);
-        self.program.names.push(self.location.clone().into());
-        number
+        self.numbers.try_reserve(1)?;
+        self.numbers.insert(boxed(&self.location)?, number);
+        push(&mut self.program.names, boxed(&self.location)?)?;
+        Ok(number)
     }
 
     fn open_task(&mut self, undeferred: bool, is_final: bool, line: usize) -> Result<(), Refusal> {
         let in_final = self.finals.last() == Some(&true);
         let items = self.first_item()..self.program.items.len();
         let number = self.program.tasks.len() as u32;
-        self.program.tasks.push(Clauses { undeferred: undeferred || in_final, items });
-        self.finals.push(in_final || is_final);
+        push(&mut self.program.tasks, Clauses { undeferred: undeferred || in_final, items })?;
+        push(&mut self.finals, in_final || is_final)?;
         self.add(Mark::Task(number), line)
     }
 
@@ -168,8 +174,7 @@ impl<'a> Builder<'a> {
         }
         self.counts.open_blocks -= 1;
         self.counts.solid += 1;
-        self.program.marks.push(mark);
-        Ok(())
+        push(&mut self.program.marks, mark)
     }
 
     fn add_work(&mut self, cost: u64, line: usize) -> Result<(), Refusal> {
@@ -180,15 +185,13 @@ impl<'a> Builder<'a> {
 
     /// Adds a mark, unless the canonical text of version 2 is too long with it and a `}` for each open block.
     fn add(&mut self, mark: Mark, line: usize) -> Result<(), Refusal> {
-        self.program.marks.push(mark);
+        push(&mut self.program.marks, mark)?;
         self.counts.open_blocks += usize::from(matches!(mark, Mark::Task(_) | Mark::Group));
         if self.program.version == Version::One {
             return Ok(());
         }
         if self.limits.solid < usize::MAX {
-            let mut text = Vec::new();
-            self.program.print_line(mark, &mut text);
-            self.counts.solid += text.iter().filter(|byte| !b" \n".contains(byte)).count();
+            self.counts.solid += self.program.solid_bytes(mark)?;
         }
         let (braces, lines) = (self.counts.open_blocks, self.program.marks.len() + self.counts.open_blocks);
         let solid = "omptasks2".len() + self.counts.solid + braces;
@@ -199,7 +202,8 @@ impl<'a> Builder<'a> {
 #[cfg(test)]
 mod tests {
     use super::read;
-    use crate::limits::{ANY_SIZE, COMMANDS};
+    use crate::growth::{boxed, push};
+use crate::limits::{ANY_SIZE, COMMANDS};
 
     fn fault(text: &str) -> String {
         read(text.as_bytes(), &COMMANDS).err().map_or(String::new(), |fault| fault.to_string())

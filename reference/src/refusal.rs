@@ -10,12 +10,16 @@ pub enum Refusal {
     OutOfMemory,
     /// What is wrong with a line of the input, counted from 1.
     Line(usize, &'static str),
+    Kind(&'static str),
+    /// What is wrong with a segment, or between two.
+    Segment(&'static str, u32),
+    Pair(&'static str, u32, u32),
     Other(String),
 }
 
-/// A refusal by these words.
-pub fn refused(why: impl Into<String>) -> Refusal {
-    Refusal::Other(why.into())
+/// A refusal of this kind.
+pub fn refused(kind: &'static str) -> Refusal {
+    Refusal::Kind(kind)
 }
 
 /// Goes on where this holds.
@@ -45,6 +49,9 @@ impl fmt::Display for Refusal {
             Refusal::ReadFault => write!(out, "read fault"),
             Refusal::OutOfMemory => write!(out, "out of memory"),
             Refusal::Line(line, what) => write!(out, "line {line}: {what}"),
+            Refusal::Kind(kind) => write!(out, "{kind}"),
+            Refusal::Segment(kind, segment) => write!(out, "{kind} {segment}"),
+            Refusal::Pair(kind, one, other) => write!(out, "{kind} {one} {other}"),
             Refusal::Other(why) => write!(out, "{why}"),
         }
     }

@@ -99,8 +99,9 @@ mod tests {
     fn kept_edges_have_the_chains_of_the_whole_relation() {
         for seed in 0..200 {
             let program = read(text(seed).as_bytes(), &COMMANDS).unwrap_or_else(|fault| panic!("{seed}: {fault}"));
-            let table = Table::of(&program);
-            let (graph, relation) = (Graph::of(&program, &table), Relation::new(&program, &table));
+            let table = Table::of(&program).expect("memory takes it");
+            let graph = Graph::of(&program, &table).expect("memory takes it");
+            let relation = Relation::new(&program, &table);
             let mut starts: Vec<u64> = Vec::new();
             for t in 0..graph.len() as u32 {
                 let before = |s: &u32| relation.must_precede(*s, t);
@@ -109,8 +110,8 @@ mod tests {
                 starts.push(ends.max().unwrap_or(0));
             }
             let span = Meter::of(&program).span;
-            assert_eq!((starts, span), earliest(&graph), "{seed}");
-            let found = analyse(&graph);
+            assert_eq!(Ok((starts, span)), earliest(&graph), "{seed}");
+            let found = analyse(&graph).expect("memory takes it");
             let chain: u64 = found.chain.iter().map(|member| graph.costs[*member as usize]).sum();
             assert_eq!((chain, found.span), (span, span), "{seed}");
             assert!(found.chain.windows(2).all(|step| relation.must_precede(step[0], step[1])), "{seed}");

@@ -5,7 +5,7 @@ use crate::documents::{small_number, words, Document};
 use crate::graph::Graph;
 use crate::limits::{Limits, MOST_WORKERS};
 use crate::read::read;
-use crate::refusal::{bad_form, refused, Refusal};
+use crate::refusal::{bad_form, Refusal};
 use crate::relation::Relation;
 use crate::reports::preds_line;
 
@@ -74,8 +74,8 @@ fn read_events(rest: &[u8], most: usize) -> Option<Vec<Event>> {
 pub fn replay(document: &Document, limits: &Limits) -> Result<Vec<u8>, Refusal> {
     let program = read(document.program, limits)?;
     let events = document.rest.and_then(|rest| read_events(rest, limits.events)).ok_or_else(bad_form)?;
-    let table = Table::of(&program);
-    let graph = Graph::of(&program, &table);
+    let table = Table::of(&program)?;
+    let graph = Graph::of(&program, &table)?;
     let mut run = Run {
         graph: &graph,
         relation: Relation::new(&program, &table),
@@ -85,7 +85,7 @@ pub fn replay(document: &Document, limits: &Limits) -> Result<Vec<u8>, Refusal> 
     };
     for (index, event) in events.iter().enumerate() {
         let taken = if event.is_start { run.start(event) } else { run.finish(event) };
-        taken.map_err(|why| refused(format!("event {index}: {why}")))?;
+        taken.map_err(|why| Refusal::Other(format!("event {index}: {why}")))?;
     }
     let finished = run.finished.iter().filter(|finished| **finished).count();
     let mut text = format!("events {}\nfinished {finished}\n", events.len()).into_bytes();

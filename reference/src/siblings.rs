@@ -2,8 +2,10 @@
 //! conflicts there with another of it, and each conflicts with all of the one before.
 
 use crate::cut::Table;
+use crate::growth::{filled, listed, push};
 use crate::program::{Item, Kind, Program};
-use std::collections::{BTreeMap, HashMap};
+use crate::refusal::Refusal;
+use std::collections::HashMap;
 
 /// At one name: the last siblings that share it, their kind, and the generation before.
 #[derive(Default)]
@@ -15,46 +17,49 @@ struct Generations {
 
 impl Generations {
     /// Adds a task; the generation before its own.
-    fn enter(&mut self, task: u32, kind: Kind) -> &[u32] {
+    fn enter(&mut self, task: u32, kind: Kind) -> Result<&[u32], Refusal> {
         if kind.conflicts(self.kind) {
             std::mem::swap(&mut self.current, &mut self.previous);
             self.current.clear();
             self.kind = kind;
         }
-        self.current.push(task);
-        &self.previous
+        push(&mut self.current, task)?;
+        Ok(&self.previous)
     }
 }
 
 /// The names of a task's items, each with the one kind that all items on it act as.
-fn kinds_by_name(items: &[Item]) -> BTreeMap<u32, Kind> {
-    let mut kinds = BTreeMap::new();
-    for item in items {
-        let kind = kinds.entry(item.name).or_insert(item.kind);
-        if kind.conflicts(item.kind) {
-            *kind = Kind::InOut;
+fn kinds_by_name(items: &[Item]) -> Result<Vec<Item>, Refusal> {
+    let mut kinds = listed(items.iter().copied())?;
+    kinds.sort_unstable_by_key(|item| item.name);
+    kinds.dedup_by(|item, first| {
+        let is_same = item.name == first.name;
+        if is_same && first.kind.conflicts(item.kind) {
+            first.kind = Kind::InOut;
         }
-    }
-    kinds
+        is_same
+    });
+    Ok(kinds)
 }
 
 /// For each task its kept siblings, ascending.
-pub fn kept_siblings(program: &Program, table: &Table) -> Vec<Vec<u32>> {
+pub fn kept_siblings(program: &Program, table: &Table) -> Result<Vec<Vec<u32>>, Refusal> {
     // By parent and name.
     let mut generations: HashMap<_, Generations> = HashMap::new();
     // For each task the last one that is kept after it.
-    let mut kept_by = vec![0; table.tasks.len()];
-    let mut kept = vec![Vec::new(); table.tasks.len()];
+    let mut kept_by = filled(0, table.tasks.len())?;
+    let mut kept = filled(Vec::new(), table.tasks.len())?;
     for (number, task) in (0..).zip(&table.tasks) {
-        for (name, kind) in kinds_by_name(program.items_of(number)) {
-            for earlier in generations.entry((task.parent, name)).or_default().enter(number, kind) {
+        for Item { name, kind } in kinds_by_name(program.items_of(number))? {
+            generations.try_reserve(1)?;
+            for earlier in generations.entry((task.parent, name)).or_default().enter(number, kind)? {
                 if kept_by[*earlier as usize] != number {
                     kept_by[*earlier as usize] = number;
-                    kept[number as usize].push(*earlier);
+                    push(&mut kept[number as usize], *earlier)?;
                 }
             }
         }
         kept[number as usize].sort_unstable();
     }
-    kept
+    Ok(kept)
 }

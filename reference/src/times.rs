@@ -2,6 +2,7 @@
 
 use crate::documents::{number, small_number, words, Document};
 use crate::graph::Graph;
+use crate::growth::{filled, listed};
 use crate::limits::{MOST_MOMENT, MOST_THREADS, MOST_WORK};
 use crate::refusal::{bad_form, ensure, refused, Refusal};
 
@@ -63,7 +64,7 @@ pub fn read_times(document: &Document, segments: usize) -> Result<Times, Refusal
         }
     }
     let (threads, first, last) = region.ok_or(wrong(last_line))?;
-    let each = (0..).zip(ran).map(|(segment, times)| times.ok_or_else(|| refused(format!("NotTimed {segment}"))));
+    let each = (0..).zip(ran).map(|(segment, times)| times.ok_or(Refusal::Segment("NotTimed", segment)));
     Ok(Times { threads, first, last, ran: each.collect::<Result<_, _>>()? })
 }
 
@@ -76,11 +77,12 @@ impl Times {
     pub fn check(&self, graph: &Graph) -> Result<(), Refusal> {
         ensure((1..=MOST_THREADS).contains(&self.threads), || refused("ThreadCount"))?;
         ensure(self.first <= self.last && self.last <= MOST_WORK, || refused("Moments"))?;
+        ensure(self.ran.len() == graph.len(), || refused("WrongLength"))?;
         graph.segments().try_for_each(|segment| self.check_range(segment))?;
         for segment in graph.segments() {
             let is_late = |pred: &&u32| self.of(**pred).end > self.of(segment).begin;
             if let Some(pred) = graph.preds(segment).iter().find(is_late) {
-                return Err(refused(format!("TooSoon {segment} {pred}")));
+                return Err(Refusal::Pair("TooSoon", segment, *pred));
             }
         }
         self.check_apart()
@@ -88,21 +90,21 @@ impl Times {
 
     fn check_range(&self, segment: u32) -> Result<(), Refusal> {
         let ran = self.of(segment);
-        ensure(ran.thread < self.threads, || refused(format!("NoThread {segment}")))?;
-        ensure(ran.begin <= ran.end, || refused(format!("EndsEarly {segment}")))?;
-        ensure(self.first <= ran.begin && ran.end <= self.last, || refused(format!("OutOfTime {segment}")))
+        ensure(ran.thread < self.threads, || Refusal::Segment("NoThread", segment))?;
+        ensure(ran.begin <= ran.end, || Refusal::Segment("EndsEarly", segment))?;
+        ensure(self.first <= ran.begin && ran.end <= self.last, || Refusal::Segment("OutOfTime", segment))
     }
 
     /// No two segments run on one thread at one moment.
     fn check_apart(&self) -> Result<(), Refusal> {
-        let mut order: Vec<u32> = (0..self.ran.len() as u32).collect();
+        let mut order = listed(0..self.ran.len() as u32)?;
         order.sort_unstable_by_key(|segment| (self.of(*segment).begin, *segment));
-        let mut busy_until = vec![0; self.threads as usize];
+        let mut busy_until = filled(0, self.threads as usize)?;
         for segment in order {
             let ran = self.of(segment);
             let until = &mut busy_until[ran.thread as usize];
             if ran.begin < ran.end {
-                ensure(*until <= ran.begin, || refused(format!("NotApart {segment}")))?;
+                ensure(*until <= ran.begin, || Refusal::Segment("NotApart", segment))?;
                 *until = ran.end;
             }
         }

@@ -1,12 +1,15 @@
 """libspanprof as C has it: where it is, its lists and structures, and its refusals as errors.
 
 Lists of numbers are numpy arrays where numpy is there, and arrays of the standard library where it is not.
-SPANPROF_LIBRARY names the library; without it the one that was built or installed with this file is taken.
+SPANPROF_LIBRARY names the library; without it the one that was built or installed with this file is taken: the proved
+one, or else that of the reference implementation.
 """
 import array
 import ctypes
 import functools
 import os
+
+from spanprof.checksums import is_proved
 
 KINDS = ("TooLong", "BadHeader", "BadByte", "BadWord", "BadNumber", "Unclosed", "Unopened", "TooDeep", "TooManyTasks",
          "TooManySegments", "TooManyItems", "WorkTooLarge", "OutOfMemory", "TooManyTurns", "ThreadCount", "CostCount",
@@ -66,15 +69,16 @@ class Certified(ctypes.Structure):
 
 
 def places():
-    """Where the library may be: beside this file, as a wheel has it, in the repository, below the prefix that this file
-    is installed on, on the system."""
+    """Where the library may be: beside this file, as a wheel has it, proved in the repository, below the prefix that
+    this file is installed on, without proofs in the repository, on the system."""
     named = os.environ.get("SPANPROF_LIBRARY")
     if named:
         return [named]
     here = os.path.dirname(os.path.abspath(__file__))
     above = os.path.dirname(os.path.dirname(here))
-    found = [os.path.join(here, NAME), os.path.join(above, "out", "library", NAME),
-             os.path.join(above, "..", "lib", NAME)]
+    folders = [here, os.path.join(above, "out", "library"), os.path.join(above, "..", "lib"),
+               os.path.join(above, "reference", "target", "release"), os.path.join(above, "reference", "out")]
+    found = [os.path.join(folder, NAME) for folder in folders]
     return [place for place in found if os.path.exists(place)] + [NAME]
 
 
@@ -85,10 +89,18 @@ def shared():
     try:
         loaded = ctypes.CDLL(place)
     except OSError as error:
-        raise NoLibrary("%s; tools/library.sh (with rt) builds it, and SPANPROF_LIBRARY names it" % error) from None
+        raise NoLibrary("%s; reference/build.sh builds it, tools/library.sh (with rt) proves it, and SPANPROF_LIBRARY names it"
+                        % error) from None
     if not hasattr(loaded, "spanprof_measure"):
         raise NoLibrary("%s is not libspanprof" % place)
     return loaded
+
+
+def answering():
+    """The library that answers, by its path where it is known, and whether it was proved."""
+    shared()
+    place = places()[0]
+    return place, os.sep in place and is_proved(os.path.realpath(place))
 
 
 def numpy():

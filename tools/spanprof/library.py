@@ -10,11 +10,17 @@ from typing import NamedTuple, Sequence
 
 from spanprof import c_calls
 from spanprof.c_calls import (MOST_THREADS, NO_THREAD, OF_LIMITS, Accounted, Analysed, Bounded, Certified, Measured,
-                              NoLibrary, Place, Refused, bytes_of, called, count_of, numbers_of, passed, refuse, room,
-                              told)
+                              NoLibrary, Place, Refused, answering, bytes_of, called, count_of, numbers_of, passed,
+                              refuse, room, told)
 
-__all__ = ["MOST_THREADS", "NO_THREAD", "Account", "Bounds", "Certificate", "NoLibrary", "Program", "Refused", "Run",
-           "check", "parse", "read"]
+__all__ = ["MOST_THREADS", "NO_THREAD", "About", "Account", "Bounds", "Certificate", "NoLibrary", "Program", "Refused", "Run",
+           "about", "check", "parse", "read"]
+
+
+class About(NamedTuple):
+    """Which library answers, and whether it is one that was proved, whose checksum stands beside it."""
+    library: str
+    proved: bool
 
 
 class Run(NamedTuple):
@@ -151,6 +157,11 @@ class Program:
         self._call("spanprof_account", count_of(count), ctypes.c_uint64(first), ctypes.c_uint64(last), *passed(threads),
                    *passed(begins), *passed(ends), *passed(ready), ctypes.byref(found))
         return Account(found.busy, found.delayed, found.starved, found.outside, told(ready))
+
+
+def about():
+    """Which library answers here."""
+    return About(*answering())
 
 
 def parse(text):

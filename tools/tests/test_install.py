@@ -48,6 +48,17 @@ class Plan(unittest.TestCase):
         self.assertFalse([path for path in install.shared_files() if "tests/" in path or path.endswith("install.py")])
 
 
+class Libraries(InFolder):
+    def test_the_proved_one_or_that_beside_the_program(self):
+        self.assertEqual(install.library_of("reference/out/spanprof", self.folder), "reference/out")
+        shared = self.write("libspanprof.so")
+        self.assertEqual(install.library_of("reference/out/spanprof", self.folder), self.folder)
+        self.assertNotIn("lib/libspanprof.so.sha256", [path for _, path in install.of_library(self.folder)])
+        self.write("libspanprof.so.sha256")
+        self.assertEqual(dict((path, source) for source, path in install.of_library(self.folder))
+                         ["lib/libspanprof.so.sha256"], shared + ".sha256")
+
+
 class Programs(InFolder):
     def test_named_proved_or_without_proofs(self):
         proved = [self.write(name) for name in ("spanprof", "spanprof_large")]

@@ -1,6 +1,9 @@
 """The module over a library that is written here, so that no other is needed."""
 import array
+import hashlib
 import os
+import pathlib
+import tempfile
 import unittest
 from unittest import mock
 
@@ -224,6 +227,26 @@ class Finding(unittest.TestCase):
         with mock.patch.dict(os.environ), mock.patch("os.path.exists", return_value=False):
             os.environ.pop("SPANPROF_LIBRARY", None)
             self.assertEqual(c_calls.places(), ["libspanprof.so"])
+
+    def test_the_proved_one_before_that_of_the_reference_implementation(self):
+        with mock.patch.dict(os.environ), mock.patch("os.path.exists", return_value=True):
+            os.environ.pop("SPANPROF_LIBRARY", None)
+            folders = [os.path.basename(os.path.dirname(place)) for place in c_calls.places()]
+        self.assertEqual(folders, ["spanprof", "library", "lib", "release", "out", ""])
+
+    def test_which_one_answers_and_whether_it_was_proved(self):
+        with tempfile.TemporaryDirectory() as folder, mock.patch.object(c_calls, "shared"):
+            path = os.path.join(folder, "libspanprof.so")
+            with mock.patch.dict(os.environ, SPANPROF_LIBRARY=path):
+                pathlib.Path(path).write_bytes(b"some library")
+                self.assertEqual(library.about(), (path, False))
+                digest = hashlib.sha256(b"some library").hexdigest()
+                pathlib.Path(path + ".sha256").write_text("%s  libspanprof.so\n" % digest, encoding="ascii")
+                self.assertEqual(library.about(), (path, True))
+                pathlib.Path(path).write_bytes(b"another one")
+                self.assertEqual(library.about(), (path, False))
+            with mock.patch.dict(os.environ, SPANPROF_LIBRARY="libspanprof.so"):
+                self.assertEqual(library.about(), ("libspanprof.so", False))
 
 
 class Arrays(unittest.TestCase):
