@@ -1,6 +1,7 @@
 #include "sampled_calls.hpp"
 
 #include <algorithm>
+#include <cstring>
 #include <map>
 #include <set>
 #include <vector>
@@ -31,7 +32,8 @@ bool is_version_of_one(const std::string &name, const std::vector<std::string> &
 std::string library_of_system(const void *code, const Places &places) {
   const ModuleOfRun *module = code && places.modules() ? places.modules()->of(code) : nullptr;
   std::string name = module ? module->path.substr(module->path.rfind('/') + 1) : "";
-  bool is_systems = begins_with_one(name, {"libc.so", "libm.so", "ld-linux", "linux-vdso", "libstdc++", "libgcc_s"});
+  bool is_systems = begins_with_one(name, {"libc.so", "libm.so", "ld-linux", "linux-vdso", "libstdc++", "libgcc_s",
+                                           "libtcmalloc", "libjemalloc", "libmimalloc", "libtbbmalloc"});
   bool is_interpreter = name == "R" || is_version_of_one(name, {"python", "octave-cli", "octave-gui", "perl", "ruby",
                                                                 "guile", "lua", "libpython", "libR", "liboctinterp",
                                                                 "liboctave", "libperl", "libruby", "libguile",
@@ -80,6 +82,16 @@ bool is_recorder(const void *code, const Places &places) {
   return module && module->path.substr(module->path.rfind('/') + 1) == "librecorder.so";
 }
 
+// It gives memory, or takes it back: of the C library, the C++ library, or what stands in their place.
+bool is_allocator(const std::string &name) {
+  std::string function = name.substr(0, name.find(of_system));
+  for (const char *prefix : {"libc_", "je_", "tc_", "mi_"})
+    if (!function.rfind(prefix, 0)) function = function.substr(strlen(prefix));
+  static const std::set<std::string> all{"malloc", "calloc",   "realloc",        "reallocarray",  "free",
+                                         "cfree",  "memalign", "posix_memalign", "aligned_alloc", "valloc"};
+  return all.count(function) || begins_with_one(function, {"operator new", "operator delete"});
+}
+
 // Those of a call of MPI end with it, whatever its library does inside: it talks to other ranks, or waits for them.
 bool is_of_ranks(const std::string &name) { return begins_with_one(name, {"MPI_", "PMPI_"}); }
 
@@ -97,8 +109,8 @@ std::string joined(const Names &names) {
   return out;
 }
 
-enum Did { ran, slept, shares, at };
-constexpr const char *words[] = {" ran ", " slept ", " shares ", " at "};
+enum Did { ran, slept, shares, at, allocated };
+constexpr const char *words[] = {" ran ", " slept ", " shares ", " at ", " allocated "};
 
 using Sampled = std::pair<Did, std::string>;  // in which calls, or where
 
@@ -106,31 +118,42 @@ struct Sum {
   std::map<Sampled, uint64_t> by_calls;  // microseconds
 };
 
+struct Called {
+  Names names;
+  bool allocates = false;
+};
+
 // Up to where the runtime called the program. What the runtime calls the recorder for is not its own.
-Names names_from(const Calls &calls, const Places &places) {
-  Names all;
+Called called_from(const Calls &calls, const Places &places) {
+  Called out;
+  Names &all = out.names;
   bool of_recorder = false;
   for (const void *code : calls) {
     bool is_runtime = places.modules() && places.modules()->in_runtime(code);
     of_recorder |= is_recorder(code, places);
     if (is_runtime && !all.empty() && (of_recorder || !is_of_system(all.back()))) break;
-    if (is_runtime && !of_recorder) all = {the_runtime};
-    if (!is_runtime && !is_recorder(code, places)) add_names(all, names_of(code, places));
+    if (is_runtime && !of_recorder) out = {{the_runtime}};
+    if (is_runtime || is_recorder(code, places)) continue;
+    Names more = names_of(code, places);
+    out.allocates |= std::any_of(more.begin(), more.end(), is_allocator);
+    add_names(all, more);
   }
-  return all;
+  return out;
 }
 
 struct Named {
-  std::string calls, line;  // the innermost one of the program
+  std::string calls;
+  Frame own;  // the innermost one of the program
   bool in_recorder;  // its own code was running, which is none of the program's
+  bool allocates;
 };
 
-std::string line_of(const Calls &calls, const Places &places) {
+Frame own_of(const Calls &calls, const Places &places) {
   for (const void *code : calls)
-    if (const auto &frames = places.frames(code);
-        library_of_system(code, places).empty() && !frames.empty() && !frames[0].of_library)
-      return frames[0].at;
-  return "";
+    if (const auto &frames = places.frames(code); library_of_system(code, places).empty() && !frames.empty() &&
+                                                  !frames[0].of_library && !is_allocator(frames[0].function))
+      return frames[0];
+  return {};
 }
 
 std::vector<Named> all_named(const Stacks &stacks, Places &places) {
@@ -139,8 +162,8 @@ std::vector<Named> all_named(const Stacks &stacks, Places &places) {
   places.look_up({codes.begin(), codes.end()});
   std::vector<Named> out;
   for (const Calls &calls : stacks.all())
-    out.push_back(
-        {named_calls(calls, places), line_of(calls, places), !calls.empty() && is_recorder(calls.front(), places)});
+    out.push_back({named_calls(calls, places), own_of(calls, places),
+                   !calls.empty() && is_recorder(calls.front(), places), called_from(calls, places).allocates});
   return out;
 }
 
@@ -161,7 +184,7 @@ std::vector<const void *> all_contended(const Stacks &stacks, Places &places) {
 }  // namespace
 
 std::string named_calls(const Calls &calls, const Places &places) {
-  Names all = names_from(calls, places);
+  Names all = called_from(calls, places).names;
   auto ranks = std::find_if(all.rbegin(), all.rend(), is_of_ranks);
   if (ranks != all.rend()) all.erase(all.begin(), ranks.base() - 1);
   auto start = std::find_if(all.begin(), all.end(), calls_main);
@@ -183,7 +206,9 @@ std::string sampled_lines(const Region &region, const OffTimes &times, const Sta
     if (number == none) continue;
     found[number].by_calls[{one.asleep ? slept : ran, named.calls}] += one.stands_for;
     const void *shared = one.sample ? contended[one.sample - 1] : nullptr;
-    if (!one.asleep && !named.line.empty()) found[number].by_calls[{at, named.line}] += one.stands_for;
+    if (!one.asleep && !named.own.at.empty()) found[number].by_calls[{at, named.own.at}] += one.stands_for;
+    if (!one.asleep && named.allocates)
+      found[number].by_calls[{allocated, named.own.at + " " + named.own.function}] += one.stands_for;
     bool is_systems = !library_of_system(shared, places).empty();
     if (shared && !is_systems && !places.at(shared).empty())
       found[number].by_calls[{shares, places.at(shared)}] += one.stands_for;

@@ -188,6 +188,28 @@ TEST(code_of_the_recorder_is_none_of_the_program) {
          "1 ran 4000 main\n1 slept 900 main\n1 at 4000 a.c:1\n");
 }
 
+TEST(memory_is_allocated_where_the_program_calls_for_it) {
+  Program made;
+  made.sample(0, 0, 4000).sample(0, 1, 8000).sample(0, 2, 2000).after(9);
+  end_region(made);
+  made.times();
+  Stacks stacks;
+  stacks.number({code(102), code(103), code(101), code(200), code(100)});
+  stacks.number({code(102), code(200), code(101)});
+  stacks.number({code(104), code(100)});
+  ModulesOfRun modules;
+  read_modules(modules);
+  Places places(&modules);
+  places.put_frames(code(100), {{"main", "a.c:1"}});
+  places.put_frames(code(101), {{"parse", "a.c:2"}});
+  places.put_frames(code(102), {{"malloc", "malloc.c:7"}});
+  places.put_frames(code(103), {{"std::vector<..>::grow", "vector:9", false, "", true}});
+  places.put_frames(code(104), {{"mallocate", "a.c:8"}});
+  std::string told = sampled_lines(*made.found.whole, made.found.whole->off, stacks, places);
+  EXPECT(told.find("1 allocated 4000 a.c:2 parse\n") != std::string::npos, true);
+  EXPECT(told.find("allocated", told.find("allocated") + 1) == std::string::npos, true);
+}
+
 TEST(code_in_headers_of_the_system_is_called_by_the_program) {
   Places places;
   places.put_frames(code(100),

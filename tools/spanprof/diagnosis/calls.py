@@ -38,11 +38,13 @@ class Ran(NamedTuple):
 
 class Sampled(NamedTuple):
     """By place: the microseconds of each list of calls, outermost first, in which code ran, or slept; of each line at
-    which it used memory that other threads used at the same time, where one of them wrote it; and of each that ran."""
+    which it used memory that other threads used at the same time, where one of them wrote it; of each that ran; and of
+    each that allocated memory or freed it, with its function."""
     ran: dict
     slept: dict
     shares: dict = {}
     at: dict = {}
+    allocated: dict = {}
 
 
 @lru_cache(maxsize=4096)

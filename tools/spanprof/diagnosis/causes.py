@@ -42,6 +42,8 @@ TABLE = (
           "smaller mutexinoutset items at {at}, or for the update alone"),
     Cause("memory", 0.1, "{contended}",
           "{instead}"),
+    Cause("allocation", 0.08, "memory allocation in {where}: {allocating} % of the code in parallel",
+          "allocate once, outside of the loop, or per thread"),
     Cause("system", 0.1, "{system} % of the processor time is the kernel's: {kernel} in {where}", "{less_kernel}"),
     Cause("sleep", 0.1, "{where} waits {in_what}",
           "wait less at {at}: start it earlier, or use more threads"),
@@ -53,15 +55,15 @@ TABLE = (
 )
 BY_KIND = {cause.kind: cause for cause in TABLE}
 # Without these other code may be cheaper too, so that what their losses took is no bound of the gain.
-CHEAPER = ("lock", "memory", "system", "sleep")
+CHEAPER = ("lock", "memory", "allocation", "system", "sleep")
 # Short names of them, and of what is lost without a cause.
 NAMES = {"serial": "serial", "too_few_tasks": "too few tasks", "dependence": "dependences", "wait": "waits",
          "imbalance": "uneven tasks", "small_tasks": "small tasks", "creation": "creating tasks",
          "small_regions": "small regions", "small_chunks": "small chunks", "undeferred": "undeferred tasks",
          "loop_schedule": "loop schedule", "lock": "lock", "exclusion": "exclusion", "memory": "memory",
-         "system": "operating system", "sleep": "asleep", "too_few_threads": "too few threads",
-         "too_many_threads": "too many threads", "machine": "busy machine", "recorder": "recorder",
-         "startup": "startup"}
+         "allocation": "memory allocation", "system": "operating system", "sleep": "asleep",
+         "too_few_threads": "too few threads", "too_many_threads": "too many threads", "machine": "busy machine",
+         "recorder": "recorder", "startup": "startup"}
 EFFICIENT = 0.85        # of the threads' time in code, from which on nothing need be lost
 BUSY = 0.1              # of the threads' time, from which on what other programs took is told apart
 SECOND = 0.1            # of the run's time, from which on a second cause is told

@@ -226,6 +226,13 @@ def set_ranks(facts):
             facts.asleep_by[name] = facts.asleep_by.get(name, 0) + 1000 * sum(waits.values())
 
 
+def set_allocating(facts):
+    """The functions of the lines that allocate memory."""
+    for line, _, function in (at.partition(" ") for found in facts.calls.allocated.values() for at in found):
+        if line and function:
+            facts.functions.setdefault(line, plain(function))
+
+
 def costs_of(code, head):
     """In nanoseconds."""
     unit = head.nanoseconds or 1
@@ -324,6 +331,7 @@ def facts_of(recording, end_of=greedy_end):
     set_off(facts, off, program)
     facts.calls = calls_of(recording.file("calls"), program.names)
     set_ranks(facts)
+    set_allocating(facts)
     facts.interpreter = interpreter_of(facts)
     try:
         set_breakdown(facts, account_of(head, numbers["work"], document(recording), program.names))

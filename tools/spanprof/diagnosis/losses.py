@@ -7,7 +7,7 @@ from typing import NamedTuple
 from spanprof.diagnosis.calls import A_SAMPLE, RUNTIME, in_system, shares
 from spanprof.diagnosis.causes import BUSY, BY_KIND, SECOND
 from spanprof.diagnosis.own_code import of_interpreter
-from spanprof.diagnosis.places import A_START, AROUND_REGIONS, OF_THREADS, OWN, SERIAL, SHARE
+from spanprof.diagnosis.places import A_START, ALLOCATION, AROUND_REGIONS, OF_THREADS, OWN, SERIAL, SHARE
 from spanprof.text import BEGINNING, TURNS, where
 
 SMALL = 5000            # nanoseconds of code in a task, below which creating and starting it costs much beside it
@@ -300,14 +300,16 @@ def off_losses(facts):
 
 
 def system_time(facts):
-    """Of code in the kernel, other than that before all constructs. Idle threads are in the kernel too, where they
-    yield the processor: code is there for its page faults, and for what it lasted longer than all time outside."""
+    """Of code in the kernel, other than that before all constructs, or than the first use of memory. Idle threads are
+    in the kernel too, where they yield the processor: code is there for its page faults, and for what it lasted longer
+    than all time outside."""
     usage = facts.usage or {}
     system, user = usage.get("system_ns") or 0, usage.get("user_ns") or 0
     if not system or system < MUCH_SYSTEM * (system + user):
         return min(system, A_FAULT * faults_again(usage))
     for_faults = min(fault_time(facts), facts.code * system // (system + user))
-    return max(0, min(system, max(for_faults, facts.code - user)) - begun(facts))
+    first = for_faults * first_use_share(usage)
+    return max(0, min(system, max(for_faults, facts.code - user)) - max(begun(facts), int(first)))
 
 
 def fault_time(facts):
@@ -317,6 +319,12 @@ def fault_time(facts):
 def faults_again(usage):
     """Page faults beyond one for each page that the program had at once: of memory that it gave back and took again."""
     return max(0, (usage.get("minor_faults") or 0) - usage["peak_bytes"] // A_PAGE) if usage.get("peak_bytes") else 0
+
+
+def first_use_share(usage):
+    """Of the page faults: no memory is without them that is used at all."""
+    return 1 - faults_again(usage) / usage["minor_faults"] if usage.get("peak_bytes") and usage.get("minor_faults") \
+        else 0.0
 
 
 def has_many_faults(facts):
@@ -391,12 +399,40 @@ def handling(facts):
     return out
 
 
+def allocating(facts):
+    """By line, what allocating and freeing memory took of code in parallel, by samples."""
+    out = {}
+    for name, lines in facts.calls.allocated.items():
+        place, sampled = facts.places.get(name), sum(facts.calls.ran.get(name, {}).values())
+        if place and place.kind != SERIAL and sampled:
+            code = max(0, place.cost - facts.asleep_by.get(name, 0))
+            for line, time in lines.items():
+                line = ALLOCATION + line.partition(" ")[0]
+                out[line] = out.get(line, 0) + code * time // sampled
+    return out
+
+
+def most_allocating(facts):
+    """The line that takes most; empty where it is not known."""
+    found = allocating(facts)
+    line = max(found, key=found.get, default="")
+    return line if line != ALLOCATION else ""
+
+
+def parallel_code(facts):
+    return sum(place.cost for place in facts.places.values() if place.kind != SERIAL)
+
+
 def in_code_losses(facts):
-    """Of what counts as code: in the kernel, in the runtime, and dearer than on one thread."""
+    """Of what counts as code: in the kernel, in the allocator, in the runtime, and dearer than on one thread. What the
+    allocator calls the kernel for is in both, so of these two that with more has it all."""
     left, out = facts.code, []
-    for kind, time, weights in (("system", system_time(facts), at_heaviest(facts)),
+    system, allocated = system_time(facts), sum(allocating(facts).values())
+    dear = max(0, sum(dearer(facts).values()) - allocated)
+    for kind, time, weights in (("system", system * (system > allocated), at_heaviest(facts)),
+                                ("allocation", allocated * (system <= allocated), {most_allocating(facts): 1}),
                                 *((kind, time, {place: 1}) for (kind, place), time in handling(facts).items()),
-                                ("memory", sum(dearer(facts).values()), dearer(facts))):
+                                ("memory", dear, dearer(facts))):
         part = min(time, left)
         left -= part
         out += by_place(kind, part, weights)

@@ -6,7 +6,7 @@ from typing import NamedTuple
 from spanprof.diagnosis.calls import A_SAMPLE, LEAST, NO_NAME, OF_SYSTEM, OFFSET, innermost, plain
 from spanprof.diagnosis.directives import DIRECTIVE, construct_of, directive_line, is_needless, own_item
 from spanprof.diagnosis.own_code import called_code
-from spanprof.diagnosis.places import OF_THREADS, OWN, SERIAL, lines_between
+from spanprof.diagnosis.places import ALLOCATION, OF_THREADS, OWN, SERIAL, lines_between
 from spanprof.source_lines import LONGEST, STRING, after_directive, code_lines, line_of, statement_end
 from spanprof.text import BEGINNING, where
 
@@ -109,7 +109,7 @@ class Names:
     def begin(self, name, at):
         """The line of a construct, by the name of its place and where it was recorded."""
         line, lock = line_of(at), self.lock(name)
-        if not line or not self.facts.is_of_gcc or lock and lock.kind != "critical":
+        if not line or not self.facts.is_of_gcc or lock and lock.kind != "critical" or name.startswith(ALLOCATION):
             return line
         construct = lock.kind if lock else construct_of(name)
         return line._replace(number=directive_line(self.lines_of(line.file), line.number, construct))
@@ -277,6 +277,9 @@ class Names:
     def other(self, name):
         """A wait, a lock or a region."""
         lock, told = self.lock(name), self.spelt(name)
+        if name.startswith(ALLOCATION):
+            function, at = self.function_at(name), name[len(ALLOCATION):]
+            return "%s (%s)" % (function, at) if function else at
         if lock:
             return "%s%s" % (lock.kind, " at " + told if lock.place else "")
         return told if not name.startswith(("taskwait", "taskgroup", "barrier")) else "the " + told

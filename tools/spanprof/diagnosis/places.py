@@ -13,6 +13,7 @@ from spanprof.text import BARRIER, OF_A_THREAD, construct, is_share, named
 
 SERIAL, OF_THREADS, TASK, SHARE = "serial", "of threads", "task", "share"
 AFTER_REGION = "after the " + BARRIER
+ALLOCATION = "allocation at "       # before a line that allocates memory
 OWN = named("task", OF_A_THREAD)    # the name of a thread's own code, in a text the same in all regions
 ALONE = 0.05        # of the largest piece of a phase: where the others together have less, one thread runs it
 A_START = 50000     # nanoseconds: a thread starts a region's code in less, or goes on after it

@@ -6,8 +6,8 @@ from spanprof.account_words import lasting
 from spanprof.diagnosis.calls import NO_NAME, OFFSET, ONE_AT_A_TIME, SHARES, asleep_in, innermost, together
 from spanprof.diagnosis.causes import BY_KIND, CHEAPER, NAMES
 from spanprof.diagnosis.facts import Region
-from spanprof.diagnosis.losses import (A_TASK, MANY, average_task, has_many_faults, is_maker, losses, missing_threads,
-                                       most_shared, useful_time)
+from spanprof.diagnosis.losses import (A_TASK, MANY, allocating, average_task, has_many_faults, is_maker, losses,
+                                       missing_threads, most_shared, parallel_code, useful_time)
 from spanprof.diagnosis.own_code import interpreted_share, is_interpreter, words_of_interpreter
 from spanprof.diagnosis.places import AFTER_REGION, SERIAL, SHARE
 from spanprof.diagnosis.plan import holder
@@ -86,6 +86,7 @@ def words_of_run(facts):
             "code": "%.0f" % min(100, 100 * facts.code / useful_time(facts, losses(facts))),
             "time": "the rest" if facts.taken else "the time",
             **words_of_kernel(facts, usage),
+            "allocating": "%.0f" % (100 * sum(allocating(facts).values()) / max(parallel_code(facts), 1)),
             "system": "%.0f" % (100 * (usage.get("system_ns") or 0) / used if used else 0)}
 
 

@@ -66,10 +66,12 @@ class Files(unittest.TestCase):
             path = os.path.join(folder, "calls")
             with open(path, "w", encoding="utf-8") as file:
                 file.write("0 ran 8000 main;operator new (unsigned long)\n2 ran 4000 main;b\n0 ran 4000 main;b\n"
-                           "7 ran 4000 main\n0 slept 900 main;load;read\n2 shares 4000 a.c:7\n")
+                           "7 ran 4000 main\n0 slept 900 main;load;read\n2 shares 4000 a.c:7\n"
+                           "1 allocated 4000 a.c:9 parse(char const*)\n1 allocated 2000  \n")
             found = calls_of(path, ["serial", "task", "serial"])
         self.assertEqual(found.slept, {"serial": Counter({("main", "load", "read"): 900})})
         self.assertEqual(found.shares, {"serial": Counter({"a.c:7": 4000})})
+        self.assertEqual(found.allocated, {"task": Counter({"a.c:9 parse(char const*)": 4000, " ": 2000})})
         self.assertEqual(found.ran,
                          {"serial": Counter({("main", "operator new"): 8000, ("main", "b"): 8000})})
         self.assertEqual(together(found.ran, ["serial", "task"]), found.ran["serial"])

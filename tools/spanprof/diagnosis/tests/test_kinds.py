@@ -9,7 +9,7 @@ from spanprof.diagnosis.diagnose import diagnose
 from spanprof.diagnosis.facts import Region
 from spanprof.diagnosis.library_locks import set_library_locks
 from spanprof.diagnosis.lock_times import Held
-from spanprof.diagnosis.losses import in_code_losses
+from spanprof.diagnosis.losses import Loss, in_code_losses
 from spanprof.diagnosis.places import AFTER_REGION, OF_THREADS, OWN, SERIAL, SHARE
 from spanprof.diagnosis.tests.worked import MS, facts, place
 from spanprof.folders import TOP
@@ -101,6 +101,27 @@ class Kinds(unittest.TestCase):
     def test_memory(self):
         found = facts([place(TASKS, cost=400 * MS)], cost_on_one={TASKS: 100 * MS})
         self.assertEqual(self.first(found), "memory")
+
+    def test_allocation(self):
+        called = {TASKS: {("main", "parse", "malloc@libc.so.6"): 30000, ("main", "parse"): 70000}}
+        lines = {TASKS: {"words.c:9 parse(char*)": 20000, "words.c:12 parse(char*)": 10000}}
+        found = facts([place(TASKS, cost=400 * MS)], calls=Sampled(called, {}, {}, {}, lines))
+        told = diagnose(found)
+        self.assertEqual(told.causes, [Loss("allocation", "allocation at words.c:9", 120 * MS)])
+        self.assertFalse(told.plan[0].at_best)
+
+    def test_the_kernels_time_beneath_the_allocator_counts_once(self):
+        called = {TASKS: {("main", "parse", "free@libc.so.6"): 30000, ("main", "parse"): 70000}}
+        calls = Sampled(called, {}, {}, {}, {TASKS: {"words.c:9 parse": 30000}})
+        for system, kind, lost in ((110, "allocation", 120), (300, "system", 300)):
+            usage = {"user_ns": (400 - system) * MS, "system_ns": system * MS}
+            found = in_code_losses(facts([place(TASKS, cost=400 * MS)], calls=calls, usage=usage))
+            self.assertEqual({loss.kind: loss.time for loss in found if loss.time}, {kind: lost * MS})
+
+    def test_what_serial_code_allocates_is_no_cause(self):
+        begins = place("the beginning", SERIAL, cost=400 * MS, pieces=1, tasks=0)
+        calls = Sampled({begins.name: {("main",): 100000}}, {}, {}, {}, {begins.name: {"words.c:9 main": 90000}})
+        self.assertEqual([loss for loss in in_code_losses(facts([begins], calls=calls)) if loss.time], [])
 
     def test_system(self):
         usage = {"user_ns": 100 * MS, "system_ns": 300 * MS, "minor_faults": 400000}

@@ -81,6 +81,9 @@ class Losses(unittest.TestCase):
         self.assertEqual(system(user_ns=60 * MS, system_ns=350 * MS), 240 * MS)     # of 300 ms of code
         self.assertEqual(system(user_ns=310 * MS, system_ns=120 * MS), 0)
         self.assertEqual(system(user_ns=290 * MS, system_ns=110 * MS, minor_faults=10000), 40 * MS)
+        for first, lost in ((10000, 0), (2500, 30 * MS), (0, 40 * MS)):     # pages that are used for the first time
+            self.assertEqual(system(user_ns=290 * MS, system_ns=110 * MS, minor_faults=10000,
+                                    peak_bytes=first * 4096), lost)
 
     def test_pages_that_are_taken_again_are_a_loss_and_those_that_are_taken_once_are_not(self):
         def lost(pages, asleep=0):

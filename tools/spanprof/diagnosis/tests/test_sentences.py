@@ -174,6 +174,16 @@ class Sentences(unittest.TestCase):
             "do    a local copy of what image.c:11 writes, written back once            100 ms -> 40.0 ms or less"])
         self.assertIn("not known: what it costs on one thread: --full", lines[4])
 
+    def test_memory_is_allocated_at_a_line_of_a_function(self):
+        run = found(is_of_gcc=True)
+        run.functions = {"image.c:12": "tone"}
+        run.places[TASKS].cost = 400 * MS
+        run.calls = Sampled({TASKS: {("main", "tone"): 10 * 4000}}, {}, {}, {}, {TASKS: {"image.c:12 tone": 8000}})
+        lines = short_lines(diagnose(run), Names(run, SOURCES))
+        self.assertEqual(lines[1:3], [
+            "lost  20 %  memory allocation in tone (image.c:12): 20 % of the code in parallel",
+            "do    allocate once, outside of the loop, or per thread                    100 ms -> 80.0 ms or less"])
+
     def test_serial_code_is_told_by_the_lines_that_samples_saw(self):
         run = found()
         run.calls = Sampled({"the beginning": {("main",): 10 * 4000}}, {}, {},
