@@ -89,8 +89,8 @@ def shared():
     try:
         loaded = ctypes.CDLL(place)
     except OSError as error:
-        raise NoLibrary("%s; reference/build.sh builds it, tools/library.sh (with rt) proves it, and SPANPROF_LIBRARY names it"
-                        % error) from None
+        raise NoLibrary("%s; reference/build.sh builds it, tools/library.sh (with rt) proves it, and SPANPROF_LIBRARY "
+                        "names it" % error) from None
     if not hasattr(loaded, "spanprof_measure"):
         raise NoLibrary("%s is not libspanprof" % place)
     return loaded

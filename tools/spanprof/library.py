@@ -13,8 +13,8 @@ from spanprof.c_calls import (MOST_THREADS, NO_THREAD, OF_LIMITS, Accounted, Ana
                               NoLibrary, Place, Refused, answering, bytes_of, called, count_of, numbers_of, passed,
                               refuse, room, told)
 
-__all__ = ["MOST_THREADS", "NO_THREAD", "About", "Account", "Bounds", "Certificate", "NoLibrary", "Program", "Refused", "Run",
-           "about", "check", "parse", "read"]
+__all__ = ["MOST_THREADS", "NO_THREAD", "About", "Account", "Bounds", "Certificate", "NoLibrary", "Program", "Refused",
+           "Run", "about", "check", "parse", "read"]
 
 
 class About(NamedTuple):

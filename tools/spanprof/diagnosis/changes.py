@@ -8,6 +8,7 @@ from spanprof.diagnosis.calls import innermost
 from spanprof.diagnosis.losses import kind_of_starved, most_shared
 from spanprof.diagnosis.places import OF_THREADS, SERIAL, SHARE, in_text
 from spanprof.errors import Fault
+from spanprof.progress import Progress, each
 from spanprof.text import BARRIER
 from spanprof.whatif.creating import costs_for
 from spanprof.whatif.numbers import greedy_end
@@ -160,4 +161,5 @@ class Bench:
     def tries(self, found, before=()):
         """Those of the changes that can be made, on top of others."""
         ask = client.at_once if len(self.kept) < LARGE else map
-        return list(filter(None, ask(lambda change: self.one(tuple(before), change), found)))
+        shown = each(found, Progress("trying changes"))
+        return list(filter(None, ask(lambda change: self.one(tuple(before), change), shown)))

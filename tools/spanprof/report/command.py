@@ -8,6 +8,7 @@ from spanprof.command import Console, check_files, count, end_with, percent, sho
 from spanprof.diagnosis.compare import as_json as comparison_json, compared, is_slower, lines as comparison_lines
 from spanprof.diagnosis.tell import told_of
 from spanprof.errors import Fault
+from spanprof.progress import Progress
 from spanprof.recording import open_recording, text_of
 from spanprof.report.page import page
 from spanprof.report.stacks import folded, pprof, stacks
@@ -20,7 +21,6 @@ recordings, compares them."""
 AFTER = """Exit status 1: a file is missing, damaged or cannot be written; 2: wrong arguments; 3: slower by more than
 --fail-above."""
 SLOWER = 3
-LONGEST_WORDS = 100
 MOST_THREADS = 1024
 
 
@@ -83,25 +83,6 @@ def write(path, text):
         file.write(data)
 
 
-class Progress:
-    """One line that says what is being done, where somebody looks on."""
-
-    def __init__(self, stream):
-        self.stream, self.count = stream, 0
-
-    def __call__(self, words):
-        self.count += 1
-        if self.stream.isatty():
-            shown = "spanprof-report: %d: %s" % (self.count, words)
-            print("\r\033[K" + shown[:LONGEST_WORDS], end="", file=self.stream, flush=True)
-
-    def end(self, written):
-        """Names the files, wherever they are told."""
-        if self.stream.isatty():
-            print("\r\033[K", end="", file=self.stream)
-        show(["spanprof-report: written: %s" % path for path in written], self.stream)
-
-
 def write_the_rest(chosen, progress):
     """What was asked for; what was written is told."""
     if chosen.json:
@@ -111,12 +92,13 @@ def write_the_rest(chosen, progress):
     views = [View(text, chosen.threads, chosen.source, prefix, progress) for text, prefix in texts if text]
     if chosen.trace and views[0].is_long:
         raise Fault("%s: the text is beyond the limits of spanprof, and has no --trace" % chosen.program)
-    made = {"page": lambda: page(views), "trace": lambda: trace_text(views[0]),
+    made = {"page": lambda: page(views, progress), "trace": lambda: trace_text(views[0]),
             "stacks": lambda: folded(stacks(open_recording(chosen.program))),
             "profile": lambda: pprof(stacks(open_recording(chosen.program)))}
     for path, what in written:
         write(path, made[what]())
-    progress.end([path for path, _ in written])
+    progress.end()
+    show(["spanprof-report: written: %s" % path for path, _ in written])
     if chosen.output not in (None, "-") and views[0].diagnosis:
         show(views[0].diagnosis.lines(), sys.stdout)
 
@@ -148,7 +130,7 @@ def answer(chosen):
     chosen.program = text_of(chosen.program)
     chosen.other = chosen.other and text_of(chosen.other)
     check(chosen)
-    write_the_rest(chosen, Progress(sys.stderr))
+    write_the_rest(chosen, Progress("spanprof-report"))
 
 
 def main(words):

@@ -1,7 +1,9 @@
 """The page: the diagnosis, and below it parts that are folded until asked for; with style and script."""
 import json
 import os
+from functools import partial
 
+from spanprof.progress import Progress, each
 from spanprof.report.colours import colour_rules
 from spanprof.report.markup import Markup, join, markup
 from spanprof.report.part_changes import changes_part
@@ -25,13 +27,14 @@ def kept(name):
         return file.read()
 
 
-def parts(views):
+def parts(views, progress):
     """Some texts have not all of them."""
     view = views[0]
-    made = [first_part(view), *[timeline_part(one, number, views) for number, one in enumerate(views)],
-            places_part(view), changes_part(view), curve_part(views), compare_part(views) if len(views) > 1 else "",
-            source_part(view), graph_part(view), numbers_part(view)]
-    return list(filter(None, made))
+    makers = [partial(first_part, view), *[partial(timeline_part, one, n, views) for n, one in enumerate(views)],
+              partial(places_part, view), partial(changes_part, view), partial(curve_part, views),
+              *[partial(compare_part, views)] * (len(views) > 1), partial(source_part, view), partial(graph_part, view),
+              partial(numbers_part, view)]
+    return list(filter(None, [make() for make in each(makers, progress)]))
 
 
 def as_script(found):
@@ -50,9 +53,9 @@ def filled(text, pieces):
     return "".join(out)
 
 
-def page(views):
+def page(views, progress=None):
     """The whole page as text."""
-    made = parts(views)
+    made = parts(views, progress or Progress("making the page"))
     return filled(kept("page.html"), {
         "title": markup(" and ".join(view.name for view in views)), "main": join(made, "\n"),
         "data": as_script({"programs": [timeline_data(view) for view in views]}),

@@ -7,7 +7,7 @@ import tempfile
 import unittest
 from unittest import mock
 
-from spanprof.report.command import Progress, beside, main
+from spanprof.report.command import beside, main
 from spanprof.report.tests import worked
 from spanprof.tests.proofs import with_a_proved_program
 
@@ -82,31 +82,3 @@ class Command(unittest.TestCase):
         for option, what in (("-o", "page"), ("--trace", "trace")):
             self.assertEqual(self.refused(text, option, text),
                              "spanprof-report: %s: the %s would be written over the text\n" % (text, what))
-
-
-class Words(io.StringIO):
-    def __init__(self, is_terminal):
-        super().__init__()
-        self.is_terminal = is_terminal
-
-    def isatty(self):
-        return self.is_terminal
-
-
-class ProgressTold(unittest.TestCase):
-    def told(self, is_terminal):
-        stream = Words(is_terminal)
-        progress = Progress(stream)
-        progress("spanprof span < a.tasks")
-        progress("spanprof " + "x" * 300)
-        progress.end(["a.html"])
-        return stream.getvalue()
-
-    def test_on_a_terminal(self):
-        told = self.told(True)
-        self.assertIn("1: spanprof span < a.tasks", told)
-        self.assertTrue(all(len(line) < 120 for line in told.split("\r")))
-        self.assertTrue(told.endswith("spanprof-report: written: a.html\n"))
-
-    def test_elsewhere_the_files_alone(self):
-        self.assertEqual(self.told(False), "spanprof-report: written: a.html\n")
