@@ -251,7 +251,7 @@ kernel:
     if
     :: d_step { computes[me] = false }
     :: d_step { faults > 0 -> faults--; computes[me] = false };
-        /* crew.rt: return Some(self.dispatcher.end_by(self.rt, end)); */
+        /* crew.rt: return Some(desk.end_by_fault(&self.dispatcher.signal, worker, fault)); */
         end_by();
         goto leave
     fi;

@@ -7,6 +7,7 @@ ghost use Rattle.worker_run.specs.NewLanes.{lanes_of};
 ghost use Rattle.worker_run.specs.Workers.{AreBelow};
 
 use crate::closing::{Leftover, close_all};
+use crate::counted::Started;
 use crate::crew::new_lanes;
 use crate::gate::Gate;
 use crate::gated::GatedKernel;
@@ -14,7 +15,6 @@ use crate::lane_names::Lanes;
 use crate::new_lane::NewLane;
 use crate::record::RunFault;
 use crate::rest::finish_job;
-use crate::started::Started;
 use crate::station::Station;
 use crate::stations::open_stations;
 use dispatch_core::dispatch::Core;

@@ -1,9 +1,74 @@
-//! The kernel whose calls are counted, and the segments for which it is called.
-ghost use Rattle.std.specs.Prelude.{◌≡◌, ◌+◌, ◌<◌, ◌^◌, IfOk, OnErr, IsTrue};
+//! Segments that are started, and the kernel's calls for them, which are counted.
+ghost use Rattle.std.specs.Prelude.{◌≡◌, ◌+◌, ◌<◌, ◌^◌, ◌++◌, ◌∷◌, [], MatchOption, IfSome, IfOk};
+ghost use Rattle.std.specs.Prelude.{OnErr, IsTrue};
+ghost use Rattle.dispatch_core.specs.Refusals.{RefusesStart};
+ghost use Rattle.dispatch_core.specs.Run.{MayStart, Runs};
 
+use crate::desk::Desk;
 use crate::gate::Gate;
-use crate::started::{Job, Started};
+use dispatch_core::dispatch::Core;
+use dispatch_core::event::{Event, StartRefusal};
 use dispatch_core::kernel::{Kernel, KernelFault, SegResult};
+
+/// A segment that was started, with the cost and the input that its kernel is called with.
+#[derive(Clone, Copy, Debug, PartialEq, Eq)]
+pub struct Job {
+    pub segment: u32,
+    pub cost: u64,
+    pub input: u64,
+}
+
+/// A segment that the core let a worker start. Only [`Started::start`] makes it, and it cannot be
+/// dropped: it is computed, or given up where the run is over.
+pub(crate) struct Started {
+    job: Job,
+}
+
+impl Started {
+    ghost use Rattle.worker_run.specs.Jobs.{IsJobOf};
+
+    /// Starts a segment where the core lets the worker start it.
+    pub(crate) fn start<K: Kernel>(core: &mut Core<K>, worker: u32, segment: u32) -> Option<Started>
+        ensures started { MatchOption result ((core.new ≡ core.old)
+            × ((why : StartRefusal) × RefusesStart core.old.table core.old.history
+            worker segment why))
+            (λ started. (started.job.segment ≡ segment)
+            × IsJobOf core.old.table K.value_of started.job
+            × (core.new ≡ record {
+              table = core.old.table;
+              history = core.old.history ++ Event.Start worker segment ∷ [];
+            })) }
+        ensures may { IfSome result (λ _. MayStart core.old.table core.old.history worker segment) }
+        ensures runs { IfSome result (λ started. Runs core.new.history worker started.job.segment
+            × IsJobOf core.new.table K.value_of started.job) }
+    {
+        dispatch_core::laws::legal_history(core);
+        match core.start(worker, segment) {
+            Ok(input) => Some(Started {
+                job: Job {
+                    segment,
+                    cost: core.table().cost(segment),
+                    input,
+                },
+            }),
+            Err(_) => None,
+        }
+    }
+
+    pub(crate) fn segment(&self) -> u32
+        ensures { result ≡ self.now.job.segment }
+    {
+        self.job.segment
+    }
+
+    /// Gives the segment up, where the run is over.
+    pub(crate) fn give_up<K: Kernel>(self, desk: &Desk<K>)
+        requires { IsTrue desk.now.over }
+    {
+        prove!(desk.is_over());
+        let Started { job: _ } = self;
+    }
+}
 
 /// A segment between the gate's two calls, and how often the kernel was called for it. It cannot be
 /// dropped.
@@ -22,9 +87,10 @@ impl<'a, G: Gate> UnderWay<'a, G> {
         ensures job { result.job ≡ started.job }
         ensures calls { result.calls ≡ 0 }
     {
+        let Started { job } = started;
         UnderWay {
             gate,
-            job: started.into_job(),
+            job,
             calls: 0,
         }
     }

@@ -6,10 +6,10 @@ ghost use Rattle.dispatch_core.specs.Refusals.{IsIdle, MayFinish, RefusesStart};
 ghost use Rattle.dispatch_core.specs.Run.{BecomesReady, IsFinished};
 ghost use Rattle.worker_run.specs.Jobs.{IsJobOf, started_by};
 
+use crate::counted::Started;
 use crate::gated::Computed;
 use crate::signal::Signal;
-use crate::started::Started;
-use crate::worker::{Ending, WorkerEnd};
+use crate::worker::{Ending, Fault, WorkerEnd};
 use dispatch_core::dispatch::Core;
 use dispatch_core::event::{Event, StartRefusal};
 use dispatch_core::kernel::Kernel;
@@ -78,6 +78,21 @@ impl<K: Kernel> Desk<K> {
             None => {}
         }
         WorkerEnd::no_memory(worker)
+    }
+
+    /// Ends the run early by a fault of the worker's kernel.
+    pub(crate) fn end_by_fault(
+        &mut self,
+        signal: &Signal,
+        worker: u32,
+        fault: Fault<K>,
+    ) -> WorkerEnd<K>
+        ensures desk { self.new ≡ record self.old { over = true } }
+        ensures worker { result.worker ≡ worker }
+        ensures how { result.how ≡ Ending.Faulted fault.job }
+    {
+        self.end(signal);
+        WorkerEnd::faulted(worker, fault, self)
     }
 
     /// Starts a segment where the core lets the worker start it.

@@ -4,13 +4,12 @@ ghost use Rattle.depend_table.specs.Lists.{Lists};
 ghost use Rattle.dispatch_core.specs.Refusals.{IsIdle, MayFinish, RefusesFinish};
 ghost use Rattle.dispatch_core.specs.Run.{BecomesReady};
 
-use crate::counted::{CountedKernel, UnderWay};
+use crate::counted::{CountedKernel, Started, UnderWay};
 use crate::gate::Gate;
-use crate::started::{Job, Started};
+use crate::worker::Fault;
 use dispatch_core::dispatch::Core;
 use dispatch_core::event::{Event, FinishKind};
 use dispatch_core::kernel::{Kernel, SegResult};
-use std::marker::PhantomData;
 
 /// What the one call of the kernel for a segment computed. It cannot be dropped: it is finished.
 pub(crate) struct Computed<K: Kernel> {
@@ -42,31 +41,6 @@ impl<K: Kernel> Computed<K> {
             Ok(ready) => Ok(ready),
             Err(refusal) => Err(refusal.kind),
         }
-    }
-}
-
-/// A fault of the kernel in its one call for a segment, and what it was called with. It cannot be
-/// dropped.
-pub(crate) struct Fault<K: Kernel> {
-    job: Job,
-    calls: u32,
-    of: PhantomData<K>,
-    ghost possible: { IsTrue (K.may_fault job.segment job.cost job.input) },
-    ghost once: { calls ≡ 1 },
-}
-
-impl<K: Kernel> Fault<K> {
-    /// What the kernel was called with.
-    pub(crate) fn into_job(self) -> Job
-        ensures job { result ≡ self.job }
-        ensures possible { IsTrue (K.may_fault result.segment result.cost result.input) }
-    {
-        let Fault {
-            job,
-            calls: _,
-            of: _,
-        } = self;
-        job
     }
 }
 
@@ -103,11 +77,7 @@ impl<'a, K: Kernel, G: Gate> GatedKernel<'a, K, G> {
         let (job, calls) = under_way.leave();
         match called {
             Ok(outcome) => Ok(Computed { outcome, calls }),
-            Err(_) => Err(Fault {
-                job,
-                calls,
-                of: PhantomData,
-            }),
+            Err(_) => Err(Fault::new(job, calls)),
         }
     }
 }

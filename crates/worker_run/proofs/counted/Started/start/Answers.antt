@@ -2,7 +2,7 @@ use Rattle.std.proofs.Common.{ap, ◌∙◌}
 use Rattle.task_segments.specs.Table.{Table, segment}
 use Rattle.dispatch_core.specs.Run.{Run}
 use Rattle.dispatch_core.proofs.GivenRuns.{runs_once_started}
-use Rattle.worker_run.proofs.started.Started.start.Goals as goal
+use Rattle.worker_run.proofs.counted.Started.start.Goals as goal
 
 pub returns-in-Ok-clause-runs : goal.returns-in-Ok-clause-runs
 returns-in-Ok-clause-runs g c =
