@@ -1,0 +1,5 @@
+use Rattle.worker_run.proofs.AtRest.{at_rest_at_first}
+use Rattle.worker_run.proofs.run.core_after_one.Goals as goal
+
+pub work_alone-requires-clause-rest : goal.work_alone-requires-clause-rest
+work_alone-requires-clause-rest g c = rw c.in_ok-core.ensures (at_rest_at_first 0)
