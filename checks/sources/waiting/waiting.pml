@@ -71,7 +71,7 @@ inline end_all() {
     d_step { wake_all(); woken = true }
 }
 
-/* Dispatcher::end_by */
+/* Dispatcher::end_by, and Desk::end_by_fault behind the lock */
 inline end_by() {
     /* dispatcher.rt: self.lock(rt).end_by(&self.signal, end) */
     atomic { !locked -> locked = true };
