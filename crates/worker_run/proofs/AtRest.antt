@@ -1,14 +1,17 @@
 -- What a worker runs after a finish: nothing.
 use Rattle.std.proofs.Common.{ℕ, ◌<◌, ◌≡◌, List, [], ◌∷◌, ◌++◌, subst, arith, inl, inr}
-use Rattle.std.specs.Prelude.{Contains}
+use Rattle.std.specs.Prelude.{Contains, OnOk, Result, Ok, Err}
 use Rattle.std.proofs.lemmas.Bool.{cases_lt}
 use Rattle.std.proofs.lemmas.List.Elements.{Contains-push, Contains-push_cases}
 use Rattle.task_segments.specs.Table.{Table}
 use Rattle.dispatch_core.specs.declared.event.Event.{Event}
 use Rattle.dispatch_core.specs.declared.event.Event.TheVariants.{Start, Finish}
-use Rattle.dispatch_core.specs.Run.{HasFinished, Runs, IsLegalRun}
+use Rattle.dispatch_core.specs.Run.{Run, HasFinished, Runs, IsLegalRun}
 use Rattle.dispatch_core.specs.Refusals.{IsIdle}
 use Rattle.dispatch_core.proofs.Histories.{Contains-from_take, Contains-into_take, get_at_place, finished_kept}
+use Rattle.worker_run.specs.AtRest.{IsAtRest}
+use Rattle.worker_run.specs.Workers.{AreBelow}
+use Rattle.worker_run.proofs.Runs.{below_push}
 
 -- a worker finishes what it has started before it starts more
 finished_first : (table : Table) (history : List Event) (worker s t : ℕ) → IsLegalRun table history
@@ -42,9 +45,9 @@ one_running table history worker s t legal one other =
       ]
     ]
 
-pub at_rest_after_finish : (table : Table) (history : List Event) (worker s : ℕ) → IsLegalRun table history
+pub idle_after_finish : (table : Table) (history : List Event) (worker s : ℕ) → IsLegalRun table history
     → Runs history worker s → IsIdle (history ++ Finish worker s ∷ []) worker
-at_rest_after_finish table history worker s legal runs other still =
+idle_after_finish table history worker s legal runs other still =
     let was : Contains history (Start worker other) =
     elim (Contains-push_cases history (Finish worker s) (Start worker other) still.started) [
       | inl was ↦ was
@@ -60,5 +63,18 @@ at_rest_after_finish table history worker s legal runs other still =
           (Contains-push history (Finish worker s));
     })
 
-pub at_rest_at_first : (worker : ℕ) → IsIdle [] worker
-at_rest_at_first worker s runs = absurd (let within = runs.started.1 in omega arith)
+-- the only worker is at rest after it has finished a segment
+pub at_rest_once_finished : {A E : Type 0} (r : Result A E) (was now : Run) (s : ℕ) → AreBelow 1 was.history
+    → OnOk r (now ≡ record { table = was.table; history = was.history ++ Finish 0 s ∷ [] })
+    → OnOk r (IsIdle now.history 0) → OnOk r (IsAtRest now.history)
+at_rest_once_finished (Ok x) was now s below is idle = record {
+  below = rw is (below_push 1 was.history (Finish 0 s) below (omega arith));
+  idle = idle;
+}
+at_rest_once_finished (Err e) was now s below is idle = tt
+
+pub at_rest_at_first : IsAtRest []
+at_rest_at_first = record {
+  below = λ event h. absurd (let within = h.1 in omega arith);
+  idle = λ s runs. absurd (let within = runs.started.1 in omega arith);
+}

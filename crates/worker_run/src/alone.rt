@@ -1,10 +1,9 @@
 //! A run with one worker: the calling thread works at a lane of its own, and needs no lock.
 ghost use Rattle.std.specs.Prelude.{ℕ, ◌≡◌, ◌<◌, ◌+◌, All, length, slice_index_or, IfOk, IfErr};
 ghost use Rattle.std.specs.Prelude.{OnOk};
-ghost use Rattle.dispatch_core.specs.Refusals.{IsIdle};
 ghost use Rattle.worker_run.specs.Answer.{MayAnswer};
+ghost use Rattle.worker_run.specs.AtRest.{IsAtRest};
 ghost use Rattle.worker_run.specs.NewLanes.{lanes_of};
-ghost use Rattle.worker_run.specs.Workers.{AreBelow};
 
 use crate::closing::{Leftover, close_all};
 use crate::counted::Started;
@@ -28,11 +27,9 @@ pub(crate) fn work_alone<K: Kernel, G: Gate>(
     core: &mut Core<K>,
     gated: &GatedKernel<'_, K, G>,
 ) -> Result<(), RunFault>
-    requires below { AreBelow 1 core.old.history }
-    requires rest { IsIdle core.old.history 0 }
+    requires { IsAtRest core.old.history }
     ensures table { OnOk result (core.new.table ≡ core.old.table) }
-    ensures below { OnOk result (AreBelow 1 core.new.history) }
-    ensures rest { OnOk result (IsIdle core.new.history 0) }
+    ensures rest { OnOk result (IsAtRest core.new.history) }
     ensures err { IfErr result (MayAnswer core.old.table K.value_of K.may_fault 1) }
 {
     let lanes = new_lanes(alloc, core.table(), 1)?;
@@ -51,12 +48,10 @@ fn work_at<J: Lanes, K: Kernel, G: Gate>(
         → slice_index_or (lanes_of lanes.items) i (0, 0) ≡ J.lane_of i }
     requires one { length lanes.items ≡ 1 }
     requires thieves { All (λ l. length l.thieves.items + 1 ≡ 1) lanes.items }
-    requires below { AreBelow 1 core.old.history }
-    requires rest { IsIdle core.old.history 0 }
+    requires rest { IsAtRest core.old.history }
     ensures left { IfOk result (λ left. length left.counts.items ≡ 1) }
     ensures table { OnOk result (core.new.table ≡ core.old.table) }
-    ensures below { OnOk result (AreBelow 1 core.new.history) }
-    ensures rest { OnOk result (IsIdle core.new.history 0) }
+    ensures rest { OnOk result (IsAtRest core.new.history) }
     ensures err { IfErr result (MayAnswer core.old.table K.value_of K.may_fault 1) }
 {
     let mut stations = open_stations::<J>(alloc, lanes)?;
@@ -72,11 +67,9 @@ fn run_tokens<J: Lanes, K: Kernel, G: Gate>(
     gated: &GatedKernel<'_, K, G>,
     station: &mut Station<J>,
 ) -> Result<(), RunFault>
-    requires below { AreBelow 1 core.old.history }
-    requires rest { IsIdle core.old.history 0 }
+    requires { IsAtRest core.old.history }
     ensures table { OnOk result (core.new.table ≡ core.old.table) }
-    ensures below { OnOk result (AreBelow 1 core.new.history) }
-    ensures rest { OnOk result (IsIdle core.new.history 0) }
+    ensures rest { OnOk result (IsAtRest core.new.history) }
     ensures err { IfErr result (MayAnswer core.old.table K.value_of K.may_fault 1) }
 {
     for _ in 0..core.table().len() {
@@ -99,11 +92,9 @@ fn run_segment<K: Kernel, G: Gate>(
     gated: &GatedKernel<'_, K, G>,
     segment: u32,
 ) -> Result<Vec<u32>, RunFault>
-    requires below { AreBelow 1 core.old.history }
-    requires rest { IsIdle core.old.history 0 }
+    requires { IsAtRest core.old.history }
     ensures table { OnOk result (core.new.table ≡ core.old.table) }
-    ensures below { OnOk result (AreBelow 1 core.new.history) }
-    ensures rest { OnOk result (IsIdle core.new.history 0) }
+    ensures rest { OnOk result (IsAtRest core.new.history) }
     ensures err { IfErr result (MayAnswer core.old.table K.value_of K.may_fault 1) }
 {
     match Started::start(core, 0, segment) {

@@ -15,7 +15,7 @@ unreachable-requires g c =
     let Stuck : Table → Type 0 = λ table. (h : List Event) → ¬ IsFinished table h
     → ((worker s : ℕ) → ¬ Runs h worker s) → (s : ℕ) × IsReady table h s in
     let some = subst Stuck c.table.ensures c.never_stuck.ensures history c.requires.open
-    (nothing_runs history c.requires.below c.requires.rest) in
+    (nothing_runs history c.requires.rest.below c.requires.rest.idle) in
     let ready = c.in_ok-ready.ensures in
     none_first c.deref.result.now c.in_ok-ready.ready.items some.0 c.in_default.ensures.value
     c.deref.ensures.value ((ready.each some.0).1 some.1)
@@ -33,7 +33,7 @@ unreachable-requires-in_default-start g c =
     start_not_refused table history 0 first refused.1.0
     (record {
       known = omega arith;
-      idle = c.requires.rest;
+      idle = c.requires.rest.idle;
       ready = is_ready;
     }) refused.1.1
 
@@ -46,4 +46,4 @@ pub returns-clause-below : goal.returns-clause-below
 returns-clause-below g c =
     rw c.in-Some-start.ensures.started.2
     (below_push 1 c.args.core.now.history (Start 0 c.in-Some.first.now)
-    c.requires.below (omega arith))
+    c.requires.rest.below (omega arith))
