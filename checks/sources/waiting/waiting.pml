@@ -71,7 +71,7 @@ inline end_all() {
     d_step { wake_all(); woken = true }
 }
 
-/* Dispatcher::end_by */
+/* Dispatcher::end_by, and Desk::end_by_fault behind the lock */
 inline end_by() {
     /* dispatcher.rt: self.lock(rt).end_by(&self.signal, end) */
     atomic { !locked -> locked = true };
@@ -243,15 +243,15 @@ steal:  /* Station::steal: a patient worker may pass over a lane. LaneThief::try
     goto again;
 
 start:  /* Crew::run_segments, then the kernel */
-    /* crew.rt: let mut job = self.dispatcher.lock(self.rt).start(worker, segment)?; */
+    /* crew.rt: let mut started = self.dispatcher.lock(self.rt).start(worker, segment)?; */
     atomic { !locked -> computes[me] = true; at = 0; lane = 0; passed = 0 };
 
 kernel:
-    /* crew.rt: let outcome = match self.gated.compute(job) { */
+    /* crew.rt: let computed = match self.gated.call(started) { */
     if
     :: d_step { computes[me] = false }
     :: d_step { faults > 0 -> faults--; computes[me] = false };
-        /* crew.rt: return Some(self.dispatcher.end_by(self.rt, end)); */
+        /* crew.rt: return Some(desk.end_by_fault(&self.dispatcher.signal, worker, fault)); */
         end_by();
         goto leave
     fi;
@@ -272,7 +272,7 @@ kernel:
      * starts the next token's segment where the run goes on */
     /* crew.rt: .lock(self.rt) */
     atomic { !locked -> locked = true };
-    /* desk.rt: let ready = match self.core.finish(worker, outcome) { */
+    /* desk.rt: let ready = match computed.finish(&mut self.core, worker) { */
     if
     :: faults > 0 -> faults--;
         /* desk.rt: self.end(signal); */
@@ -307,7 +307,7 @@ kernel:
     :: at < tokens -> d_step { back[me]++; at++ }
     :: else -> break
     od;
-    /* crew.rt: let told = signal.tell(ready.len(), job.is_some()); */
+    /* crew.rt: let told = signal.tell(ready.len(), started.is_some()); */
     /* signal.rt: let others = if is_busy { */
 #ifndef BUSY_AS_IDLE
     if

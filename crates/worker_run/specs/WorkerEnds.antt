@@ -5,7 +5,7 @@ use Rattle.task_segments.specs.Table.{Table}
 use Rattle.dispatch_core.specs.declared.event.Event.{Event}
 use Rattle.worker_run.specs.declared.record.RunFault.{RunFault}
 use Rattle.worker_run.specs.declared.record.RunFault.TheVariants.{OutOfMemory, Kernel}
-use Rattle.worker_run.specs.declared.worker.Job.{Job}
+use Rattle.worker_run.specs.declared.counted.Job.{Job}
 use Rattle.worker_run.specs.declared.worker.Ending.{Ending}
 use Rattle.worker_run.specs.declared.worker.Ending.TheVariants.{Over, NoMemory, Faulted}
 use Rattle.worker_run.specs.Jobs.{AreFinishedBefore, IsJobOf}

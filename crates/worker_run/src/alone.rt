@@ -1,22 +1,21 @@
 //! A run with one worker: the calling thread works at a lane of its own, and needs no lock.
 ghost use Rattle.std.specs.Prelude.{ℕ, ◌≡◌, ◌<◌, ◌+◌, All, length, slice_index_or, IfOk, IfErr};
-ghost use Rattle.std.specs.Prelude.{OnOk, IfSome};
-ghost use Rattle.dispatch_core.specs.Run.{Runs};
+ghost use Rattle.std.specs.Prelude.{OnOk};
 ghost use Rattle.worker_run.specs.Answer.{MayAnswer};
-ghost use Rattle.worker_run.specs.Jobs.{IsJobOf};
+ghost use Rattle.worker_run.specs.AtRest.{IsAtRest};
 ghost use Rattle.worker_run.specs.NewLanes.{lanes_of};
-ghost use Rattle.worker_run.specs.Workers.{AreBelow};
 
 use crate::closing::{Leftover, close_all};
+use crate::counted::Started;
 use crate::crew::new_lanes;
 use crate::gate::Gate;
+use crate::gated::GatedKernel;
 use crate::lane_names::Lanes;
 use crate::new_lane::NewLane;
 use crate::record::RunFault;
 use crate::rest::finish_job;
 use crate::station::Station;
 use crate::stations::open_stations;
-use crate::worker::{GatedKernel, Job};
 use dispatch_core::dispatch::Core;
 use dispatch_core::kernel::Kernel;
 use std::alloc::Global;
@@ -28,9 +27,9 @@ pub(crate) fn work_alone<K: Kernel, G: Gate>(
     core: &mut Core<K>,
     gated: &GatedKernel<'_, K, G>,
 ) -> Result<(), RunFault>
-    requires { AreBelow 1 core.old.history }
+    requires { IsAtRest core.old.history }
     ensures table { OnOk result (core.new.table ≡ core.old.table) }
-    ensures below { OnOk result (AreBelow 1 core.new.history) }
+    ensures rest { OnOk result (IsAtRest core.new.history) }
     ensures err { IfErr result (MayAnswer core.old.table K.value_of K.may_fault 1) }
 {
     let lanes = new_lanes(alloc, core.table(), 1)?;
@@ -49,10 +48,10 @@ fn work_at<J: Lanes, K: Kernel, G: Gate>(
         → slice_index_or (lanes_of lanes.items) i (0, 0) ≡ J.lane_of i }
     requires one { length lanes.items ≡ 1 }
     requires thieves { All (λ l. length l.thieves.items + 1 ≡ 1) lanes.items }
-    requires below { AreBelow 1 core.old.history }
+    requires rest { IsAtRest core.old.history }
     ensures left { IfOk result (λ left. length left.counts.items ≡ 1) }
     ensures table { OnOk result (core.new.table ≡ core.old.table) }
-    ensures below { OnOk result (AreBelow 1 core.new.history) }
+    ensures rest { OnOk result (IsAtRest core.new.history) }
     ensures err { IfErr result (MayAnswer core.old.table K.value_of K.may_fault 1) }
 {
     let mut stations = open_stations::<J>(alloc, lanes)?;
@@ -68,9 +67,9 @@ fn run_tokens<J: Lanes, K: Kernel, G: Gate>(
     gated: &GatedKernel<'_, K, G>,
     station: &mut Station<J>,
 ) -> Result<(), RunFault>
-    requires { AreBelow 1 core.old.history }
+    requires { IsAtRest core.old.history }
     ensures table { OnOk result (core.new.table ≡ core.old.table) }
-    ensures below { OnOk result (AreBelow 1 core.new.history) }
+    ensures rest { OnOk result (IsAtRest core.new.history) }
     ensures err { IfErr result (MayAnswer core.old.table K.value_of K.may_fault 1) }
 {
     for _ in 0..core.table().len() {
@@ -93,32 +92,13 @@ fn run_segment<K: Kernel, G: Gate>(
     gated: &GatedKernel<'_, K, G>,
     segment: u32,
 ) -> Result<Vec<u32>, RunFault>
-    requires { AreBelow 1 core.old.history }
+    requires { IsAtRest core.old.history }
     ensures table { OnOk result (core.new.table ≡ core.old.table) }
-    ensures below { OnOk result (AreBelow 1 core.new.history) }
+    ensures rest { OnOk result (IsAtRest core.new.history) }
     ensures err { IfErr result (MayAnswer core.old.table K.value_of K.may_fault 1) }
 {
-    match start_segment(core, segment) {
-        Some(job) => finish_job(core, gated, job),
+    match Started::start(core, 0, segment) {
+        Some(started) => finish_job(core, gated, started),
         None => Ok(Vec::new(alloc)),
-    }
-}
-
-/// Starts a segment as worker 0 where it may start, and answers its job.
-fn start_segment<K: Kernel>(core: &mut Core<K>, segment: u32) -> Option<Job>
-    requires { AreBelow 1 core.old.history }
-    ensures table { core.new.table ≡ core.old.table }
-    ensures below { AreBelow 1 core.new.history }
-    ensures job { IfSome result (λ job.
-        Runs core.new.history 0 job.segment × IsJobOf core.new.table K.value_of job) }
-{
-    dispatch_core::laws::legal_history(core);
-    match core.start(0, segment) {
-        Ok(input) => Some(Job {
-            segment,
-            cost: core.table().cost(segment),
-            input,
-        }),
-        Err(_) => None,
     }
 }

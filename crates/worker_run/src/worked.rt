@@ -7,9 +7,10 @@ ghost use Rattle.worker_run.specs.Jobs.{AreFinishedBefore, IsJobOf};
 ghost use Rattle.worker_run.specs.Workers.{AreBelow, worker_of};
 
 use crate::closing::Leftover;
+use crate::counted::Job;
 use crate::record::RunFault;
 use crate::rest::input_of;
-use crate::worker::{Ending, Job, WorkerEnd};
+use crate::worker::{Ending, WorkerEnd};
 use dispatch_core::dispatch::Core;
 use dispatch_core::event::Event;
 use dispatch_core::kernel::Kernel;
