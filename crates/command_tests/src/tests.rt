@@ -14,7 +14,6 @@ mod rows;
 mod starts;
 mod tables;
 mod words;
-mod written_rows;
 
 use crate::tests::fake_devices::{Faults, Sink, Source};
 use counted_io::Counted;

@@ -1,3 +1,2 @@
 pub mod Writing
 mod Reading
-pub mod Joined

@@ -8,4 +8,3 @@ pub mod LargeReports
 pub mod AboutReports
 pub mod LargeCommand
 pub mod OneReport
-pub mod Answered

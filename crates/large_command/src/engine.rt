@@ -19,7 +19,6 @@ ghost use Rattle.large_command.specs.LargeCommand.{is_table_in_range, is_thread_
 ghost use Rattle.large_text.specs.declared.limits.TheConstants.{LARGEST_TEXT};
 
 use crate::about::about_text;
-use crate::answer::Answer;
 use crate::document_input::read_document;
 use crate::documents::answer_document;
 use crate::meter_answers::answer_meter;
@@ -84,10 +83,8 @@ pub fn command<H: AllocGlobal + Threads + Sync, R: Read, W: Write>(
         (R.remaining (inner_of reader.new)) }
 {
     let mut retries = MOST_RETRIES;
-    match prepare(rt, key, words, reader, &mut retries) {
-        Ok(answer) => answer.finish(writer, retries),
-        Err(fault) => finish(writer, Err(fault), retries),
-    }
+    let made = prepare(rt, key, words, reader, &mut retries);
+    finish(writer, made, retries)
 }
 
 /// Makes the report of the words and the text, or of words about the program.
@@ -97,7 +94,7 @@ fn prepare<H: AllocGlobal + Threads + Sync, R: Read>(
     words: &[String],
     reader: &mut Counted<R>,
     retries: &mut u32,
-) -> Result<Answer, NoReport>
+) -> Result<Report, NoReport>
     requires { faults_of reader.old + retries.old < 2 ^ 64 - 1 }
     ensures report { IfOk result (λ report. IsReport (map string_bytes words.now)
         (R.remaining (inner_of reader.old)) (R.remaining (inner_of reader.new)) report) }
@@ -124,7 +121,7 @@ fn prepare_of_text<H: AllocGlobal + Threads + Sync, R: Read>(
     key: NameKey,
     reader: &mut Counted<R>,
     retries: &mut u32,
-) -> Result<Answer, NoReport>
+) -> Result<Report, NoReport>
     requires { faults_of reader.old + retries.old < 2 ^ 64 - 1 }
     ensures report { IfOk result (λ report. IsReportOfText (map string_bytes words.now)
         (R.remaining (inner_of reader.old)) (R.remaining (inner_of reader.new)) report) }
@@ -187,7 +184,7 @@ fn answer_text<H: AllocGlobal + Threads + Sync, R: Read>(
     asked: &LargeRequest,
     reader: &mut Counted<R>,
     retries: &mut u32,
-) -> Result<Answer, NoReport>
+) -> Result<Report, NoReport>
     requires { faults_of reader.old + retries.old < 2 ^ 64 - 1 }
     ensures report { IfOk result (λ report. AnswersText asked.now (R.remaining (inner_of reader.old))
         (R.remaining (inner_of reader.new)) report) }
@@ -231,7 +228,7 @@ fn tell_taken(
     alloc: Global,
     asked: &LargeRequest,
     text: TextMeter,
-) -> Result<Answer, AllocFault>
+) -> Result<Report, AllocFault>
     requires text { IsOfText asked.now }
     requires can { CanTakeBytes [] text }
     requires keeps { KeepsFor asked.now text }
@@ -239,9 +236,9 @@ fn tell_taken(
         → Answers asked.now bytes report) }
 {
     match asked {
-        LargeRequest::OfMeter(asked) => Ok(Answer::of_report(answer_meter(alloc, *asked, text)?)),
+        LargeRequest::OfMeter(asked) => answer_meter(alloc, *asked, text),
         LargeRequest::OfTable(asked) => answer_table(rt, alloc, asked, text),
-        LargeRequest::OfText(asked) => Ok(Answer::of_report(answer_printed(alloc, *asked, text)?)),
+        LargeRequest::OfText(asked) => answer_printed(alloc, *asked, text),
         LargeRequest::OfDocument(_) => unreachable!(),
     }
 }
@@ -253,7 +250,7 @@ fn answer_whole<R: Read>(
     asked: DocumentRequest,
     reader: &mut Counted<R>,
     retries: &mut u32,
-) -> Result<Answer, NoReport>
+) -> Result<Report, NoReport>
     requires { faults_of reader.old + retries.old < 2 ^ 64 - 1 }
     ensures report { IfOk result (λ report. AnswersText (OfDocument asked) (R.remaining (inner_of reader.old))
         (R.remaining (inner_of reader.new)) report) }
@@ -264,17 +261,14 @@ fn answer_whole<R: Read>(
         retries.old retries.new }
 {
     match read_document(alloc, reader, retries) {
-        Ok(document) => {
-            let report = answer_document(alloc, key, asked, document.as_slice())?;
-            Ok(Answer::of_report(report))
-        }
+        Ok(document) => Ok(answer_document(alloc, key, asked, document.as_slice())?),
         Err(InputFault::TooLong) => too_long(alloc),
         Err(InputFault::ReadFailed) => Err(NoReport::ReadFault),
         Err(InputFault::OutOfMemory) => Err(NoReport::OutOfMemory),
     }
 }
 
-fn too_long(alloc: Global) -> Result<Answer, NoReport>
+fn too_long(alloc: Global) -> Result<Report, NoReport>
     ensures says { IfOk result (λ report. report ≡ input_too_long) }
     ensures memory { result ≢ Err NoReport.ReadFault }
 {
@@ -282,9 +276,9 @@ fn too_long(alloc: Global) -> Result<Answer, NoReport>
 }
 
 /// A text that is known beforehand.
-fn tell_known(alloc: Global, text: &[u8], status: Status) -> Result<Answer, NoReport>
+fn tell_known(alloc: Global, text: &[u8], status: Status) -> Result<Report, NoReport>
     ensures says { IfOk result (λ report. report ≡ record { text = text.now; status = status }) }
     ensures memory { result ≢ Err NoReport.ReadFault }
 {
-    Ok(Answer::of_report(Report::of_line(alloc, text, status)?))
+    Ok(Report::of_line(alloc, text, status)?)
 }

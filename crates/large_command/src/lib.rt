@@ -3,7 +3,6 @@
 #![tactic(auto)]
 
 mod about;
-mod answer;
 mod bound_rows;
 mod document_input;
 mod documents;

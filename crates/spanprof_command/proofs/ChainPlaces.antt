@@ -68,6 +68,14 @@ stands_not chain s place up is other =
       ]
     ]
 
+-- the place of the first segment, which is not above any member
+pub first_place : (chain : List ℕ) → IsPlace chain 0 0
+first_place chain = record {
+  within = omega arith;
+  before = λ k less. absurd (omega arith);
+  after = λ k from within. omega arith;
+}
+
 -- the place of the next segment
 pub next_place : (chain : List ℕ) (s place : ℕ)
     → IsStrictlyIncreasing chain

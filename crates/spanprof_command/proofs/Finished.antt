@@ -1,20 +1,17 @@
 -- A command ends as what it made says.
 use Rattle.std.proofs.Common.{◌≡◌, ◌≤◌, ◌∙◌, ℕ, List, Option, Result, Ok, Err, ap}
-use Rattle.std.proofs.Common.{inl, inr, refl, subst, sym, OnErr, OnOk}
+use Rattle.std.proofs.Common.{inl, inr, refl, subst, sym}
 use Rattle.std.specs.Prelude.{IfOk}
 use Rattle.std.specs.Io.KnownBytes.{Appends}
-use Rattle.counted_io.proofs.Joined.{as_bytes}
-use Rattle.counted_io.specs.Counted.{inner_of}
-use Rattle.counted_io.specs.Parts.{WritesText}
-use Rattle.counted_io.specs.declared.counted.Counted.{Counted}
-use Rattle.spanprof_command.specs.Command.{Counts, EndsWith, Sends, SendsWithin, counts_of}
+use Rattle.csv_table.specs.Tables.{numbered_table}
+use Rattle.spanprof_command.specs.Command.{Counts, EndsWith, Sends, SendsWithin}
 use Rattle.spanprof_command.specs.Finished.{SpendsRetries, told}
-use Rattle.spanprof_command.specs.Report.{Report}
+use Rattle.spanprof_command.specs.Report.{Report, table_report}
 use Rattle.spanprof_command.specs.declared.engine.TheConstants.{MOST_RETRIES}
 use Rattle.spanprof_command.specs.declared.sending.NoReport.{NoReport}
 use Rattle.spanprof_command.specs.declared.sending.NoReport.TheVariants.{OutOfMemory, ReadFault}
 use Rattle.spanprof_command.specs.declared.report.Status.{Status}
-use Rattle.spanprof_command.specs.declared.report.Status.TheVariants.{Fault}
+use Rattle.spanprof_command.specs.declared.report.Status.TheVariants.{Done, Fault}
 
 -- a report is its text and its status
 pub same_report : (report : Report) (text : List ℕ) (status : Status)
@@ -25,6 +22,16 @@ same_report report text status e f =
     let of_text : List ℕ → Report = λ t. record { text = t; status = status } in
     let of_status : Status → Report = λ s. record { text = report.text; status = s } in
     sym (ap of_text e ∙ ap of_status f)
+
+-- a report with a table
+pub table_told : (header : List (List ℕ)) (row : ℕ → List (Option ℕ)) (count : ℕ)
+    (text : List ℕ) (report : Report)
+    → text ≡ numbered_table header row 0 count
+    → report ≡ record { text = text; status = Done }
+    → report ≡ table_report header row count
+table_told header row count text report made is =
+    let of_text : List ℕ → Report = λ t. record { text = t; status = Done } in
+    is ∙ ap of_text made
 
 -- the line of why there is no report
 fault_told : (fault : NoReport)
@@ -90,26 +97,3 @@ ends_as_made IsReport (Err ReadFault) reader left held held_after writer status 
       intended = inr (record { faults = spent.failed refl; says = refl });
       sent = sent;
     }
-
--- a report of which the text was written so is sent
-pub sends_text : {W T E : Type 0} (contents : W → Option (List ℕ)) (first second : Counted W)
-    (retries left : ℕ) (output : Report) (answer : Result T E) (status : Status)
-    → WritesText contents first second retries left output.text answer
-    → OnOk answer (status ≡ output.status)
-    → OnErr answer (status ≡ Fault)
-    → Sends output (contents (inner_of first)) (contents (inner_of second))
-    (counts_of first second) retries left status
-sends_text contents first second retries left output (Ok x) status wrote done fault =
-    inl (record {
-      faults = record { paid = wrote.paid; tried_again = wrote.tried_again };
-      wrote = wrote.whole;
-      answers = done;
-    })
-sends_text contents first second retries left output (Err e) status wrote done fault =
-    let part = as_bytes (contents (inner_of first)) (contents (inner_of second)) output.text
-    wrote.prefix in inr (record {
-      faults = record { paid = wrote.failed; gave_up = wrote.gave_up };
-      answers = fault;
-      size = part.0;
-      wrote = part.1;
-    })

@@ -1,20 +1,16 @@
-use Rattle.std.proofs.Common.{List, rules, subst, sym, ℕ}
+use Rattle.std.proofs.Common.{List, rules, subst, ℕ}
 use Rattle.std.proofs.lemmas.Result.{IfOk-weaker}
 use Rattle.command_words.specs.declared.large.LargeRequest.TheVariants.{OfDocument}
 use Rattle.large_command.proofs.Told.{answers_length, answers_whole}
 use Rattle.large_command.specs.LargeReports.{Answers}
-use Rattle.spanprof_command.specs.Report.{Report}
 use Rattle.large_command.proofs.engine.answer_whole.Goals as goal
 
-pub returns-in_ok-report-in-Ok-clause-report : goal.returns-in_ok-report-in-Ok-clause-report
-returns-in_ok-report-in-Ok-clause-report g c =
-    let report = c.in_ok-report-in-Ok.report in
-    let told : Answers (OfDocument c.args.asked) c.in-Ok.document.items report =
-    subst (λ (bytes : List ℕ). Answers (OfDocument c.args.asked) bytes report)
-    c.as_slice.ensures.value c.in_ok-report-in-Ok.ensures in
+pub returns-in-Ok-clause-report : goal.returns-in-Ok-clause-report
+returns-in-Ok-clause-report g c =
+    let report = c.in_ok-answer_document-in-Ok.field-0 in
     answers_whole c.args.asked _ _ c.in-Ok.document.items _ c.in-Ok.ensures.reads
-    (subst (λ (output : Report). Answers (OfDocument c.args.asked) c.in-Ok.document.items output)
-    (sym c.of_report.ensures) told)
+    (subst (λ (bytes : List ℕ). Answers (OfDocument c.args.asked) bytes report)
+    c.as_slice.ensures.value c.in_ok-answer_document-in-Ok.ensures)
 
 pub returns-in-Err-TooLong-clause-report : goal.returns-in-Err-TooLong-clause-report
 returns-in-Err-TooLong-clause-report g c =

@@ -1,9 +1,8 @@
-use Rattle.std.proofs.Common.{inr, subst, sym}
+use Rattle.std.proofs.Common.{inr, subst}
 use Rattle.std.proofs.lemmas.Result.{IfOk-weaker}
 use Rattle.std.specs.Prelude.{MatchResult}
 use Rattle.large_command.specs.LargeReports.{RefusesText}
 use Rattle.large_command.proofs.Told.{accepts_table}
-use Rattle.spanprof_command.specs.Report.{Report}
 use Rattle.large_text.specs.Measured.{IsTableOfText}
 use Rattle.large_command.proofs.table_answers.answer_table.Goals as goal
 
@@ -19,7 +18,5 @@ returns-in-Ok g c =
 
 pub returns-in-Err : goal.returns-in-Err
 returns-in-Err g c = λ bytes taken.
-    let refused : RefusesText bytes c.in-Err.report =
-    subst (λ read. MatchResult read (IsTableOfText bytes) (RefusesText bytes))
-    c.in-Err.is (c.in_ok-table.ensures bytes taken) in
-    inr (subst (λ (output : Report). RefusesText bytes output) (sym c.of_report.ensures) refused)
+    inr (subst (λ read. MatchResult read (IsTableOfText bytes) (RefusesText bytes))
+    c.in-Err.is (c.in_ok-table.ensures bytes taken))
