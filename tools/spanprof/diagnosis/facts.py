@@ -189,14 +189,24 @@ def greedy_end(path, threads):
 
 
 def set_by_greedy(facts, head, end):
-    """Without the times of the run: what the greedy run of the text leaves idle, and what is longer than it."""
-    whole = facts.threads * facts.elapsed
+    """Without the times of the run: what the greedy run of the text leaves idle, and what is longer than it. While a
+    thread was preempted all others may have waited."""
+    unit, whole, waited = head.nanoseconds or 1, facts.threads * facts.elapsed, 0
     facts.code = min(facts.work, whole)
     if head.clock == "wall":
-        facts.preempted = min(facts.code, head.clocks_differ.get("by", 0) * (head.nanoseconds or 1))
+        facts.preempted = min(facts.code, head.clocks_differ.get("by", 0) * unit)
         facts.code -= facts.preempted
-    facts.starved = max(0, min(whole, facts.threads * end * (head.nanoseconds or 1)) - facts.code - facts.preempted)
-    facts.delayed = whole - facts.code - facts.preempted - facts.starved
+        facts.starved = max(0, min(whole, facts.threads * end * unit) - facts.code - facts.preempted)
+    else:
+        facts.preempted = min(head.taken_off.get("by", 0) * unit, whole - facts.code)
+        idle = whole - facts.code - facts.preempted
+        facts.starved = max(0, min(idle, facts.threads * end * unit - facts.code))
+        waited = min(idle - facts.starved, (facts.threads - 1) * facts.preempted)
+    facts.delayed = whole - facts.code - facts.preempted - facts.starved - waited
+    if waited:
+        heaviest = max(facts.places, key=lambda name: facts.places[name].cost)
+        facts.starved_by, facts.starved_off = {"": facts.starved, heaviest: waited}, {heaviest: waited}
+        facts.starved += waited
 
 
 def off_by_segment(path, head):

@@ -128,7 +128,7 @@ def kind_of_starved(facts, name):
     """Why the other threads had nothing to run while this code ran."""
     place = facts.places.get(name)
     if not place:
-        return "too_few_tasks"
+        return kind_without_place(facts) or "too_few_tasks"
     if place.kind in (SHARE, OF_THREADS) and begins_often(facts, place):
         return "small_regions"
     if place.kind == SHARE:
@@ -140,6 +140,14 @@ def kind_of_starved(facts, name):
     if place.kind == OF_THREADS and place.name.startswith(OWN) and place.has_several:
         return "loop_schedule"
     return "serial" if place.kind in (SERIAL, OF_THREADS) else kind_of_task(facts, place)
+
+
+def kind_without_place(facts):
+    """Why threads were idle, where no times of the run say when: by all of its tasks."""
+    if keeps_waiting(facts) or mostly_small(facts):
+        return fine_kind(facts)
+    place = heaviest(facts)
+    return "undeferred" if place and 2 * place.undeferred > place.tasks > 0 else ""
 
 
 def begins_often(facts, place):
@@ -160,6 +168,8 @@ def kind_of_delayed(facts, name):
         return "loop_schedule"
     if place and place.exclusive:
         return "exclusion"
+    if not place:
+        return kind_without_place(facts) or "machine"
     return fine_kind(facts) if keeps_waiting(facts) or mostly_small(facts) else "machine"
 
 
@@ -460,7 +470,9 @@ def losses(facts):
     one_place = {"too_many_threads": crowded_region(facts), **dict.fromkeys(FINE, heaviest_name(facts)),
                  "too_few_threads": max(missing, key=missing.get, default=""),
                  "small_regions": most_often(facts, found)}
-    return merged(loss._replace(place=one_place.get(loss.kind, loss.place)) for loss in found)
+    known = {"undeferred": heaviest_name(facts)}      # without times too
+    return merged(loss._replace(place=one_place.get(loss.kind, loss.place) or known.get(loss.kind, ""))
+                  for loss in found)
 
 
 def useful_time(facts, found):

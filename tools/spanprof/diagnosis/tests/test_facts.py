@@ -53,6 +53,15 @@ class OfText(unittest.TestCase):
         module.set_by_greedy(self.found, read_head(HEAD + differ), 90)
         self.assertEqual((self.found.code, self.found.preempted, self.found.starved), (100000, 32000, 48000))
 
+    def test_while_others_had_a_processor_the_other_threads_waited(self):
+        taken = '# taken off: {"affected": 1, "work": 9, "by": 15, "times": 1}'
+        module.set_by_greedy(self.found, read_head(HEAD.replace('"wall"', '"own"') + taken), 90)
+        self.assertEqual((self.found.code, self.found.preempted, self.found.starved), (132000, 15000, 63000))
+        heaviest = max(self.found.places, key=lambda name: self.found.places[name].cost)
+        self.assertEqual(self.found.starved_by[heaviest], self.found.starved_off[heaviest])
+        self.assertEqual(self.found.code + self.found.preempted + self.found.starved + self.found.delayed,
+                         self.found.threads * self.found.elapsed)
+
     def test_time_off_the_processor_by_place(self):
         set_off(self.found, {4: (1000, 50000), 2: (0, 5000)}, program())
         self.assertEqual(self.found.preempted_by, {"task at image.c:25": 55000})
