@@ -94,6 +94,19 @@ class Named(unittest.TestCase):
         self.assertEqual(items_in("depend(in: a[i, j], b) depend (out:c)"),
                          {"in": [("in", "a[i, j]"), ("in", "b")], "inout": [("out", "c")]})
 
+    def test_of_gcc_turns_in_order_are_at_their_directive_in_the_loop(self):
+        lines = ["static double spin(int n) {", "    return n;", "}", "int main(void) {", "    #pragma omp for ordered",
+                 "    for (;;) {", "        double x = spin(i);", "        #pragma omp ordered", "        sum += x;",
+                 "    }", "}"]
+        sources, name = SimpleNamespace(lines_of=lambda file: lines), "turns of the loop at image.c:4"
+        run = facts([place(name, SHARE)], is_of_gcc=True, locks=[Held("image.c:2", "ordered", 9, 1, 9)])
+        self.assertEqual(Names(run, sources).place("image.c:2"), "ordered at image.c:8")
+        self.assertEqual(Names(run, None).place("image.c:2"), "ordered at image.c:2")
+        lines[7] = ""
+        self.assertEqual(Names(run, sources).at("image.c:2"), "image.c:5")
+        run.is_of_gcc = False
+        self.assertEqual(Names(run, sources).place("image.c:2"), "ordered at image.c:2")
+
     def test_a_block_ends_where_it_closes(self):
         self.assertEqual(block_end(SOURCE, 13), 14)
 
