@@ -10,7 +10,7 @@ from typing import Dict, List, Optional
 from spanprof import client
 from spanprof.account import account_of
 from spanprof.account_program import NoAccount
-from spanprof.diagnosis.calls import Sampled, calls_of, is_of_ranks, plain
+from spanprof.diagnosis.calls import Sampled, calls_of, is_before_main, is_of_ranks, plain
 from spanprof.diagnosis.library_locks import set_library_locks
 from spanprof.diagnosis.lock_times import locks_of
 from spanprof.diagnosis.places import A_START, AROUND_REGIONS, in_text, read_places
@@ -21,6 +21,7 @@ from spanprof.idle import idle_by_place, most_at_once
 from spanprof.recording import document
 from spanprof.regions import program_of, union
 from spanprof.segment_table import code_in
+from spanprof.text import BEGINNING
 from spanprof.text_file import TextFile
 from spanprof.whatif.numbers import numbers_of
 
@@ -234,6 +235,13 @@ def set_ranks(facts):
             facts.asleep_by[name] = facts.asleep_by.get(name, 0) + 1000 * sum(waits.values())
 
 
+def set_starting(facts):
+    """What runs before the program's first function is no code of its own that samples saw."""
+    ran = facts.calls.ran.get(BEGINNING, {})
+    for calls in filter(is_before_main, list(ran)):
+        del ran[calls]
+
+
 def set_allocating(facts):
     """The functions of the lines that allocate memory."""
     for line, _, function in (at.partition(" ") for found in facts.calls.allocated.values() for at in found):
@@ -339,6 +347,7 @@ def facts_of(recording, end_of=greedy_end):
     set_off(facts, off, program)
     facts.calls = calls_of(recording.file("calls"), program.names)
     set_ranks(facts)
+    set_starting(facts)
     set_allocating(facts)
     try:
         set_breakdown(facts, account_of(head, numbers["work"], document(recording), program.names))

@@ -347,8 +347,8 @@ def begun(facts):
 
 
 def loading(facts):
-    """Of the code before all constructs, that of the system's loader: samples begin when it has loaded the recorder, so
-    they see none of it, and all of the program's own but for a sample at either end."""
+    """Of the code before all constructs, that before the program's first function: samples begin when the system has
+    loaded the recorder, and see all of the program's own but for a sample at either end."""
     seen = sum(sum(found.get(BEGINNING, {}).values()) for found in (facts.calls.ran, facts.calls.slept))
     return begun(facts) - 1000 * (seen + 2 * A_SAMPLE) if facts.calls.ran else 0
 

@@ -4,7 +4,7 @@ from collections import Counter
 
 from spanprof.account_words import lasting
 from spanprof.diagnosis.calls import NO_NAME, OFFSET, ONE_AT_A_TIME, SHARES, asleep_in, innermost, together
-from spanprof.diagnosis.causes import BY_KIND, CHEAPER, NAMES
+from spanprof.diagnosis.causes import BY_KIND, CHEAPER, NAMES, SECOND
 from spanprof.diagnosis.facts import Region
 from spanprof.diagnosis.losses import (A_TASK, MANY, allocating, average_task, has_many_faults, is_maker, losses,
                                        missing_threads, most_shared, parallel_code, useful_time)
@@ -367,8 +367,10 @@ def unsure(found, names):
 def sure_words(found):
     """How much of the program was seen, and how it went."""
     facts = found.facts
+    starting = facts.own_share(sum(loss.time for loss in found.losses if loss.kind == "startup"))
     parts = [several(facts.runs, "run"),
              "recorder %.1f %%" % (100 * facts.share(facts.recorder)) if facts.recorder else "",
+             "startup %.0f %%" % (100 * starting) if starting >= SECOND else "",
              "%.1f %% of the program seen" % (100 * facts.coverage) if facts.coverage is not None else "",
              "gains predicted" if any(step.change for step in found.plan) else "",
              "machine busy: %.0f %%" % (100 * facts.share(facts.taken)) if facts.taken else "",
