@@ -22,6 +22,9 @@ UNEVEN = 1.5            # of the average piece: from which on the largest one is
 A_FAULT, A_PAGE = 4000, 4096    # nanoseconds, with the page that it clears, of so many bytes
 MUCH_SYSTEM = 0.25      # of the processor time, from which on time in the kernel is a loss
 STARTED = 5000000       # nanoseconds that a program and its runtime take to start
+SIBLINGS = 2            # times as much that code costs at most where two threads share a core
+BEYOND_CACHES = 1 << 27     # bytes
+UNSHARED = 0.02         # of the samples of code, below which it uses no line that other threads use
 NO_CAUSE = ("recorder", "startup")
 FINE = ("small_tasks", "creation")      # of all tasks together
 OF_WAITS = ("small_tasks", "small_regions", "exclusion", "sleep", "too_many_threads")
@@ -375,6 +378,15 @@ def dearer(facts):
         return {name: max(0, place.cost - one[name]) for name, place in facts.places.items() if name in one}
     return {name: int(facts.places[name].cost * min(1, sum(shares.values()) / sum(facts.calls.ran[name].values())))
             for name, shares in facts.calls.shares.items() if name in facts.places and name in facts.calls.ran}
+
+
+def is_bandwidth(facts, name):
+    """Whether code costs so much more than on one thread since all use the memory at once: more than two threads of one
+    core slow each other, with more memory than caches hold, and in lines that no two threads use."""
+    place, alone = facts.places.get(name), (facts.cost_on_one or {}).get(name)
+    shared, ran = (sum(found.get(name, {}).values()) for found in (facts.calls.shares, facts.calls.ran))
+    is_large = ((facts.usage or {}).get("peak_bytes") or 0) >= BEYOND_CACHES
+    return bool(place and alone and ran) and is_large and place.cost > SIBLINGS * alone and shared < UNSHARED * ran
 
 
 def lock_name(lock):

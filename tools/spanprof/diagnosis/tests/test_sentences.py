@@ -187,6 +187,25 @@ class Sentences(unittest.TestCase):
             "do    a local copy of what image.c:11 writes, written back once            100 ms -> 40.0 ms or less"])
         self.assertIn("not known: what it costs on one thread: --full", lines[4])
 
+    def test_code_that_streams_and_shares_no_lines_lacks_bandwidth(self):
+        run = found(cost_on_one={TASKS: 10 * MS}, usage={"user_ns": 1, "system_ns": 0, "peak_bytes": 1 << 28})
+        step = Step("memory", TASKS, 100 * MS, 50 * MS, 50 * MS, 60 * MS)
+
+        def told():
+            return [lost_sentence(run, Names(run, SOURCES), Loss("memory", TASKS, 1)),
+                    change_sentence(run, Names(run, SOURCES), step)]
+        run.calls = Sampled({TASKS: {("main", "tone"): 10 * 4000}}, {})
+        self.assertEqual(told(), ["image.c:9 (tone) costs 4.0 times as much on 4 threads as on one: memory bandwidth",
+                                  "touch the data of image.c:9 once: fuse or block loops"])
+        shared = run.calls._replace(shares={TASKS: Counter({"image.c:11": 4000})})
+        for field, other in (("usage", {"peak_bytes": 1 << 25}), ("cost_on_one", {TASKS: 25 * MS}),
+                             ("calls", Sampled({}, {})), ("calls", shared)):
+            kept = getattr(run, field)
+            setattr(run, field, other)
+            self.assertNotIn("bandwidth", told()[0])
+            self.assertNotIn("fuse", told()[1])
+            setattr(run, field, kept)
+
     def test_memory_is_allocated_at_a_line_of_a_function(self):
         run = found(is_of_gcc=True)
         run.functions = {"image.c:12": "tone"}
