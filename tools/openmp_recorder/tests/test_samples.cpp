@@ -202,7 +202,7 @@ TEST(memory_is_allocated_where_the_program_calls_for_it) {
   Places places(&modules);
   places.put_frames(code(100), {{"main", "a.c:1"}});
   places.put_frames(code(101), {{"parse", "a.c:2"}});
-  places.put_frames(code(102), {{"malloc", "malloc.c:7"}});
+  places.put_frames(code(102), {{"malloc@libc.so.6", "malloc.c:7"}});
   places.put_frames(code(103), {{"std::vector<..>::grow", "vector:9", false, "", true}});
   places.put_frames(code(104), {{"mallocate", "a.c:8"}});
   std::string told = sampled_lines(*made.found.whole, made.found.whole->off, stacks, places);

@@ -20,6 +20,8 @@ ONE_AT_A_TIME = {
     **dict.fromkeys(("localtime", "localtime_r", "mktime", "strftime"), "call it once for many")}
 OUTERMOST = ("main", "_start")
 OF_MPI = re.compile("P?MPI_(?!Init)")
+# The system's loader, and constructors of static objects.
+BEFORE_MAIN = re.compile(r"_GLOBAL__(sub_)?I_|__cxx_global_var_init|[^;]*@ld-linux")
 OF_COMPILERS = re.compile(r"(\.omp_outlined|\._omp_fn|\.part\.|\.constprop\.|\.isra\.|\.cold|\.lto_priv| \[clone ).*$")
 ARGUMENTS = re.compile(r"(?<!operator)(?<!^)\(.*$")
 OFFSET = re.compile(r"\+0x[0-9a-f]+$")
@@ -63,6 +65,10 @@ def plain(function):
 def is_of_ranks(calls):
     """Whether they end with a call of MPI but for its beginning: it waits for other ranks, mostly without sleeping."""
     return OF_MPI.match(calls[-1]) is not None
+
+
+def is_before_main(calls):
+    return BEFORE_MAIN.match(calls[0]) is not None
 
 
 def samples_in(path):

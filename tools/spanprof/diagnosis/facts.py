@@ -10,7 +10,7 @@ from typing import Dict, List, Optional
 from spanprof import client
 from spanprof.account import account_of
 from spanprof.account_program import NoAccount
-from spanprof.diagnosis.calls import Sampled, calls_of, is_of_ranks, plain
+from spanprof.diagnosis.calls import Sampled, calls_of, is_before_main, is_of_ranks, plain
 from spanprof.diagnosis.library_locks import set_library_locks
 from spanprof.diagnosis.lock_times import locks_of
 from spanprof.diagnosis.own_code import interpreter_of
@@ -22,6 +22,7 @@ from spanprof.idle import idle_by_place, most_at_once
 from spanprof.recording import document
 from spanprof.regions import program_of, union
 from spanprof.segment_table import code_in
+from spanprof.text import BEGINNING
 from spanprof.text_file import TextFile
 from spanprof.whatif.numbers import numbers_of
 
@@ -191,14 +192,24 @@ def greedy_end(path, threads):
 
 
 def set_by_greedy(facts, head, end):
-    """Without the times of the run: what the greedy run of the text leaves idle, and what is longer than it."""
-    whole = facts.threads * facts.elapsed
+    """Without the times of the run: what the greedy run of the text leaves idle, and what is longer than it. While a
+    thread was preempted all others may have waited."""
+    unit, whole, waited = head.nanoseconds or 1, facts.threads * facts.elapsed, 0
     facts.code = min(facts.work, whole)
     if head.clock == "wall":
-        facts.preempted = min(facts.code, head.clocks_differ.get("by", 0) * (head.nanoseconds or 1))
+        facts.preempted = min(facts.code, head.clocks_differ.get("by", 0) * unit)
         facts.code -= facts.preempted
-    facts.starved = max(0, min(whole, facts.threads * end * (head.nanoseconds or 1)) - facts.code - facts.preempted)
-    facts.delayed = whole - facts.code - facts.preempted - facts.starved
+        facts.starved = max(0, min(whole, facts.threads * end * unit) - facts.code - facts.preempted)
+    else:
+        facts.preempted = min(head.taken_off.get("by", 0) * unit, whole - facts.code)
+        idle = whole - facts.code - facts.preempted
+        facts.starved = max(0, min(idle, facts.threads * end * unit - facts.code))
+        waited = min(idle - facts.starved, (facts.threads - 1) * facts.preempted)
+    facts.delayed = whole - facts.code - facts.preempted - facts.starved - waited
+    if waited:
+        heaviest = max(facts.places, key=lambda name: facts.places[name].cost)
+        facts.starved_by, facts.starved_off = {"": facts.starved, heaviest: waited}, {heaviest: waited}
+        facts.starved += waited
 
 
 def off_by_segment(path, head):
@@ -224,6 +235,13 @@ def set_ranks(facts):
         if waits:
             facts.calls.slept.setdefault(name, Counter()).update(waits)
             facts.asleep_by[name] = facts.asleep_by.get(name, 0) + 1000 * sum(waits.values())
+
+
+def set_starting(facts):
+    """What runs before the program's first function is no code of its own that samples saw."""
+    ran = facts.calls.ran.get(BEGINNING, {})
+    for calls in filter(is_before_main, list(ran)):
+        del ran[calls]
 
 
 def set_allocating(facts):
@@ -331,6 +349,7 @@ def facts_of(recording, end_of=greedy_end):
     set_off(facts, off, program)
     facts.calls = calls_of(recording.file("calls"), program.names)
     set_ranks(facts)
+    set_starting(facts)
     set_allocating(facts)
     facts.interpreter = interpreter_of(facts)
     try:

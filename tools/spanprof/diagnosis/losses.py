@@ -23,6 +23,9 @@ UNEVEN = 1.5            # of the average piece: from which on the largest one is
 A_FAULT, A_PAGE = 4000, 4096    # nanoseconds, with the page that it clears, of so many bytes
 MUCH_SYSTEM = 0.25      # of the processor time, from which on time in the kernel is a loss
 STARTED = 5000000       # nanoseconds that a program and its runtime take to start
+SIBLINGS = 2            # times as much that code costs at most where two threads share a core
+BEYOND_CACHES = 1 << 27     # bytes
+UNSHARED = 0.02         # of the samples of code, below which it uses no line that other threads use
 NO_CAUSE = ("recorder", "startup")
 FINE = ("small_tasks", "creation")      # of all tasks together
 OF_WAITS = ("small_tasks", "small_regions", "exclusion", "sleep", "too_many_threads")
@@ -129,7 +132,7 @@ def kind_of_starved(facts, name):
     """Why the other threads had nothing to run while this code ran."""
     place = facts.places.get(name)
     if not place:
-        return "too_few_tasks"
+        return kind_without_place(facts) or "too_few_tasks"
     if place.kind in (SHARE, OF_THREADS) and begins_often(facts, place):
         return "small_regions"
     if place.kind == SHARE:
@@ -141,6 +144,14 @@ def kind_of_starved(facts, name):
     if place.kind == OF_THREADS and place.name.startswith(OWN) and place.has_several:
         return "loop_schedule"
     return "serial" if place.kind in (SERIAL, OF_THREADS) else kind_of_task(facts, place)
+
+
+def kind_without_place(facts):
+    """Why threads were idle, where no times of the run say when: by all of its tasks."""
+    if keeps_waiting(facts) or mostly_small(facts):
+        return fine_kind(facts)
+    place = heaviest(facts)
+    return "undeferred" if place and 2 * place.undeferred > place.tasks > 0 else ""
 
 
 def begins_often(facts, place):
@@ -161,6 +172,8 @@ def kind_of_delayed(facts, name):
         return "loop_schedule"
     if place and place.exclusive:
         return "exclusion"
+    if not place:
+        return kind_without_place(facts) or "machine"
     return fine_kind(facts) if keeps_waiting(facts) or mostly_small(facts) else "machine"
 
 
@@ -338,8 +351,8 @@ def begun(facts):
 
 
 def loading(facts):
-    """Of the code before all constructs, that of the system's loader: samples begin when it has loaded the recorder, so
-    they see none of it, and all of the program's own but for a sample at either end."""
+    """Of the code before all constructs, that before the program's first function: samples begin when the system has
+    loaded the recorder, and see all of the program's own but for a sample at either end."""
     seen = sum(sum(found.get(BEGINNING, {}).values()) for found in (facts.calls.ran, facts.calls.slept))
     return begun(facts) - 1000 * (seen + 2 * A_SAMPLE) if facts.calls.ran else 0
 
@@ -366,6 +379,15 @@ def dearer(facts):
         return {name: max(0, place.cost - one[name]) for name, place in facts.places.items() if name in one}
     return {name: int(facts.places[name].cost * min(1, sum(shares.values()) / sum(facts.calls.ran[name].values())))
             for name, shares in facts.calls.shares.items() if name in facts.places and name in facts.calls.ran}
+
+
+def is_bandwidth(facts, name):
+    """Whether code costs so much more than on one thread since all use the memory at once: more than two threads of one
+    core slow each other, with more memory than caches hold, and in lines that no two threads use."""
+    place, alone = facts.places.get(name), (facts.cost_on_one or {}).get(name)
+    shared, ran = (sum(found.get(name, {}).values()) for found in (facts.calls.shares, facts.calls.ran))
+    is_large = ((facts.usage or {}).get("peak_bytes") or 0) >= BEYOND_CACHES
+    return bool(place and alone and ran) and is_large and place.cost > SIBLINGS * alone and shared < UNSHARED * ran
 
 
 def lock_name(lock):
@@ -461,8 +483,9 @@ def losses(facts):
     one_place = {"too_many_threads": crowded_region(facts), **dict.fromkeys(FINE, heaviest_name(facts)),
                  "too_few_threads": max(missing, key=missing.get, default=""),
                  "small_regions": most_often(facts, found)}
-    return merged(of_interpreter(facts, [loss._replace(place=one_place.get(loss.kind, loss.place))
-                                         for loss in found]))
+    known = {"undeferred": heaviest_name(facts)}      # without times too
+    placed = [loss._replace(place=one_place.get(loss.kind, loss.place) or known.get(loss.kind, "")) for loss in found]
+    return merged(of_interpreter(facts, placed))
 
 
 def useful_time(facts, found):

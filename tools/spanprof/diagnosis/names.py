@@ -17,6 +17,8 @@ DEPEND = re.compile(r"depend\s*\(\s*(\w+)\s*:\s*((?:[^()]|\([^()]*\))*)\)")
 LINE = re.compile(r"[^\s:/]+:\d+$")
 LONGEST_CALLED = 50     # columns of a function and its caller
 ATOMIC = re.compile(r"omp\s+atomic|\bstd::atomic\b|\bfetch_(add|sub|or|and|xor)\b|__atomic_|__sync_", re.I)
+ORDERED = re.compile(r"\bordered\b")
+OF_TURNS = re.compile(r"\s*#\s*pragma\s+omp\s+ordered\b")
 MUCH_CODE = 0.2         # of all code, from which on a place is looked at
 MUCH_SHARED = 0.1       # of the samples of code
 HOT = 0.8               # of the samples of code, that the lines have which are told of it
@@ -109,10 +111,22 @@ class Names:
     def begin(self, name, at):
         """The line of a construct, by the name of its place and where it was recorded."""
         line, lock = line_of(at), self.lock(name)
+        if line and self.facts.is_of_gcc and lock and lock.kind == "ordered":
+            return self.ordered(line)
         if not line or not self.facts.is_of_gcc or lock and lock.kind != "critical" or name.startswith(ALLOCATION):
             return line
         construct = lock.kind if lock else construct_of(name)
         return line._replace(number=directive_line(self.lines_of(line.file), line.number, construct))
+
+    def ordered(self, line):
+        """gcc may give an ordered region the line of code before it, which may be another function's: that of the
+        directive in the loop with such turns, the last one before the line if there is one."""
+        loops = [self.begin(name, place.at) for name, place in self.facts.places.items()
+                 if ORDERED.search(self.directive(name, place.at))]
+        loop = max(loops, key=lambda one: (one.file == line.file and one.number <= line.number, one), default=None)
+        lines = self.lines_of(loop.file) if loop else []
+        inside = range(loop.number + 1, block_end(lines, loop.number) + 1) if loop else ()
+        return next((loop._replace(number=here) for here in inside if OF_TURNS.match(lines[here - 1])), loop or line)
 
     def lock(self, name):
         found = (lock for lock in self.facts.locks if not lock.function)

@@ -4,10 +4,10 @@ from collections import Counter
 
 from spanprof.account_words import lasting
 from spanprof.diagnosis.calls import NO_NAME, OFFSET, ONE_AT_A_TIME, SHARES, asleep_in, innermost, together
-from spanprof.diagnosis.causes import BY_KIND, CHEAPER, NAMES
+from spanprof.diagnosis.causes import BY_KIND, CHEAPER, NAMES, SECOND
 from spanprof.diagnosis.facts import Region
-from spanprof.diagnosis.losses import (A_TASK, MANY, allocating, average_task, has_many_faults, is_maker, losses,
-                                       missing_threads, most_shared, parallel_code, useful_time)
+from spanprof.diagnosis.losses import (A_TASK, MANY, allocating, average_task, has_many_faults, is_bandwidth, is_maker,
+                                       losses, missing_threads, most_shared, parallel_code, useful_time)
 from spanprof.diagnosis.own_code import interpreted_share, is_interpreter, words_of_interpreter
 from spanprof.diagnosis.places import AFTER_REGION, SERIAL, SHARE
 from spanprof.diagnosis.plan import holder
@@ -53,8 +53,9 @@ def words_of_memory(facts, names, place):
     """What its code costs more than on one thread, or by samples its lines that use memory which threads share."""
     alone = (facts.cost_on_one or {}).get(place.name)
     if alone:
-        return "%s costs %.1f times as much on %d threads as on one: memory is contended" % (
-            names.place(place.name), place.cost / alone, facts.most_threads)
+        return "%s costs %.1f times as much on %d threads as on one: memory %s" % (
+            names.place(place.name), place.cost / alone, facts.most_threads,
+            "bandwidth" if is_bandwidth(facts, place.name) else "is contended")
     shares = facts.calls.shares.get(place.name, Counter())
     lines = [line for line, _ in shares.most_common() if line_of(line)][:MOST_SHARED]
     return "threads write the same cache lines at once: %s" % " and ".join(lines or [names.place(place.name)])
@@ -211,6 +212,8 @@ def words_of_line(facts):
 
 def instead(names, place, name):
     """What to write in place of what threads contend for."""
+    if is_bandwidth(names.facts, name):
+        return "touch the data of %s once: fuse or block loops" % names.at(name)
     suspect = names.suspect([place]) if place else None
     return suspect.instead if suspect else "a copy for each thread of what %s writes: reduction" % names.at(name)
 
@@ -369,8 +372,10 @@ def unsure(found, names):
 def sure_words(found):
     """How much of the program was seen, and how it went."""
     facts = found.facts
+    starting = facts.own_share(sum(loss.time for loss in found.losses if loss.kind == "startup"))
     parts = [several(facts.runs, "run"),
              "recorder %.1f %%" % (100 * facts.share(facts.recorder)) if facts.recorder else "",
+             "startup %.0f %%" % (100 * starting) if starting >= SECOND else "",
              "%.1f %% of the program seen" % (100 * facts.coverage) if facts.coverage is not None else "",
              "gains predicted" if any(step.change for step in found.plan) else "",
              "machine busy: %.0f %%" % (100 * facts.share(facts.taken)) if facts.taken else "",

@@ -8,12 +8,14 @@ from unittest import mock
 from spanprof.account import Account, Row, Rows
 from spanprof.diagnosis import facts as module
 from spanprof.diagnosis.calls import Sampled, calls_of
+from spanprof.diagnosis.diagnose import diagnose
 from spanprof.diagnosis.facts import (Facts, elapsed_in, function_in, inner_regions, nested_threads, of_those_at_once,
                                       off_by_segment, regions_of, runtime_name, set_meta, set_off, set_ranks,
                                       starting_shares, stolen_share)
 from spanprof.diagnosis.lock_times import Held, locks_of
-from spanprof.diagnosis.places import AFTER_REGION, OWN
-from spanprof.diagnosis.tests.worked import MS, TEXT, facts, program
+from spanprof.diagnosis.places import AFTER_REGION, OWN, SERIAL
+from spanprof.diagnosis.sentences import sure_words
+from spanprof.diagnosis.tests.worked import MS, TEXT, facts, place, program
 from spanprof.errors import Fault
 from spanprof.head import read_head
 from spanprof.recording import open_recording
@@ -53,10 +55,31 @@ class OfText(unittest.TestCase):
         module.set_by_greedy(self.found, read_head(HEAD + differ), 90)
         self.assertEqual((self.found.code, self.found.preempted, self.found.starved), (100000, 32000, 48000))
 
+    def test_while_others_had_a_processor_the_other_threads_waited(self):
+        taken = '# taken off: {"affected": 1, "work": 9, "by": 15, "times": 1}'
+        module.set_by_greedy(self.found, read_head(HEAD.replace('"wall"', '"own"') + taken), 90)
+        self.assertEqual((self.found.code, self.found.preempted, self.found.starved), (132000, 15000, 63000))
+        heaviest = max(self.found.places, key=lambda name: self.found.places[name].cost)
+        self.assertEqual(self.found.starved_by[heaviest], self.found.starved_off[heaviest])
+        self.assertEqual(self.found.code + self.found.preempted + self.found.starved + self.found.delayed,
+                         self.found.threads * self.found.elapsed)
+
     def test_time_off_the_processor_by_place(self):
         set_off(self.found, {4: (1000, 50000), 2: (0, 5000)}, program())
         self.assertEqual(self.found.preempted_by, {"task at image.c:25": 55000})
         self.assertEqual(self.found.asleep_by, {"task at image.c:25": 1000})
+
+    def test_what_runs_before_the_programs_first_function_is_its_start(self):
+        begins = place("the beginning", SERIAL, cost=100 * MS, pieces=1, tasks=0)
+        ran = {("_GLOBAL__sub_I_main", "Table::Table"): 60000, ("dl_start@ld-linux.so.2",): 16000,
+               ("main", "read"): 16000}
+        found = facts([begins], starved=300 * MS, starved_by={begins.name: 300 * MS},
+                      calls=Sampled({begins.name: ran}, {}))
+        module.set_starting(found)
+        self.assertEqual(found.calls.ran, {begins.name: {("main", "read"): 16000}})
+        told = diagnose(found)
+        self.assertEqual({loss.kind: loss.time for loss in told.losses}, {"startup": 228 * MS, "serial": 72 * MS})
+        self.assertIn("startup 57 %", sure_words(told))
 
     def test_names_of_functions(self):
         self.assertEqual(self.found.functions, {"image.c:25": "main"})

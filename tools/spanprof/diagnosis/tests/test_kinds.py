@@ -54,6 +54,14 @@ class Kinds(unittest.TestCase):
         one.items[("inout", "a0")] = 8
         self.assertEqual(self.first(starved_at(one)), "dependence")
 
+    def test_without_times_of_the_run_all_of_its_tasks_tell(self):
+        making = place("after creating a task at image.c:25", SERIAL, cost=140 * MS, pieces=400, tasks=0)
+        for places, kind in (([small()], "small_tasks"), ([place(TASKS, pieces=400, tasks=400), making], "creation"),
+                             ([place(TASKS, undeferred=8)], "undeferred"), ([place(TASKS)], "machine")):
+            found = diagnose(facts(places, delayed=200 * MS)).causes[0]
+            self.assertEqual((found.kind, found.place), (kind, TASKS if kind != "machine" else ""))
+        self.assertEqual(diagnose(facts([place(TASKS, undeferred=8)], starved=200 * MS)).causes[0].place, TASKS)
+
     def test_small_tasks(self):
         making = place("after creating a task at image.c:25", tasks=0, pieces=4000)
         found = delayed_at(small())

@@ -94,6 +94,19 @@ class Named(unittest.TestCase):
         self.assertEqual(items_in("depend(in: a[i, j], b) depend (out:c)"),
                          {"in": [("in", "a[i, j]"), ("in", "b")], "inout": [("out", "c")]})
 
+    def test_of_gcc_turns_in_order_are_at_their_directive_in_the_loop(self):
+        lines = ["static double spin(int n) {", "    return n;", "}", "int main(void) {", "    #pragma omp for ordered",
+                 "    for (;;) {", "        double x = spin(i);", "        #pragma omp ordered", "        sum += x;",
+                 "    }", "}"]
+        sources, name = SimpleNamespace(lines_of=lambda file: lines), "turns of the loop at image.c:4"
+        run = facts([place(name, SHARE)], is_of_gcc=True, locks=[Held("image.c:2", "ordered", 9, 1, 9)])
+        self.assertEqual(Names(run, sources).place("image.c:2"), "ordered at image.c:8")
+        self.assertEqual(Names(run, None).place("image.c:2"), "ordered at image.c:2")
+        lines[7] = ""
+        self.assertEqual(Names(run, sources).at("image.c:2"), "image.c:5")
+        run.is_of_gcc = False
+        self.assertEqual(Names(run, sources).place("image.c:2"), "ordered at image.c:2")
+
     def test_a_block_ends_where_it_closes(self):
         self.assertEqual(block_end(SOURCE, 13), 14)
 
@@ -173,6 +186,25 @@ class Sentences(unittest.TestCase):
             "lost  60 %  threads write the same cache lines at once: image.c:11 and image.c:12",
             "do    a local copy of what image.c:11 writes, written back once            100 ms -> 40.0 ms or less"])
         self.assertIn("not known: what it costs on one thread: --full", lines[4])
+
+    def test_code_that_streams_and_shares_no_lines_lacks_bandwidth(self):
+        run = found(cost_on_one={TASKS: 10 * MS}, usage={"user_ns": 1, "system_ns": 0, "peak_bytes": 1 << 28})
+        step = Step("memory", TASKS, 100 * MS, 50 * MS, 50 * MS, 60 * MS)
+
+        def told():
+            return [lost_sentence(run, Names(run, SOURCES), Loss("memory", TASKS, 1)),
+                    change_sentence(run, Names(run, SOURCES), step)]
+        run.calls = Sampled({TASKS: {("main", "tone"): 10 * 4000}}, {})
+        self.assertEqual(told(), ["image.c:9 (tone) costs 4.0 times as much on 4 threads as on one: memory bandwidth",
+                                  "touch the data of image.c:9 once: fuse or block loops"])
+        shared = run.calls._replace(shares={TASKS: Counter({"image.c:11": 4000})})
+        for field, other in (("usage", {"peak_bytes": 1 << 25}), ("cost_on_one", {TASKS: 25 * MS}),
+                             ("calls", Sampled({}, {})), ("calls", shared)):
+            kept = getattr(run, field)
+            setattr(run, field, other)
+            self.assertNotIn("bandwidth", told()[0])
+            self.assertNotIn("fuse", told()[1])
+            setattr(run, field, kept)
 
     def test_memory_is_allocated_at_a_line_of_a_function(self):
         run = found(is_of_gcc=True)
