@@ -216,6 +216,16 @@ TEST(turns_that_joined_a_chunk_are_told_after_it) {
   EXPECT(made.found.whole->short_chunks.at(reinterpret_cast<const void *>(50)).times, 3u);
 }
 
+TEST(loops_have_few_turns_where_no_thread_has_more_than_two) {
+  for (unsigned turns : {3, 4, 0}) {
+    Program made;
+    loop(made, 0, turns, {{1, 6 * us}});
+    end_region(made);
+    bool is_told = made.text().find("# few turns: {\"at\": \"50\", \"turns\": 3, \"threads\": 2}") != std::string::npos;
+    EXPECT(is_told, turns == 3);
+  }
+}
+
 // Of such a loop the compiler asks for the thread's first chunk alone.
 TEST(turns_that_are_not_told_are_counted_by_the_loop) {
   Program made(2);

@@ -75,6 +75,7 @@ class Facts:
     functions: Dict[str, str] = field(default_factory=dict)
     sources: Dict[str, str] = field(default_factory=dict)
     chunks: Dict[str, List[int]] = field(default_factory=dict)     # by place of loops: short ones, and their turns
+    few_turns: Dict[str, List[int]] = field(default_factory=dict)  # by place of loops, and the threads that had them
     locks: list = field(default_factory=list)
     regions: List[Region] = field(default_factory=list)     # inside no other
     inner: List[Region] = field(default_factory=list)       # with threads of their own
@@ -301,7 +302,7 @@ def of_text(head, program, numbers):
                   tasks=max(program.code.task) - head.pieces - head.parts, places=program.places,
                   functions={at: function_in(words) for at, words in head.functions.items()})
     facts.coverage = head.covered / head.thread_time if head.covered and head.thread_time else None
-    facts.chunks, facts.sources = head.chunks, head.sources
+    facts.chunks, facts.few_turns, facts.sources = head.chunks, head.few_turns, head.sources
     facts.is_of_gcc = any(remark.name == OF_GCC for remark in head.remarks)
     if any(remark.name == EXCLUDING for remark in head.remarks):
         for place in facts.places.values():

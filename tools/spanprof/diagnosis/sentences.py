@@ -61,13 +61,25 @@ def words_of_memory(facts, names, place):
 
 
 def words_of_schedule(names, name, place):
-    """gcc's chunks are those that threads take one by one."""
+    """gcc's chunks are those that threads take one by one. No schedule divides an iteration."""
     at, is_share = names.at(name), place and place.kind == SHARE
+    if few_turns(names.facts, name, place):
+        return "collapse the loops at %s, or parallelise inside them" % at
     if is_share and SECTION in name:
         return "smaller sections at %s, the longest first" % at
     if is_share and (names.facts.is_of_gcc or re.search(ONE_BY_ONE, names.directive(name, place.at))):
         return "smaller chunks at %s, the longest first" % at
     return "schedule(dynamic) at %s, or smaller chunks" % at
+
+
+def few_turns(facts, name, place):
+    """Of a loop, and the threads that had them; None where they are more, or are not known."""
+    return facts.few_turns.get(where(name)) if place and place.kind == SHARE else None
+
+
+def words_of_division(facts, name, place):
+    few = few_turns(facts, name, place)
+    return "too few iterations, %d on %d threads" % tuple(few) if few else "its work is divided unevenly"
 
 
 def words_of_kernel(facts, usage):
@@ -221,7 +233,8 @@ def words(facts, names, name):
                in_what=words_of_sleep(facts, name, names.place(name)), tasks="", many="", largest="", average="",
                contended="", chunks="", a_chunk="", of_turns="",
                alone=words_of_interpreter(facts) if is_interpreter(name) else "the others wait", suspect=words_of_suspect(facts, names),
-               shared=words_of_schedule(names, name, place), less_creating=words_of_creation(facts, names, name),
+               shared=words_of_schedule(names, name, place), uneven=words_of_division(facts, name, place),
+               less_creating=words_of_creation(facts, names, name),
                instead=instead(names, place, name),
                **words_of_region(facts, names, name), **words_of_lock(facts, names, name))
     if place:
