@@ -3,7 +3,7 @@ import re
 from collections import Counter
 
 from spanprof.account_words import lasting
-from spanprof.diagnosis.calls import NO_NAME, OFFSET, ONE_AT_A_TIME, SHARES, asleep_in, innermost, together
+from spanprof.diagnosis.calls import NO_NAME, OFFSET, ONE_AT_A_TIME, SHARES, innermost, together
 from spanprof.diagnosis.causes import BY_KIND, NAMES
 from spanprof.diagnosis.facts import Region
 from spanprof.diagnosis.losses import (A_TASK, MANY, average_task, has_many_faults, is_maker, losses, missing_threads,
@@ -11,6 +11,7 @@ from spanprof.diagnosis.losses import (A_TASK, MANY, average_task, has_many_faul
 from spanprof.diagnosis.own_code import interpreted_share, is_interpreter, words_of_interpreter
 from spanprof.diagnosis.places import AFTER_REGION, SERIAL, SHARE
 from spanprof.diagnosis.plan import holder
+from spanprof.diagnosis.sleeps import words_of_sleep
 from spanprof.head import grouped
 from spanprof.source_lines import line_of
 from spanprof.text import SECTION, where
@@ -122,14 +123,6 @@ def words_of_creation(facts, names, name):
         return "larger tasks at %s, or a taskloop" % names.at(name)
     ran = names.ran(most)
     return "move %s into the task at %s" % (ran.function if ran else "the code before it", names.at(name))
-
-
-def words_of_sleep(facts, name, told):
-    """Such as `in read, called by load`, or of MPI for other ranks; what it may be where no sample tells."""
-    function, caller = asleep_in(facts.calls.slept.get(name, {}))
-    if not function:
-        return "for files, a network or other locks"
-    return "in %s%s" % (function, ", called by " + caller if caller not in told else "")
 
 
 def who_asked(facts, region):
