@@ -8,7 +8,7 @@ LEAST = 0.1     # from which on a call is told beside another
 
 
 def by_call(sampled):
-    """The function that code slept in and what called it, each empty where it is not known, with the share of the sleep;
+    """The function that code slept in and what called it, each empty where it is not known, and the share of the sleep:
     the most first."""
     found, whole = Counter(), sum(sampled.values())
     for calls, time in sampled.items():
@@ -17,9 +17,10 @@ def by_call(sampled):
 
 
 def words_of_sleep(facts, name, told):
-    """Such as `in read, called by load`, or of MPI for other ranks; of two calls with their shares. What it may be where
+    """Such as `in read, called by load`, or of MPI for other ranks; two calls with their shares. What it may be where
     no sample tells."""
-    found = [(call, share) for call, share in by_call(facts.calls.slept.get(name, {}))[:2] if share >= LEAST and call[0]]
+    sampled = by_call(facts.calls.slept.get(name, {}))
+    found = [(call, share) for call, share in sampled[:2] if share >= LEAST and call[0]]
     if not found:
         return "for files, a network or other locks"
     named = [function + (", called by " + caller if caller not in told else "") for (function, caller), _ in found]

@@ -5,7 +5,8 @@ from spanprof.diagnosis.sleeps import by_call, words_of_sleep
 from spanprof.diagnosis.tests.worked import facts
 
 PLACE = "the beginning"
-READS, WRITES, NAPS = ("main", "load", "read@libc.so.6"), ("main", "save", "write"), ("main", "nap", "nanosleep@libc.so.6")
+READS, WRITES = ("main", "load", "read@libc.so.6"), ("main", "save", "write")
+NAPS = ("main", "nap", "nanosleep@libc.so.6")
 
 
 class Sleeps(unittest.TestCase):
