@@ -14,7 +14,7 @@ from spanprof.diagnosis.calls import Sampled, calls_of, is_of_ranks, plain
 from spanprof.diagnosis.library_locks import set_library_locks
 from spanprof.diagnosis.lock_times import locks_of
 from spanprof.diagnosis.own_code import interpreter_of
-from spanprof.diagnosis.places import A_START, AROUND_REGIONS, in_text, read_places
+from spanprof.diagnosis.places import A_START, AROUND_REGIONS, TASK, in_text, read_places
 from spanprof.diagnosis.undisturbed import is_disturbed, set_disturbed, starved_alone
 from spanprof.errors import reading
 from spanprof.head import head_of
@@ -103,6 +103,11 @@ class Facts:
     def usable(self):
         """Of these, as many as run at once."""
         return max(1, min(self.target, self.processors or self.target))
+
+    @property
+    def has_tasks(self):
+        """Whether the program makes any: a region's threads have code of their own that is a task in the text."""
+        return any(place.tasks for place in self.places.values() if place.kind == TASK)
 
     @property
     def most_threads(self):

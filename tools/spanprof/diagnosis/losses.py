@@ -70,7 +70,7 @@ def at_heaviest(facts):
 def at_serial(facts):
     """What ran while threads had nothing to run, where that is not known: without tasks it is the code between regions
     that lasts longest."""
-    most = max([] if facts.tasks else serial_places(facts), key=lambda place: place.cost, default=None)
+    most = max([] if facts.has_tasks else serial_places(facts), key=lambda place: place.cost, default=None)
     return {most.name if most else "": 1}
 
 
@@ -109,7 +109,7 @@ def fine_kind(facts):
 
 def kind_of_task(facts, place):
     """By the shape alone, where tasks of a place kept the other threads idle."""
-    if not facts.tasks:
+    if not facts.has_tasks:
         return "serial"
     if 2 * place.undeferred > place.tasks > 0:
         return "undeferred"
@@ -138,7 +138,7 @@ def kind_of_starved(facts, name):
     """Why the other threads had nothing to run while this code ran."""
     place = facts.places.get(name)
     if not place:
-        return "too_few_tasks" if facts.tasks else "serial"
+        return "too_few_tasks" if facts.has_tasks else "serial"
     if place.kind in (SHARE, OF_THREADS) and begins_often(facts, place):
         return "small_regions"
     if place.kind == SHARE:
