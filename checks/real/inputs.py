@@ -65,6 +65,14 @@ def sound(seconds, rate=44100):
     return head + data
 
 
+def catalogue(chance, count, ending=""):
+    """Messages and their translations, as msgmerge reads them; with an ending no translations."""
+    texts = ["".join(chance.choice("abcdefghij ") for _ in range(40)) for _ in range(count)]
+    head = 'msgid ""\nmsgstr "Content-Type: text/plain; charset=UTF-8\\n"\n\n'
+    return head + "\n".join('msgid "%s%s"\nmsgstr "%s"\n' % (text, ending, "" if ending else text.upper())
+                            for text in texts)
+
+
 def inputs():
     """What each file has."""
     chance = random.Random(1)
@@ -72,6 +80,7 @@ def inputs():
              "cone.in": cone(chance), "water.xyz": water(2), "picture.pgm": picture(400, 300), "sound.wav": sound(1)}
     found["reads.fasta"] = fasta(sequences(random.Random(2), 40, 100, 0.03, "acgt"))
     found["letters.pgm"] = lettering("HELLO HOLE HELL LEE HOE")
+    found["old.po"], found["new.pot"] = (catalogue(random.Random(3), *what) for what in ((1500,), (600, " x")))
     genomes = enumerate(sequences(chance, 3, 60000, 0.05, "ACGT"))
     return dict(found, **{"genome%d.fasta" % number: fasta([pair]) for number, pair in genomes})
 

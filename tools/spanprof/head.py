@@ -65,6 +65,7 @@ class Head:
     thread_time: Optional[int] = None  # of the program, in code
     covers_at_most: bool = False       # recording ended before the program did
     not_covered: Dict[str, int] = field(default_factory=dict)  # the rest, by where it passed
+    few_turns: Dict[str, List[int]] = field(default_factory=dict)   # by place of loops, and the threads that had them
     chunks: Dict[str, List[int]] = field(default_factory=dict)  # by place of loops, those that came soon, their turns
     divided: List[str] = field(default_factory=list)  # loops and sections, among as many threads as the run had
     beside: Optional[int] = None       # what the region's parts cost, but for the longest of each phase
@@ -187,6 +188,10 @@ def read_chunks(head, told):
     head.chunks[told["at"]] = [chunks + number(told["times"]), turns + number(told["turns"])]
 
 
+def read_few_turns(head, told):
+    head.few_turns[words(told["at"])] = [number(told["turns"]), number(told["threads"])]
+
+
 def read_place(head, told):
     function = "in " + words(told["in"]) + "".join(", inlined into %s at %s" % (words(one["in"]), words(one["at"]))
                                                    for one in told.get("inlined", []))
@@ -240,7 +245,8 @@ LINES = {
     "taken off": kept_numbers("taken_off", DIFFER),
     "untimed": kept("untimed"), "preempted": read_preempted,
     "elapsed": kept("elapsed"), "most held lock": kept("most_held"),
-    "lock": read_lock, "place": read_place, "short chunks": read_chunks, "source": read_source,
+    "lock": read_lock, "place": read_place, "short chunks": read_chunks, "few turns": read_few_turns,
+    "source": read_source,
     **{name: part_of_time(name) for name in DIVISION},
 }
 

@@ -30,6 +30,7 @@ class Head {
   void times(const Region &region, const Recording &recording);
   void locks(const Region &region);
   void short_chunks(const WholeProgram &program);
+  void few_turns(const WholeProgram &program);
   void remarks(const Region &region);
   void functions(const Region &region);
 
@@ -237,6 +238,13 @@ void Head::short_chunks(const WholeProgram &program) {
     line("short chunks", Object().put("at", places.at(code)).put("times", found.times).put("turns", found.turns));
 }
 
+// Of which no thread has more than two.
+void Head::few_turns(const WholeProgram &program) {
+  for (auto &[code, most] : program.most_turns)
+    if (most.turns && most.turns < 2 * most.threads)
+      line("few turns", Object().put("at", places.at(code)).put("turns", most.turns).put("threads", most.threads));
+}
+
 void Head::remarks(const Region &region) {
   for (auto &[what, seen] : region.remarks) words += "# remark: " + remark_in_json(what, seen, places) + "\n";
 }
@@ -266,7 +274,7 @@ std::string head_of(const Region &region, const Recording &recording, const Opti
   head.preempted(region);
   head.times(region, recording);
   head.locks(region);
-  if (recording.whole) head.short_chunks(*recording.whole);
+  if (recording.whole) head.short_chunks(*recording.whole), head.few_turns(*recording.whole);
   head.remarks(region);
   head.functions(region);
   return head.words;

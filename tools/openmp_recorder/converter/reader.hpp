@@ -183,6 +183,7 @@ class Reader {
   void divided_begin();
   void chunk_begin();
   void tell_between(Task *t, const ImplicitTask &own);
+  void count_turns(const Loop &loop, const Region &region);
   void begin_chunk(ImplicitTask &own, uint64_t turns);
   void join_turns(const ImplicitTask &own);
   void end_chunk(ImplicitTask &own);

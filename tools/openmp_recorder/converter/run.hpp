@@ -158,6 +158,11 @@ struct ShortChunks {
   uint64_t times = 0, turns = 0;
 };
 
+struct MostTurns {
+  uint64_t turns = 0;
+  unsigned threads = 0;
+};
+
 struct WholeProgram : Region {
   const Log *first = nullptr;  // the thread that meets the runtime first, whose code the root is
   uint64_t regions = 0, loops = 0, sections = 0, pieces = 0;  // `sections` by the construct
@@ -166,6 +171,7 @@ struct WholeProgram : Region {
   OffTimes off;  // of its segments
   int64_t serial = 0, in_loops = 0;  // of the cost: outside of regions; in chunks of loops
   std::map<const void *, ShortChunks> short_chunks;  // by the loop's code: those that began soon after others
+  std::map<const void *, MostTurns> most_turns;  // by the loop's code: of one time, and the threads that divide them
   std::deque<Loop> loop_list;
   std::deque<Chunk> chunk_list;  // in the order in which they began
 };

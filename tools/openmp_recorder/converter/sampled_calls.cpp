@@ -34,10 +34,10 @@ std::string library_of_system(const void *code, const Places &places) {
   std::string name = module ? module->path.substr(module->path.rfind('/') + 1) : "";
   bool is_systems = begins_with_one(name, {"libc.so", "libm.so", "ld-linux", "linux-vdso", "libstdc++", "libgcc_s",
                                            "libtcmalloc", "libjemalloc", "libmimalloc", "libtbbmalloc"});
-  bool is_interpreter = name == "R" || is_version_of_one(name, {"python", "octave-cli", "octave-gui", "perl", "ruby",
-                                                                "guile", "lua", "libpython", "libR", "liboctinterp",
-                                                                "liboctave", "libperl", "libruby", "libguile",
-                                                                "liblua"});
+  bool is_interpreter =
+      name == "R" ||
+      is_version_of_one(name, {"python", "octave-cli", "octave-gui", "perl", "ruby", "guile", "lua", "libpython",
+                               "libR", "liboctinterp", "liboctave", "libperl", "libruby", "libguile", "liblua"});
   return is_systems || is_interpreter ? name : "";
 }
 

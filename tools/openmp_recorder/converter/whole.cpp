@@ -130,6 +130,13 @@ bool Reader::is_to_divide(const Region &region) const {
   return region.threads > 1 || is_outermost;
 }
 
+void Reader::count_turns(const Loop &loop, const Region &region) {
+  if (loop.what != Divided::Loops) return;
+  MostTurns &most = run.whole->most_turns[loop.code];
+  most.turns = std::max<uint64_t>(most.turns, loop.count);
+  most.threads = std::max<unsigned>(most.threads, region.threads);
+}
+
 void Reader::divided_begin() {
   Task *t = running();
   if (!run.whole || !t || !t->part || is_host(t) || !is_to_divide(*t->region)) return;
@@ -140,6 +147,7 @@ void Reader::divided_begin() {
   own.loop->what = static_cast<Divided>(r->detail);
   own.loop->code = r->place();
   own.loop->count = std::max<uint64_t>(own.loop->count, r->task);
+  count_turns(*own.loop, *t->region);
   if (t->region->threads > 1) return;
   begin_chunk(own, r->task);  // all turns: for one thread no chunk may be told
   own.all_turns = true;

@@ -62,9 +62,10 @@ Head *map_head(const std::string &path) {
   return page == MAP_FAILED ? nullptr : static_cast<Head *>(page);
 }
 
-// Of the parent, which would be taken for one that runs as long as the child does. The program may have closed the
-// file, and use its number for another one.
+// Of the parent, which would be taken for one that runs as long as the child does: the file's map holds it as well. The
+// program may have closed the file, and use its number for another one.
 void let_go_of_lock() {
+  if (head) munmap(std::exchange(head, nullptr), sizeof(Head));
   struct stat open_there, own;
   std::string path = beginning.folder + log_form::head_file;
   bool is_own = locked >= 0 && !fstat(locked, &open_there) && !stat(path.c_str(), &own) &&
@@ -264,7 +265,6 @@ void forget_log() {
   thread_log = left_log = nullptr;
   forks = false;
   new (&of_ended) std::vector<ThreadLog *>;
-  head = nullptr;
   is_made = false;
   open_regions = 0;
   next_thread = 0;

@@ -216,6 +216,19 @@ TEST(turns_that_joined_a_chunk_are_told_after_it) {
   EXPECT(made.found.whole->short_chunks.at(reinterpret_cast<const void *>(50)).times, 3u);
 }
 
+TEST(loops_have_few_turns_where_no_thread_has_more_than_two) {
+  for (unsigned turns : {3, 4, 0}) {
+    Program made(2);
+    made.add(0, Told::Divided, turns, 1, 0, 50).add(0, Told::Chunk, 1).after(6 * us);
+    end_region(made.add(0, Told::DividedEnd, 0), 2);
+    WholeProgram &whole = *made.whole().whole;
+    Recording recording{"sort", "2026-11-24T00:10:02Z", 0, {100, 12 * us}, {100, 24 * us + 100, true}, &whole};
+    std::string head = head_of(whole, recording, Options(), Places());
+    EXPECT((head.find("# few turns: ") != std::string::npos), turns == 3);
+    EXPECT(whole.most_turns.at(reinterpret_cast<const void *>(50)).turns, turns);
+  }
+}
+
 // Of such a loop the compiler asks for the thread's first chunk alone.
 TEST(turns_that_are_not_told_are_counted_by_the_loop) {
   Program made(2);

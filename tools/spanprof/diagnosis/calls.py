@@ -98,14 +98,6 @@ def known(calls):
                                                                       for one in calls.split(";")))
 
 
-def asleep_in(sampled):
-    """The function that code slept in most of the time, and what called it, each empty where it is not known."""
-    found = Counter()
-    for calls, time in sampled.items():
-        found[calls[-1].partition(OF_SYSTEM)[0], caller_of(calls, len(calls) - 1)] += time
-    return max(found, key=lambda pair: (found[pair], pair), default=("", ""))
-
-
 def is_of_program(function):
     """Whether a person looks for time there: in no function of the system or without a name, nor in the outermost."""
     return function not in OUTERMOST and OF_SYSTEM not in function and not function.startswith(NO_NAME)

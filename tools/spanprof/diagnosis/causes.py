@@ -36,7 +36,7 @@ TABLE = (
     Cause("small_chunks", 0.1, "over {chunks} chunks of {at}, one per {a_chunk}: taking them costs too much",
           "schedule(static) at {at}, or schedule(dynamic, {of_turns})"),
     Cause("undeferred", 0.05, "{tasks} of {where} run immediately, in the thread that creates them"),
-    Cause("loop_schedule", 0.05, "threads wait at the end of {at}: its work is divided unevenly", "{shared}"),
+    Cause("loop_schedule", 0.05, "threads wait at the end of {at}: {uneven}", "{shared}"),
     Cause("lock", 0.1, "threads wait for {lock}, {times}", "{less_locking}"),
     Cause("exclusion", 0.1, "tasks of {where} exclude each other: mutexinoutset",
           "smaller mutexinoutset items at {at}, or for the update alone"),

@@ -14,7 +14,7 @@ from spanprof.diagnosis.calls import Sampled, calls_of, is_before_main, is_of_ra
 from spanprof.diagnosis.library_locks import set_library_locks
 from spanprof.diagnosis.lock_times import locks_of
 from spanprof.diagnosis.own_code import interpreter_of
-from spanprof.diagnosis.places import A_START, AROUND_REGIONS, in_text, read_places
+from spanprof.diagnosis.places import A_START, AROUND_REGIONS, TASK, in_text, read_places
 from spanprof.diagnosis.undisturbed import is_disturbed, set_disturbed, starved_alone
 from spanprof.errors import reading
 from spanprof.head import head_of
@@ -76,6 +76,7 @@ class Facts:
     functions: Dict[str, str] = field(default_factory=dict)
     sources: Dict[str, str] = field(default_factory=dict)
     chunks: Dict[str, List[int]] = field(default_factory=dict)     # by place of loops: short ones, and their turns
+    few_turns: Dict[str, List[int]] = field(default_factory=dict)  # by place of loops, and the threads that had them
     locks: list = field(default_factory=list)
     regions: List[Region] = field(default_factory=list)     # inside no other
     inner: List[Region] = field(default_factory=list)       # with threads of their own
@@ -103,6 +104,11 @@ class Facts:
     def usable(self):
         """Of these, as many as run at once."""
         return max(1, min(self.target, self.processors or self.target))
+
+    @property
+    def has_tasks(self):
+        """Whether the program makes any: a region's threads have code of their own that is a task in the text."""
+        return any(place.tasks for place in self.places.values() if place.kind == TASK)
 
     @property
     def most_threads(self):
@@ -326,7 +332,7 @@ def of_text(head, program, numbers):
                   tasks=max(program.code.task) - head.pieces - head.parts, places=program.places,
                   functions={at: function_in(words) for at, words in head.functions.items()})
     facts.coverage = head.covered / head.thread_time if head.covered and head.thread_time else None
-    facts.chunks, facts.sources = head.chunks, head.sources
+    facts.chunks, facts.few_turns, facts.sources = head.chunks, head.few_turns, head.sources
     facts.is_of_gcc = any(remark.name == OF_GCC for remark in head.remarks)
     if any(remark.name == EXCLUDING for remark in head.remarks):
         for place in facts.places.values():

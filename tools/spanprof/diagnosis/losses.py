@@ -6,7 +6,7 @@ from typing import NamedTuple
 
 from spanprof.diagnosis.calls import A_SAMPLE, RUNTIME, in_system, shares
 from spanprof.diagnosis.causes import BUSY, BY_KIND, SECOND
-from spanprof.diagnosis.own_code import of_interpreter
+from spanprof.diagnosis.own_code import of_interpreter, serial_places
 from spanprof.diagnosis.places import A_START, ALLOCATION, AROUND_REGIONS, OF_THREADS, OWN, SERIAL, SHARE
 from spanprof.text import BEGINNING, TURNS, where
 
@@ -70,6 +70,13 @@ def at_heaviest(facts):
     return {heaviest_name(facts): 1}
 
 
+def at_serial(facts):
+    """What ran while threads had nothing to run, where that is not known: without tasks it is the code between regions
+    that lasts longest."""
+    most = max([] if facts.has_tasks else serial_places(facts), key=lambda place: place.cost, default=None)
+    return {most.name if most else "": 1}
+
+
 def mostly_small(facts):
     """Whether the code of an average task is so short that creating it costs much, and tasks so many that it counts."""
     is_short = facts.tasks > MANY * facts.threads and 0 < average_task(facts) < SMALL
@@ -105,6 +112,8 @@ def fine_kind(facts):
 
 def kind_of_task(facts, place):
     """By the shape alone, where tasks of a place kept the other threads idle."""
+    if not facts.has_tasks:
+        return "serial"
     if 2 * place.undeferred > place.tasks > 0:
         return "undeferred"
     made = facts.places.get("task at " + place.at)
@@ -132,7 +141,7 @@ def kind_of_starved(facts, name):
     """Why the other threads had nothing to run while this code ran."""
     place = facts.places.get(name)
     if not place:
-        return kind_without_place(facts) or "too_few_tasks"
+        return kind_without_place(facts) or ("too_few_tasks" if facts.has_tasks else "serial")
     if place.kind in (SHARE, OF_THREADS) and begins_often(facts, place):
         return "small_regions"
     if place.kind == SHARE:
@@ -257,7 +266,7 @@ def idle_losses(facts):
     short = min(sum(missing.values()), starved + facts.delayed)     # a small team leaves work ready, as pieces of loops
     short_delayed = short * facts.delayed // max(starved + facts.delayed, 1)
     starved -= short - short_delayed
-    collected(kinds, divided(starved, facts.starved_by or {"": 1}), kind_of_starved, facts, starved_off_share,
+    collected(kinds, divided(starved, facts.starved_by or at_serial(facts)), kind_of_starved, facts, starved_off_share,
               for_sleep=True)
     delayed = divided(facts.delayed - short_delayed, facts.delayed_by or {"": 1})
     starting = {name: int(time * starting_share(facts, name)) for name, time in delayed.items()}

@@ -70,7 +70,7 @@ def cause_of(facts, change):
 
 def kind_of_split(facts, name):
     found = facts.places[name]
-    if found.kind != TASK:
+    if found.kind != TASK or not facts.has_tasks:
         return "serial"
     return kind_of_task(facts, found) if kind_of_task(facts, found) == "imbalance" else "too_few_tasks"
 

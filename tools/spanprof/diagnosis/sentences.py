@@ -3,7 +3,7 @@ import re
 from collections import Counter
 
 from spanprof.account_words import lasting
-from spanprof.diagnosis.calls import NO_NAME, OFFSET, ONE_AT_A_TIME, SHARES, asleep_in, innermost, together
+from spanprof.diagnosis.calls import NO_NAME, OFFSET, ONE_AT_A_TIME, SHARES, innermost, together
 from spanprof.diagnosis.causes import BY_KIND, CHEAPER, NAMES, SECOND
 from spanprof.diagnosis.facts import Region
 from spanprof.diagnosis.losses import (A_TASK, MANY, allocating, average_task, has_many_faults, is_bandwidth, is_maker,
@@ -11,6 +11,7 @@ from spanprof.diagnosis.losses import (A_TASK, MANY, allocating, average_task, h
 from spanprof.diagnosis.own_code import interpreted_share, is_interpreter, words_of_interpreter
 from spanprof.diagnosis.places import AFTER_REGION, SERIAL, SHARE
 from spanprof.diagnosis.plan import holder
+from spanprof.diagnosis.sleeps import words_of_sleep
 from spanprof.head import grouped
 from spanprof.source_lines import line_of
 from spanprof.text import SECTION, where
@@ -62,13 +63,25 @@ def words_of_memory(facts, names, place):
 
 
 def words_of_schedule(names, name, place):
-    """gcc's chunks are those that threads take one by one."""
+    """gcc's chunks are those that threads take one by one. No schedule divides an iteration."""
     at, is_share = names.at(name), place and place.kind == SHARE
+    if few_turns(names.facts, name, place):
+        return "collapse the loops at %s, or parallelise inside them" % at
     if is_share and SECTION in name:
         return "smaller sections at %s, the longest first" % at
     if is_share and (names.facts.is_of_gcc or re.search(ONE_BY_ONE, names.directive(name, place.at))):
         return "smaller chunks at %s, the longest first" % at
     return "schedule(dynamic) at %s, or smaller chunks" % at
+
+
+def few_turns(facts, name, place):
+    """Of a loop, and the threads that had them; None where they are more, or are not known."""
+    return facts.few_turns.get(where(name)) if place and place.kind == SHARE else None
+
+
+def words_of_division(facts, name, place):
+    few = few_turns(facts, name, place)
+    return "too few iterations, %d on %d threads" % tuple(few) if few else "its work is divided unevenly"
 
 
 def words_of_kernel(facts, usage):
@@ -112,14 +125,6 @@ def words_of_creation(facts, names, name):
         return "larger tasks at %s, or a taskloop" % names.at(name)
     ran = names.ran(most)
     return "move %s into the task at %s" % (ran.function if ran else "the code before it", names.at(name))
-
-
-def words_of_sleep(facts, name, told):
-    """Such as `in read, called by load`, or of MPI for other ranks; what it may be where no sample tells."""
-    function, caller = asleep_in(facts.calls.slept.get(name, {}))
-    if not function:
-        return "for files, a network or other locks"
-    return "in %s%s" % (function, ", called by " + caller if caller not in told else "")
 
 
 def who_asked(facts, region):
@@ -224,8 +229,10 @@ def words(facts, names, name):
     out = dict(words_of_run(facts), where=names.place(name), at=names.at(name), item="",
                in_what=words_of_sleep(facts, name, names.place(name)), tasks="", many="", largest="", average="",
                contended="", chunks="", a_chunk="", of_turns="",
-               alone=words_of_interpreter(facts) if is_interpreter(name) else "the others wait", suspect=words_of_suspect(facts, names),
-               shared=words_of_schedule(names, name, place), less_creating=words_of_creation(facts, names, name),
+               alone=words_of_interpreter(facts) if is_interpreter(name) else "the others wait",
+               suspect=words_of_suspect(facts, names),
+               shared=words_of_schedule(names, name, place), uneven=words_of_division(facts, name, place),
+               less_creating=words_of_creation(facts, names, name),
                instead=instead(names, place, name),
                **words_of_region(facts, names, name), **words_of_lock(facts, names, name))
     if place:

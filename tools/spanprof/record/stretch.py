@@ -15,7 +15,8 @@ from spanprof.text import BLOCKS, HEADER
 ANY_BYTES = {"encoding": "utf-8", "errors": "surrogateescape"}
 SECONDS, WORD = re.compile(r"\d+(\.\d*)?s?"), re.compile(r"\s*(\w+|\})?")
 SECOND = 10 ** 9
-OF_THE_PART = ("recorded", "whole program", "divided", "clock reading", "place", "source", "short chunks", "remark")
+OF_THE_PART = ("recorded", "whole program", "divided", "clock reading", "place", "source", "short chunks",
+               "few turns", "remark")
 MOST_NAMED = 5
 
 

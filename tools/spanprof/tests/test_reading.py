@@ -123,6 +123,10 @@ class Heads(unittest.TestCase):
                          '# source: {"file": "a.c", "path": "/home/a.c"}\n')
         self.assertEqual((head.chunks, head.sources), ({"a.c:9": [42, 84]}, {"a.c": "/home/a.c"}))
 
+    def test_loops_of_few_turns(self):
+        head = read_head('# few turns: {"at": "a.c:9", "turns": 5, "threads": 4}\n')
+        self.assertEqual(head.few_turns, {"a.c:9": [5, 4]})
+
     def test_functions_of_places(self):
         head = read_head('# place: {"at": "sort.c:9", "in": "merge", "inlined": [{"in": "sort", "at": "sort.c:30"}]}\n')
         self.assertEqual(with_function(head, "task at sort.c:9"),

@@ -4,7 +4,7 @@ import tempfile
 import unittest
 from collections import Counter
 
-from spanprof.diagnosis.calls import Ran, Sampled, asleep_in, calls_of, innermost, plain, together
+from spanprof.diagnosis.calls import Ran, Sampled, calls_of, innermost, plain, together
 
 MAIN = ("main", "convert", "plasma")
 
@@ -50,14 +50,6 @@ class Innermost(unittest.TestCase):
 
     def test_an_outermost_function_has_no_caller(self):
         self.assertEqual(innermost({("sort",): 50000}), Ran("sort", "", 1.0))
-
-
-class Asleep(unittest.TestCase):
-    def test_the_function_it_slept_in_most(self):
-        slept = {("main", "load", "read@libc.so.6"): 9, ("main", "save", "write"): 5}
-        self.assertEqual(asleep_in(slept), ("read", "load"))
-        self.assertEqual(asleep_in({("read",): 9}), ("read", ""))
-        self.assertEqual(asleep_in({}), ("", ""))
 
 
 class Files(unittest.TestCase):

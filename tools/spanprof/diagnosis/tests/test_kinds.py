@@ -44,6 +44,15 @@ class Kinds(unittest.TestCase):
     def test_too_few_tasks(self):
         self.assertEqual(self.first(starved_at(place(TASKS, pieces=5, tasks=5))), "too_few_tasks")
 
+    def test_a_program_without_tasks_hears_of_none(self):
+        begins = place("the beginning", SERIAL, tasks=0, pieces=1)
+        own = place(OWN + " at image.c:20", OF_THREADS, cost=MS, pieces=1, tasks=1)
+        for starved_by in ({}, {"": 200 * MS}):
+            found = diagnose(facts([begins, own], starved=200 * MS, starved_by=starved_by)).causes[0]
+            self.assertEqual((found.kind, found.place), ("serial", "" if starved_by else begins.name))
+        self.assertEqual(self.first(starved_at(place("after taskwait at image.c:30", tasks=0))), "serial")
+        self.assertEqual(self.first(facts([place(TASKS)], starved=200 * MS)), "too_few_tasks")
+
     def test_imbalance(self):
         one = place(TASKS)
         one.largest = 3 * int(one.average)

@@ -14,7 +14,8 @@ from spanprof.diagnosis.sentences import lost_sentence
 from spanprof.diagnosis.tests.worked import MS, facts, place
 
 GLUE = "after the barrier of the region at exec_blas+0xb9"
-EVALUATES, IMPORTS, SORTS = ("PyEval@python3.11",), ("Py_RunMain@python3.11", "[_ctypes.so]"), ("forder", "cfree@libc.so.6")
+EVALUATES, IMPORTS = ("PyEval@python3.11",), ("Py_RunMain@python3.11", "[_ctypes.so]")
+SORTS = ("forder", "cfree@libc.so.6")
 PYTHON = "the interpreter (python3.11)"
 
 

@@ -345,7 +345,13 @@ class Sentences(unittest.TestCase):
             run = facts([place(name, SHARE)])
             step = Step("loop_schedule", name, 2, 1, 1, 1, 1.0, None)
             self.assertEqual(change_sentence(run, Names(run, sources), step), change)
-        run = facts([place(OWN + " at image.c:9", OF_THREADS)])
+        run = facts([place(turns, SHARE)], few_turns={"image.c:9": [5, 4]})
+        step = Step("loop_schedule", turns, 2, 1, 1, 1, 1.0, None)
+        self.assertEqual(change_sentence(run, Names(run, dynamic), step),
+                         "collapse the loops at image.c:9, or parallelise inside them")
+        self.assertEqual(lost_sentence(run, Names(run, dynamic), Loss("loop_schedule", turns, MS)),
+                         "threads wait at the end of image.c:9: too few iterations, 5 on 4 threads")
+        run = facts([place(OWN + " at image.c:9", OF_THREADS)], few_turns={"image.c:9": [5, 4]})
         step = Step("loop_schedule", OWN + " at image.c:9", 2, 1, 1, 1, 1.0, None)
         self.assertIn("schedule(dynamic) at ", change_sentence(run, Names(run, SOURCES), step))
 
