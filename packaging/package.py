@@ -1,4 +1,6 @@
 """Spack's recipe. Put it into packages/spanprof of a repository of Spack's, with the checksum of the released tarball."""
+import os
+
 from spack.package import *
 
 
@@ -10,6 +12,7 @@ class Spanprof(MakefilePackage):
     license("MIT")
     version("0.1.0", sha256="0" * 64)   # of the sources
 
+    depends_on("c", type="build")
     depends_on("cxx", type="build")
     depends_on("rust@1.63:", type="build")
     depends_on("llvm@14: +clang +openmp", type=("build", "run"))
@@ -26,5 +29,5 @@ class Spanprof(MakefilePackage):
     def compiler_words(self):
         """The recorder's Makefile looks for a Debian's clang++-N and its header."""
         llvm = self.spec["llvm"]
-        include = join_path(llvm.prefix.lib, "clang", llvm.version.up_to(1), "include")
+        include = os.path.dirname(find(llvm.prefix, "omp-tools.h")[0])
         return ["CXX=" + llvm.prefix.bin.join("clang++"), "INCLUDE=-Irecorder -Iconverter -Ishared -isystem " + include]

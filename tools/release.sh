@@ -1,7 +1,8 @@
 #!/usr/bin/env bash
 # Makes the packages of a release: a tarball that runs from anywhere, a .deb, a wheel, and their checksums. The programs
 # are those that the gate has left in crates/*/out, with their checksums; SPANPROF and SPANPROF_LARGE name others. The
-# C library goes in where tools/library.sh has built it. What is built on a system runs on it and on newer ones, of any
+# C library goes in: the one that tools/library.sh has built, or that of the reference implementation with its
+# programs. What is built on a system runs on it and on newer ones, of any
 # distribution: packaging/Containerfile takes an old one. The .deb and the wheel say which glibc they need.
 #
 #     tools/release.sh [FOLDER]      where they go; out/release without it
@@ -23,7 +24,7 @@ grep -q "^## $version\b" "$top/CHANGELOG.md" || fail "CHANGELOG.md has no sectio
 if command -v rt > /dev/null && [[ $(rt version) != *"$logic"* ]]; then
     fail "VERSION says $logic, and the toolchain is $(rt version)"
 fi
-SOURCE_DATE_EPOCH=$(git -C "$top" log -1 --format=%ct 2> /dev/null || date +%s)
+SOURCE_DATE_EPOCH=${SOURCE_DATE_EPOCH:-$(git -C "$top" log -1 --format=%ct 2> /dev/null || date +%s)}
 export SOURCE_DATE_EPOCH
 umask 022
 stage=$(mktemp -d)

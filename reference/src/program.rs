@@ -4,6 +4,7 @@ use crate::growth::push;
 use crate::limits::{MOST_ITEMS, MOST_WORD_BYTES};
 use crate::refusal::Refusal;
 use crate::tokens::Version;
+use std::io::Write;
 use std::ops::Range;
 
 /// Of a depend item in the canonical text: ` depend(inoutset: `, its name, its index and `)`.
@@ -102,7 +103,7 @@ impl Program {
     /// The line of a mark in the canonical text.
     pub fn print_line(&self, mark: Mark, text: &mut Vec<u8>) {
         match mark {
-            Mark::Work(cost) => text.extend_from_slice(format!("work {cost}").as_bytes()),
+            Mark::Work(cost) => write!(text, "work {cost}").expect("memory takes it"),
             Mark::Task(number) => self.print_task(number, text),
             Mark::Wait => text.extend_from_slice(b"taskwait"),
             Mark::Group => text.extend_from_slice(b"taskgroup {"),

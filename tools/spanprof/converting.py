@@ -59,15 +59,20 @@ def convert(program, log, out, variables):
 
 
 def output_of(process, log):
-    """What the converter prints; a terminal is shown how much of the log it has read."""
-    progress = Progress("converting " + os.path.basename(os.path.dirname(log)))
+    """What the converter prints; a terminal is shown how much of the log it has read, and then that it writes."""
+    progress, name = Progress("converting"), os.path.basename(os.path.dirname(log))
     whole = sum(os.path.getsize(path) for path in glob.glob(os.path.join(glob.escape(log), "*"))) or 1
     with process:
         try:
-            return at_the_end(process, lambda: progress.at(bytes_read(process) / whole))
+            return at_the_end(process, lambda: show_how_far(progress, name, bytes_read(process) / whole))
         finally:
             progress.end()
             process.kill()      # where this was interrupted
+
+
+def show_how_far(progress, name, share):
+    progress.name = ("reading the log of %s" if share < 1 else "writing the texts of %s") % name
+    progress.at(share if share < 1 else None)
 
 
 def at_the_end(process, meanwhile):

@@ -20,7 +20,7 @@ class Progress:
         self.show()
 
     def at(self, share):
-        self.share = min(share, 1)
+        self.share = share
         self.show()
 
     def show(self):

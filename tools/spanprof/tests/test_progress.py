@@ -27,11 +27,12 @@ class Lines(unittest.TestCase):
         def use(progress):
             progress.at(0.256)
             progress("spanprof slack")
-            progress.at(7)
+            progress.at(1)
+            progress.at(None)
             progress.end()
         self.assertEqual(self.shown(True, 2, use).split("\r\033[K"), [
             "", "converting: 25 % done", "converting: 25 % done: spanprof slack",
-            "converting: 100 % done: spanprof slack", ""])
+            "converting: 100 % done: spanprof slack", "converting: spanprof slack", ""])
 
     def test_without_a_share(self):
         self.assertEqual(self.shown(True, 2, lambda progress: progress("x" * 300)), "\r\033[Kconverting: " + "x" * 98)
