@@ -51,7 +51,7 @@ finish-requires c =
     let rest = c.split_at.result.1.now in
     let both = length-append first rest in
     can_take (first ++ rest) [] c.take-2.new.self
-    (has_taken first rest c.take.new.self c.take-2.new.self c.in_ok-take-2.ensures.takes
+    (has_taken first rest c.take.new.self c.take-2.new.self c.in_ok-take.ensures.takes
     (has_taken [] first c.new-pieces.result c.take.new.self c.in-Ok.ensures.takes c.new-pieces.ensures
     (omega (arith, c.split_at.ensures.front_len, c.requires)))
     (omega (arith, c.split_at.ensures.front_len, c.split_at.ensures.back_len, c.requires)))
