@@ -1,6 +1,7 @@
 //! Programs of any size, in one pass: over statements, over a text, over a text in two pieces, and
 //! with the table of a text.
 ghost use Rattle.std.specs.Prelude.{◌+◌, ◌<◌, ◌≤◌, ◌^◌, length};
+ghost use Rattle.large_text.specs.Streamed.{CanTakeBytes};
 ghost use Rattle.large_text.specs.declared.limits.TheConstants.{LARGEST_PIECE};
 
 use super::supply::Supply;
@@ -106,12 +107,33 @@ fn of_pieces(alloc: Global, supply: &mut Supply, text: &[u8]) -> Result<Numbers,
     let (first, rest) = text.split_at(text.len() / 2);
     let mut pieces = TextMeter::new(alloc, NameKey::fixed());
     supply.before_call();
-    pieces.take(first)?;
+    match pieces.take(first) {
+        Ok(()) => {}
+        Err(_) => {
+            supply.refused();
+            return of_spent(pieces, first);
+        }
+    }
     supply.before_call();
     pieces.take(rest)?;
     supply.before_call();
     let meter = pieces.finish()?;
     Ok(numbers_of(&meter))
+}
+
+/// What comes of a meter that was refused a piece, with memory again: it takes no piece, and its end
+/// is out of memory.
+fn of_spent(mut pieces: TextMeter, piece: &[u8]) -> Result<Numbers, LargeFault>
+    requires room { CanTakeBytes piece.now pieces }
+    requires piece { length piece.now ≤ LARGEST_PIECE }
+{
+    match pieces.take(piece) {
+        Ok(()) => Ok((0, 0, 0, 0)),
+        Err(_) => {
+            let meter = pieces.finish()?;
+            Ok(numbers_of(&meter))
+        }
+    }
 }
 
 /// The numbers of a text in pieces. A refused piece spends its meter, so that the text is begun anew.

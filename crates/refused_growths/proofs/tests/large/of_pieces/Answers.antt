@@ -29,12 +29,19 @@ take-requires-clause-room c =
     can_take [] c.split_at.result.0.now c.new-pieces.result c.new-pieces.ensures
     (omega (arith, c.split_at.ensures.front_len, c.requires))
 
+-- a meter that was refused a piece has what it had
+pub of_spent-requires-clause-room : goal.of_spent-requires-clause-room
+of_spent-requires-clause-room c =
+    can_take [] c.split_at.result.0.now c.take.new.self
+    (c.in-Err.ensures.kept [] c.new-pieces.ensures)
+    (omega (arith, c.split_at.ensures.front_len, c.requires))
+
 pub take-requires-2-clause-room : goal.take-requires-2-clause-room
 take-requires-2-clause-room c =
     let first = c.split_at.result.0.now in
     let rest = c.split_at.result.1.now in
     can_take first rest c.take.new.self
-    (has_taken [] first c.new-pieces.result c.take.new.self c.in_ok-take.ensures.takes c.new-pieces.ensures
+    (has_taken [] first c.new-pieces.result c.take.new.self c.in-Ok.ensures.takes c.new-pieces.ensures
     (omega (arith, c.split_at.ensures.front_len, c.requires)))
     (omega (arith, c.split_at.ensures.front_len, c.split_at.ensures.back_len, c.requires))
 
@@ -44,8 +51,8 @@ finish-requires c =
     let rest = c.split_at.result.1.now in
     let both = length-append first rest in
     can_take (first ++ rest) [] c.take-2.new.self
-    (has_taken first rest c.take.new.self c.take-2.new.self c.in_ok-take-2.ensures.takes
-    (has_taken [] first c.new-pieces.result c.take.new.self c.in_ok-take.ensures.takes c.new-pieces.ensures
+    (has_taken first rest c.take.new.self c.take-2.new.self c.in_ok-take.ensures.takes
+    (has_taken [] first c.new-pieces.result c.take.new.self c.in-Ok.ensures.takes c.new-pieces.ensures
     (omega (arith, c.split_at.ensures.front_len, c.requires)))
     (omega (arith, c.split_at.ensures.front_len, c.split_at.ensures.back_len, c.requires)))
     (omega (
