@@ -10,6 +10,7 @@ from spanprof.text_file import TextFile, read_once
 
 CREATING = "creating a task"
 MOST_KNOWN = 100000     # lines that are kept
+MOST_COSTS = 50000      # of these, that are work
 LONGEST_KNOWN = 1000    # bytes of such a line
 WHOLE = re.compile(r"[ \t]*(?:(work) (\d+)|(taskwait|\})|(taskgroup|task)( [\w(): ,]*)?\{|omptasks \d)?[ \t]*"
                    r"(?:#(.*))?\s*")
@@ -59,6 +60,12 @@ class Lines(dict):
         self.number = number
 
     def __missing__(self, line):
+        word, _, cost = line.strip(" \t\r\n").partition(" ")
+        if word == "work" and cost.isdigit() and cost.isascii():
+            number = int(cost)
+            if len(self) < MOST_COSTS:
+                self[line] = number
+            return number
         whole = WHOLE.fullmatch(line)
         if not whole:
             raise InPieces(line)

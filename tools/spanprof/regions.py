@@ -2,11 +2,14 @@
 too, and those of which no text is written."""
 import os
 from dataclasses import dataclass, field
+from functools import cached_property
+from operator import itemgetter
 from statistics import median_low
 from typing import List, NamedTuple
 
 from spanprof.errors import Fault
 from spanprof.recording import REGIONS, folder_of
+from spanprof.text_file import read_once
 
 COLUMNS = ("number", "text", "begin_ns", "end_ns", "threads", "tasks", "loops", "code_ns", "inside", "place")
 UNKNOWN = "a region"
@@ -78,7 +81,7 @@ class Program:
     elapsed: int
     regions: List[Region]
 
-    @property
+    @cached_property
     def places(self):
         """In the order in which the program comes to them."""
         found = {}
@@ -108,11 +111,13 @@ def rows_of(names, lines):
     """A table of an older version does not say how many threads were asked for."""
     *numbers, place = (names.index(name) for name in COLUMNS)
     asked = names.index("asked") if "asked" in names else None
+    chosen = itemgetter(*numbers)
     for line in filter(None, lines):
         row = line.split(",", len(names) - 1)
-        yield Region(*(int(row[i]) for i in numbers), row[place], int(row[asked]) if asked is not None else 0)
+        yield Region(*map(int, chosen(row)), row[place], int(row[asked]) if asked is not None else 0)
 
 
+@read_once
 def read_regions(path):
     try:
         with open(path, encoding="utf-8", errors="replace") as file:

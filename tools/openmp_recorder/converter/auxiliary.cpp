@@ -84,7 +84,7 @@ Makers makers_of(Region &region) {
 }
 
 // Of a maker's segment, and of those after it that only make a task: these pass at once.
-void put(std::vector<Event> &events, Event event, const Maker &maker) {
+void put(EventList &events, Event event, const Maker &maker) {
   unsigned more = event.start ? 0 : maker.empty_after(event.segment);
   event.segment = maker.now(event.segment);
   events.push_back(event);
@@ -98,7 +98,7 @@ void put(std::vector<Event> &events, Event event, const Maker &maker) {
 }
 
 void rewrite_events(Region &region, const Makers &makers) {
-  std::vector<Event> events;
+  EventList events;
   std::vector<size_t> places;  // of the events, by their places before
   for (const Event &event : region.events) {
     places.push_back(events.size());

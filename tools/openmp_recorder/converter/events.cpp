@@ -3,6 +3,8 @@
 #include <algorithm>
 #include <map>
 
+#include "piece.hpp"
+
 namespace {
 uint32_t number_of(const Event &event, const Region &region) {
   return event.taken_back ? none : number_in_text(*event.task, event.segment, region);
@@ -23,9 +25,15 @@ size_t divide_among_pieces(const Task &chunk, uint32_t first, std::vector<Segmen
   return 2 * static_cast<size_t>(pieces) - 1;
 }
 
-std::string row(uint64_t segment, const SegmentTime &time) {
-  return std::to_string(segment) + " " + std::to_string(time.worker) + " " + std::to_string(time.begin) + " " +
-         std::to_string(time.end) + "\n";
+constexpr size_t longest_piece = 1 << 16;
+
+void put_row(Piece &piece, uint64_t segment, const SegmentTime &time) {
+  piece.number(segment);
+  for (int64_t value : {int64_t{time.worker}, time.begin, time.end}) {
+    piece.put(" ");
+    piece.number(value);
+  }
+  piece.put("\n");
 }
 }  // namespace
 
@@ -49,11 +57,15 @@ Events event_lines(const Region &region) {
   return out;
 }
 
-std::string timed_lines(const Region &region, const Events &events) {
+void tell_times(const Region &region, const Events &events, const Taker &taker) {
   int64_t last = region.time.end - region.time.begin;
   for (const SegmentTime &time : events.times) last = std::max(last, time.end);
   size_t threads = std::max<size_t>(region.threads, events.workers);
-  std::string out = "times " + std::to_string(threads) + " 0 " + std::to_string(last) + "\n";
-  for (size_t s = 0; s < events.times.size(); s++) out += row(s, events.times[s]);
-  return out;
+  Piece piece;
+  piece.put("times " + std::to_string(threads) + " 0 " + std::to_string(last) + "\n");
+  for (size_t s = 0; s < events.times.size(); s++) {
+    put_row(piece, s, events.times[s]);
+    if (piece.size() >= longest_piece) taker(piece.words()), piece.clear();
+  }
+  taker(piece.words());
 }

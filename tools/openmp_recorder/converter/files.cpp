@@ -10,8 +10,13 @@ std::string unfinished(const std::string &name) { return name + ".new"; }
 }  // namespace
 
 bool write_file(const std::string &name, const std::string &text) {
+  return write_file(name, [&](auto &take) { take(text); });
+}
+
+bool write_file(const std::string &name,
+                const std::function<void(const std::function<void(std::string_view)> &)> &tell) {
   NewFile file(name);
-  file.put(text);
+  tell([&](std::string_view piece) { file.put(piece); });
   return file.end();
 }
 

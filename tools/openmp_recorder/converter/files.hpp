@@ -3,10 +3,13 @@
 #pragma once
 #include <cstdint>
 #include <cstdio>
+#include <functional>
 #include <string>
 #include <string_view>
 
 bool write_file(const std::string &name, const std::string &text);
+bool write_file(const std::string &name,
+                const std::function<void(const std::function<void(std::string_view)> &)> &tell);
 
 // A file that is written piece by piece.
 class NewFile {

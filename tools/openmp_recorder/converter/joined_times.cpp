@@ -20,7 +20,7 @@ void JoinedTimes::apply(OffTimes &off) const {
   }
 }
 
-void JoinedTimes::apply(std::vector<Event> &events) const {
+void JoinedTimes::apply(EventList &events) const {
   std::unordered_map<const Task *, int64_t> ends;
   for (const Event &event : events)
     if (!event.start) ends[event.task] = event.at;

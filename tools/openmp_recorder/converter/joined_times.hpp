@@ -10,7 +10,7 @@ class JoinedTimes {
  public:
   void join(const Task &first, const Task &last) { lasts[&first] = &last, firsts[&last] = &first; }
   void leave_out(const Task &part, unsigned segment) { left_out[&part].push_back(segment); }  // in ascending order
-  void apply(std::vector<Event> &events) const;
+  void apply(EventList &events) const;
   void apply(OffTimes &off) const;
 
  private:

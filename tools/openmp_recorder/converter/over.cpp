@@ -46,10 +46,10 @@ void Reader::let_go(Region &region) {
   if (region.makes_tasks) divide_work(region);
   region.let_go = true;
   region.parts = std::vector<Part>();
-  region.left_in_groups = std::vector<Part>();
-  region.events = std::vector<Event>();
+  region.left_in_groups.clear();
+  region.events = EventList();
   region.has_events = false;
-  region.locations = Locations();
+  region.locations.clear();
   region.tasks.clear();
   region.preempted.clear();
 }

@@ -25,7 +25,8 @@ class Piece {
     std::memset(room_for(count), ' ', count);
     used += count;
   }
-  void number(uint64_t value) {
+  template <class Number>
+  void number(Number value) {
     constexpr std::size_t most_digits = 20;
     char *first = room_for(most_digits);
     used = static_cast<std::size_t>(std::to_chars(first, first + most_digits, value).ptr - text.data());

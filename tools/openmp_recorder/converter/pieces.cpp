@@ -1,6 +1,8 @@
 #include "pieces.hpp"
 
 #include <algorithm>
+#include <memory_resource>
+#include <numeric>
 #include <set>
 #include <unordered_map>
 
@@ -13,21 +15,62 @@ constexpr int64_t shortest = 1000;  // of a piece, in nanoseconds
 constexpr uint64_t most_pieces = 1 << 17;
 constexpr int64_t share_that_moves_little = 50;  // of the span
 
-using Row = std::vector<Chunk *>;  // those of one loop that one part makes, one after the other
+// Those of one loop that one part makes, one after the other.
+struct Row {
+  Chunk *const *first;
+  size_t count;
+  size_t size() const { return count; }
+  Chunk *operator[](size_t at) const { return first[at]; }
+};
+
+// In the order in which they begin.
+class Rows {
+ public:
+  template <class Chunks>
+  Rows(Chunks &chunks, size_t first);
+  size_t size() const { return begins.size() - 1; }
+  Row operator[](size_t at) const { return {all.data() + begins[at], begins[at + 1] - begins[at]}; }
+  template <class Take>
+  void each(const Take &take) const {
+    for (size_t i = 0; i < size(); i++) take((*this)[i]);
+  }
+
+ private:
+  std::vector<Chunk *> all;
+  std::vector<uint32_t> begins{0};  // of each, and the end
+};
+
+// The number of each chunk's row.
+template <class Chunks>
+std::vector<uint32_t> rows_of(Chunks &chunks, size_t first) {
+  std::vector<uint32_t> found;
+  std::vector<const Loop *> loops;  // of the rows
+  std::pmr::monotonic_buffer_resource memory;
+  std::pmr::unordered_map<const Task *, uint32_t> last(&memory);  // by the part
+  for (size_t i = first; i < chunks.size(); i++) {
+    const Chunk &chunk = chunks[i];
+    if (!chunk.is_task) continue;
+    auto next = static_cast<uint32_t>(loops.size());
+    auto [row, is_new] = last.emplace(chunk.part, next);
+    if (!is_new && loops[row->second] != chunk.loop) is_new = true, row->second = next;
+    if (is_new) loops.push_back(chunk.loop);
+    found.push_back(row->second);
+  }
+  return found;
+}
 
 template <class Chunks>
-std::vector<Row> rows_of(Chunks &chunks, size_t first) {
-  std::vector<Row> rows;
-  std::unordered_map<const Task *, size_t> last;  // by the part
-  for (size_t i = first; i < chunks.size(); i++) {
-    Chunk &chunk = chunks[i];
-    if (!chunk.is_task) continue;
-    auto [row, is_new] = last.emplace(chunk.part, rows.size());
-    if (!is_new && rows[row->second].back()->loop != chunk.loop) is_new = true, row->second = rows.size();
-    if (is_new) rows.emplace_back();
-    rows[row->second].push_back(&chunk);
+Rows::Rows(Chunks &chunks, size_t first) {
+  std::vector<uint32_t> rows = rows_of(chunks, first);
+  for (uint32_t row : rows) {
+    if (row + 1 == begins.size()) begins.push_back(0);
+    begins[row + 1]++;
   }
-  return rows;
+  std::partial_sum(begins.begin(), begins.end(), begins.begin());
+  std::vector<uint32_t> next(begins);
+  all.resize(rows.size());
+  for (size_t i = first, number = 0; i < chunks.size(); i++)
+    if (chunks[i].is_task) all[next[rows[number++]]++] = &chunks[i];
 }
 
 uint64_t pieces_of(const Chunk &chunk, int64_t least) {
@@ -50,7 +93,7 @@ void cut(const Row &row, int64_t least, const Take &take) {
 
 class Chooser {
  public:
-  explicit Chooser(WholeProgram &of) : whole(of), rows(rows_of(of.chunk_list, 0)) {}
+  explicit Chooser(WholeProgram &of) : whole(of), rows(of.chunk_list, 0) {}
   int64_t least_for(uint64_t most, int64_t from) const;  // of which so many pieces are at most; 0 where none is
   uint64_t pieces(int64_t least) const;
   int64_t longer(int64_t least) const;  // all loops one after the other, than with a piece for each turn
@@ -59,14 +102,15 @@ class Chooser {
 
  private:
   WholeProgram &whole;
-  std::vector<Row> rows;
-  std::unordered_map<const Loop *, int64_t> longest(int64_t least) const;  // piece of each loop
+  Rows rows;
+  int64_t longest(int64_t least) const;  // pieces of all loops, added up
 };
 
 uint64_t Chooser::pieces(int64_t least) const {
   uint64_t sum = 0;
-  for (const Row &row : rows)
+  rows.each([&](const Row &row) {
     cut(row, least, [&](size_t from, size_t to, int64_t) { sum += to - from > 1 ? 1 : pieces_of(*row[from], least); });
+  });
   return sum;
 }
 
@@ -81,23 +125,19 @@ int64_t Chooser::least_for(uint64_t most, int64_t from) const {
   return fits;
 }
 
-std::unordered_map<const Loop *, int64_t> Chooser::longest(int64_t least) const {
-  std::unordered_map<const Loop *, int64_t> found;
-  for (const Row &row : rows)
+int64_t Chooser::longest(int64_t least) const {
+  std::vector<int64_t> found(whole.loop_list.size());
+  rows.each([&](const Row &row) {
+    int64_t &most = found[row[0]->loop->number];
     cut(row, least, [&](size_t from, size_t to, int64_t cost) {
       auto pieces = static_cast<int64_t>(to - from > 1 ? 1 : pieces_of(*row[from], least));
-      int64_t &most = found[row[from]->loop];
       most = std::max(most, cost / pieces);
     });
-  return found;
+  });
+  return std::accumulate(found.begin(), found.end(), int64_t{0});
 }
 
-int64_t Chooser::longer(int64_t least) const {
-  int64_t sum = 0;
-  for (auto &[loop, cost] : longest(least)) sum += cost;
-  for (auto &[loop, cost] : longest(1)) sum -= cost;
-  return sum;
-}
+int64_t Chooser::longer(int64_t least) const { return longest(least) - longest(1); }
 
 uint64_t Chooser::tasks() const {
   uint64_t count = whole.before ? whole.before->tasks : 0;
@@ -127,10 +167,10 @@ void leave_out_joined(Task &part, JoinedTimes &times) {
 }
 
 // The chunks' tasks become pieces.
-JoinedTimes write(const std::vector<Row> &rows, int64_t least) {
+JoinedTimes write(const Rows &rows, int64_t least) {
   JoinedTimes times;
   std::set<Task *> parts;
-  for (const Row &row : rows) {
+  rows.each([&](const Row &row) {
     Task &part = *row[0]->task->parent;
     cut(row, least, [&](size_t from, size_t to, int64_t) {
       Chunk &first = *row[from];
@@ -139,13 +179,13 @@ JoinedTimes write(const std::vector<Row> &rows, int64_t least) {
       if (to - from > 1) parts.insert(&part);
       first.task->pieces = to - from > 1 ? 1 : static_cast<uint32_t>(pieces_of(first, least));
     });
-  }
+  });
   for (Task *part : parts) leave_out_joined(*part, times);
   return times;
 }
 
 void Chooser::remark(int64_t least, bool moves_span) {
-  for (const Row &row : rows)
+  rows.each([&](const Row &row) {
     cut(row, least, [&](size_t from, size_t to, int64_t) {
       uint64_t pieces = to - from > 1 ? 1 : pieces_of(*row[from], least), turns = 0;
       for (size_t i = from; i < to; i++) turns += row[i]->turns;
@@ -154,6 +194,7 @@ void Chooser::remark(int64_t least, bool moves_span) {
       if (pieces > 1) whole.remarks[Remark::EqualTurns].add(code);
       if (moves_span && pieces < turns) whole.remarks[Remark::TurnsTogether].add(code);
     });
+  });
 }
 
 // A least piece with which the text fits the ten commands, where that is as good as any.
@@ -210,7 +251,7 @@ void choose_pieces(WholeProgram &whole, int64_t unit) {
   if (!least) least = INT64_MAX;
   bool moves_span = chooser.longer(least) > span / share_that_moves_little;
   chooser.remark(least, moves_span);
-  JoinedTimes joined = write(rows_of(whole.chunk_list, let_go(whole)), least);
+  JoinedTimes joined = write(Rows(whole.chunk_list, let_go(whole)), least);
   joined.apply(whole.events);
   joined.apply(whole.off);
   add_up(whole);
@@ -224,5 +265,5 @@ void put_pieces(const WholeProgram &whole, size_t stretch, const std::vector<Tas
     own.push_back(whole.chunk_list[i]);
     if (own.back().is_task) own.back().task = tasks[own.back().at];
   }
-  if (!own.empty()) write(rows_of(own, 0), whole.least_piece);
+  if (!own.empty()) write(Rows(own, 0), whole.least_piece);
 }

@@ -50,7 +50,7 @@ std::vector<Part> place_region(Region &region) {
   return parts;
 }
 
-Moment begin_of_phase(const std::vector<Part> &parts, size_t one, const std::vector<Event> &events, Moment otherwise) {
+Moment begin_of_phase(const std::vector<Part> &parts, size_t one, const EventList &events, Moment otherwise) {
   const Event *first = nullptr;
   for (size_t i = one; i < parts.size() && parts[i].phase == parts[one].phase; i++) {
     if (parts[i].first >= events.size()) continue;
@@ -60,12 +60,12 @@ Moment begin_of_phase(const std::vector<Part> &parts, size_t one, const std::vec
   return first ? Moment{first->at, first->worker} : otherwise;
 }
 
-void put_empty_segment(std::vector<Event> &events, Task &t, unsigned segment, Moment when) {
+void put_empty_segment(EventList &events, Task &t, unsigned segment, Moment when) {
   for (bool start : {true, false}) events.push_back({&t, when.at, segment, when.worker, start});
 }
 
 void time_placed(const std::vector<Part> &parts, Task &owner, unsigned segment, Moment first,
-                 std::vector<Event> &events) {
+                 EventList &events) {
   for (size_t i = 0; i < parts.size(); i++) {
     if (i && parts[i].phase != parts[i - 1].phase) {
       first = begin_of_phase(parts, i, events, first);

@@ -22,6 +22,7 @@ struct Worker {
   int64_t stood_still = 0;  // its clock, so far
   int64_t worked = 0, compared = 0;  // in code so far, and when both clocks were compared last
   const Task *outside = nullptr;  // of a whole program: its code outside of regions
+  std::map<std::pair<uint32_t, Divided>, Seen> divided;  // that it met in regions which it has not left, by number
   std::vector<uint32_t> current;  // the task that runs, innermost region last
   std::vector<Task *> waits;  // tasks whose wait for dependences it is in, innermost last
   Resumed resumed;
@@ -112,6 +113,8 @@ class Reader {
   void implicit_begin();
   void leave_region(Met &met);
   void implicit_end();
+  void count_divided();
+  void hand_on_divided(unsigned thread, uint32_t first, uint32_t last);
   const void *place_in(const Task &maker) const;
   void task_create();
   void loop_begin();

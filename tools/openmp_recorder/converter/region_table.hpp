@@ -1,9 +1,10 @@
 // The program's regions in the order of time, those without tasks too: NAME.regions.
 #pragma once
-#include <string>
+#include <vector>
 
 #include "run.hpp"
 #include "source.hpp"
+#include "text.hpp"
 
 struct WholeTime {
   int64_t start, end;  // of the program, on the wall clock
@@ -11,4 +12,4 @@ struct WholeTime {
 };
 
 std::vector<const void *> codes_of_regions(const Run &run);
-std::string region_table(const Run &run, const WholeTime &time, const Places &places);
+void tell_regions(const Run &run, const WholeTime &time, const Places &places, const Taker &taker);

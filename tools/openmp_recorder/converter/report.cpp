@@ -47,7 +47,7 @@ class Reporter {
   void tell_remarks(const Region &region, const std::string &name);
   void write_times(Region &region, const std::string &name, const std::string &head, Style style, Object &line);
   bool write_text(Region &region, const std::string &file, const std::string &head, const Style &style,
-                  const std::string &behind = "", SegmentTable *table = nullptr);
+                  SegmentTable *table, const std::function<void(const Taker &)> &behind);
   bool write_whole(Region &region, const std::string &name, const std::string &head, const Style &style);
   Object &put_size(Object &line, const std::string &file, const Size &size, int64_t work);
 };
@@ -108,20 +108,21 @@ void Reporter::write_times(Region &region, const std::string &name, const std::s
     line.put("no times", region.has_events ? "unfinished" : "whole");
     return;
   }
-  std::string times = timed_lines(region, events), file = name + (recording.whole ? ".times" : ".timed");
+  std::string file = name + (recording.whole ? ".times" : ".timed");
   style.numbered = false;
-  bool is_written = recording.whole ? write_file(file, times) : write_text(region, file, head, style, "---\n" + times);
-  if (is_written) line.put("times", file);
+  auto times = [&](const Taker &taker) { tell_times(region, events, taker); };
+  auto behind = [&](const Taker &taker) { taker("---\n"), times(taker); };
+  if (recording.whole ? write_file(file, times) : write_text(region, file, head, style, nullptr, behind))
+    line.put("times", file);
 }
 
 bool Reporter::write_text(Region &region, const std::string &file, const std::string &head, const Style &style,
-                          const std::string &behind, SegmentTable *table) {
-  NewFile out(file);
-  out.put(head);
-  tell_program(
-      region, style, places, [&](std::string_view piece) { out.put(piece); }, table);
-  out.put(behind);
-  return out.end();
+                          SegmentTable *table, const std::function<void(const Taker &)> &behind) {
+  return write_file(file, [&](const Taker &taker) {
+    taker(head);
+    tell_program(region, style, places, taker, table);
+    if (behind) behind(taker);
+  });
 }
 
 // Of the whole program, with the table of its segments where that has room for all.
@@ -129,7 +130,7 @@ bool Reporter::write_whole(Region &region, const std::string &name, const std::s
   std::string file = name + ".segments";
   NewFile out(file);
   SegmentTable table([&](std::string_view piece) { out.put(piece); });
-  bool is_text = write_text(region, name + ".tasks", head, style, "", &table), has_room = table.finish();
+  bool is_text = write_text(region, name + ".tasks", head, style, &table, nullptr), has_room = table.finish();
   bool is_table = out.end();
   if (!has_room) remove(file.c_str());
   return is_text && is_table;
@@ -151,7 +152,7 @@ void Reporter::write(Region &region, const std::string &name) {
   int64_t work = work_in_units(region, options.unit);
   std::string words = head(region, work);
   Style style{options.unit, size.tasks > most_tasks, region.has_events};
-  if (!(recording.whole ? write_whole(region, name, words, style) : write_text(region, file, words, style))) return;
+  if (!(recording.whole ? write_whole(region, name, words, style) : write_text(region, file, words, style, nullptr, nullptr))) return;
   tell_remarks(region, name);
   Line line("text");
   write_times(region, name, words, style, put_size(line, file, size, work));
@@ -168,7 +169,7 @@ void Reporter::tell_outside(const Seen &outside) {
 void Reporter::write_regions(const Run &run, const WholeTime &time, const std::string &name) {
   if (run.regions.empty()) return;
   if (options.lines) places.look_up(codes_of_regions(run));
-  write_file(name + ".regions", region_table(run, time, places));
+  write_file(name + ".regions", [&](const Taker &taker) { tell_regions(run, time, places, taker); });
 }
 
 // All, or where one is asked for that of median work at its place, so that one that a busy machine held up stands for

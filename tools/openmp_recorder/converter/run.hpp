@@ -8,9 +8,11 @@
 #include <string>
 #include <vector>
 
+#include "event_list.hpp"
 #include "locations.hpp"
 #include "off_times.hpp"
 #include "remarks.hpp"
+#include "seldom.hpp"
 #include "task_list.hpp"
 
 // Code of a region in which the wall clock and the processor's differ, as the clock that costs are read on must not, or
@@ -46,15 +48,6 @@ struct Met {
   int64_t since = 0, passed = 0;  // on that thread's clock; until the end of its code in the region
 };
 
-struct Event {
-  Task *task;
-  int64_t at;  // the wall clock
-  unsigned segment;
-  uint16_t worker;
-  bool start;
-  bool taken_back = false;
-};
-
 struct Part {
   Task *task;
   unsigned phase;  // barriers before it
@@ -74,6 +67,7 @@ struct Turns;
 // A worksharing loop, or sections, as the threads of a region met it.
 struct Loop {
   Divided what = Divided::Loops;
+  uint32_t number = 0;  // in their order
   const void *code = nullptr;
   uint64_t count = 0, told = 0;  // turns: of the loop, and of the chunks that were told
   bool kept = false;  // some of it, or all, is code of the parts, as this run divided it
@@ -111,27 +105,27 @@ struct Region {
   RegionTime time{};
   Met met;
   TaskList tasks;  // in the order of creation, each before those that it makes
-  Locations locations;  // that its tasks name
+  Seldom<Locations> locations;  // that its tasks name
   std::vector<Part> parts;
-  std::vector<Part> left_in_groups;  // parts at a barrier inside a group, until it is over
-  std::vector<Event> events;
+  Seldom<std::vector<Part>> left_in_groups;  // parts at a barrier inside a group, until it is over
+  EventList events;
   bool has_events = true;  // else they are given up, since no times are wanted of so many tasks
   uint64_t created = 0;  // tasks
   uint64_t chunks = 0;  // of these, chunks of loops
   bool has_auxiliary = false;  // tasks
   bool of_program = true;  // else of the runtime, for threads that it keeps for itself
   int64_t cost = 0;  // of all its code
-  std::map<LockName, LockUse> locks;
-  Remarks remarks;
+  Seldom<std::map<LockName, LockUse>> locks;
+  Seldom<Remarks> remarks;
   Task *root = nullptr;  // what is written
   int64_t work = 0, span = 0;  // in nanoseconds
   int64_t in_parts = 0, in_tasks = 0;  // the costs of parts without tasks, and of all else
   int64_t in_own_regions = 0;  // of the cost: what passed while a task was in a region of its own
-  Differing differing;
-  Differing asleep;  // by the wall clock: code in which the thread gave its processor up
-  std::vector<Preempted> preempted;  // by the wall clock, where its clocks differ; not of the whole program
+  Seldom<Differing> differing;
+  Seldom<Differing> asleep;  // by the wall clock: code in which the thread gave its processor up
+  Seldom<std::vector<Preempted>> preempted;  // by the wall clock, where its clocks differ; not of the whole program
   int64_t untimed = 0;  // the wall clock in segments that were left in their midst, until they were
-  std::map<Divided, Seen> divided;  // of the thread that met the most
+  Seldom<std::map<Divided, SeenBy>> divided;  // of the thread that met the most
   std::vector<uint32_t> numbers;  // of the segments in the text, task by task; none where one is part of a later one
 
   // where the whole program is one text

@@ -17,3 +17,11 @@ struct Seen {
     times += more.times;
   }
 };
+
+// By the thread that met it most; of several by the first.
+struct SeenBy : Seen {
+  unsigned by = 0;
+  void take_if_most(const Seen &met, unsigned thread) {
+    if (met.times > times || (met.times == times && thread < by)) static_cast<Seen &>(*this) = met, by = thread;
+  }
+};

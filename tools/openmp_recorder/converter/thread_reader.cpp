@@ -194,9 +194,6 @@ bool ThreadReader::take() {
     case Told::Passed: leave_out(passed()); return true;
     case Told::LockGot: get_lock(); return raw.detail() == order_of_turns;
     case Told::LockLeft: leave_lock(); return raw.detail() == order_of_turns;
-    case Told::Divided:
-      log.divided[{raw.record.other, static_cast<Divided>(raw.detail())}].add(raw.place());
-      return true;
     case Told::ParallelBegin: begin_region(); return true;
     case Told::ParallelEnd: end_region(); return true;
     case Told::ImplicitBegin:

@@ -34,7 +34,7 @@ int64_t usual_cost(const Loop &loop) {
 }
 }  // namespace
 
-uint32_t Reader::made_location() { return run.whole->locations.number(beyond_addresses + made_locations++); }
+uint32_t Reader::made_location() { return run.whole->locations->number(beyond_addresses + made_locations++); }
 
 // The record's items are the turn's numbers in the loops.
 uint32_t Reader::location_of_turn(const Loop &loop) {
@@ -179,7 +179,7 @@ void Reader::end_turns(ImplicitTask &own) {
 // The thread idles while it waits.
 void Reader::end_earlier(const TurnWait &wait, int64_t by) {
   if (!run.whole->has_events) return;
-  std::vector<Event> &events = run.whole->events;
+  EventList &events = run.whole->events;
   int64_t &end = events[wait.ended].at;
   end = std::max(end - by, events[wait.piece->started].at);
 }

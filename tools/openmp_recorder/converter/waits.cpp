@@ -76,7 +76,7 @@ void Reader::dependences() {
     else if (item.type < ompt_dependence_type_in ||
              (item.type > ompt_dependence_type_inout && item.type != ompt_dependence_type_inoutset))
       remark(t->region, Remark::UnknownItem, code);
-    items.push_back({home(*t->region).locations.number(item.address), item.type});
+    items.push_back({home(*t->region).locations->number(item.address), item.type});
   }
 }
 
@@ -86,7 +86,7 @@ void Reader::barrier_begin(Task *t) {
   t->over = true;
   if (!t->open_groups) return;
   ImplicitTask &own = implicit[r->task];
-  t->region->left_in_groups.push_back({t, own.phase, 0});
+  t->region->left_in_groups->push_back({t, own.phase, 0});
   own.groups = open_groups_of(*t);
 }
 
@@ -94,7 +94,8 @@ void Reader::barrier_begin(Task *t) {
 // and what follows the barrier is a group of the next part. No part goes on before all that were left are at their
 // ends.
 void Reader::end_groups_at_barrier(Region &region, unsigned phase) {
-  std::vector<Part> &all = region.left_in_groups;
+  if (region.left_in_groups.empty()) return;
+  std::vector<Part> &all = region.left_in_groups.made();
   auto at_this_barrier = [&](const Part &left) { return left.phase == phase; };
   for (const Part &left : all)
     while (at_this_barrier(left) && left.task->open_groups) {

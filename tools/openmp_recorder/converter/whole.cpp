@@ -77,14 +77,14 @@ void Reader::meet_region(Region &region) {
 // Of what the whole program's text has otherwise than it ran.
 void Reader::give_up_times() {
   run.whole->has_events = false;
-  run.whole->events = std::vector<Event>();
+  run.whole->events = EventList();
   run.whole->off = {};
 }
 
 // A task that runs now goes on with the segment that it was left in, or has begun with it before.
 void Reader::join_with_before(Task &t, size_t end, int64_t since) {
   if (!run.whole->has_events) return;
-  std::vector<Event> &events = run.whole->events;
+  EventList &events = run.whole->events;
   bool is_the_same = events[end].task == &t && !events[end].start && events[end].segment == t.segment;
   events[t.started].at = since;
   events[t.started].taken_back = is_the_same;
@@ -103,7 +103,7 @@ void Reader::put_in_its_place(Region &region) {
   Task *owner = region.owner;
   unsigned segment = owner->segment;
   std::vector<Part> parts = place_region(region);
-  if (std::vector<Event> &events = run.whole->events; run.whole->has_events)
+  if (EventList &events = run.whole->events; run.whole->has_events)
     time_placed(parts, *owner, segment, {region.met_at, events[region.left].worker}, events);
   if (owner == run.whole->root && !parts.empty()) note_placed();
   if (!region.resumes) return;
@@ -113,7 +113,9 @@ void Reader::put_in_its_place(Region &region) {
 
 Loop &Reader::loop_of(uint32_t region, unsigned number) {
   Loop *&known = loops[{region, number}];
-  if (!known) known = &run.whole->loop_list.emplace_back();
+  if (known) return *known;
+  known = &run.whole->loop_list.emplace_back();
+  known->number = static_cast<uint32_t>(run.whole->loop_list.size() - 1);
   return *known;
 }
 

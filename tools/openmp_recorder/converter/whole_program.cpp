@@ -37,8 +37,8 @@ void take_over(WholeProgram &whole, const Region &region) {
   take_over_parts(whole, region);
   for (auto &[name, use] : region.locks) whole.locks[name].add(use);
   for (auto &[what, seen] : region.remarks) whole.remarks[what].add(seen);
-  add_differing(whole.differing, region.differing);
-  add_differing(whole.asleep, region.asleep);
+  add_differing(whole.differing.made(), region.differing);
+  add_differing(whole.asleep.made(), region.asleep);
 }
 
 // What stays as this run divided it: where chunks are not told, or make tasks.

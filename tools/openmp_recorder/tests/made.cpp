@@ -118,9 +118,16 @@ std::string text_of(Region &region, const Style &style) {
   return words.substr(words.find('\n') + 1);
 }
 
+std::string told_times(const Region &region, const Events &events) {
+  std::string out;
+  tell_times(region, events, [&](std::string_view piece) { out += piece; });
+  return out;
+}
+
 std::string events_of(Region &region) {
   text_of(region);
-  std::vector<Event> events = region.events;
+  std::vector<Event> events;
+  for (const Event &event : region.events) events.push_back(event);
   bool has_parts = !region.root->part;  // below a root that is made for them
   auto rank = [&](const Event &event) { return std::pair(event.at, !has_parts || event.task != region.root); };
   std::stable_sort(events.begin(), events.end(), [&](auto &a, auto &b) { return rank(a) < rank(b); });

@@ -6,6 +6,7 @@
 #include <string>
 #include <vector>
 
+#include "events.hpp"
 #include "run.hpp"
 #include "text.hpp"
 
@@ -52,3 +53,4 @@ Region &only_region(Run &run);  // composed and added up
 std::string whole_text(Region &region, const Style &style, const Places &places);
 std::string text_of(Region &region, const Style &style = {});  // without its first line
 std::string events_of(Region &region);  // after its text
+std::string told_times(const Region &region, const Events &events);

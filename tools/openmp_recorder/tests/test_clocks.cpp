@@ -143,7 +143,7 @@ TEST(code_off_the_processor_counts_for_its_region) {
     EXPECT(differing.cost, counts ? 1000 : 0);
     EXPECT(differing.off, counts ? 600 : 0);
     EXPECT(differing.slightly, 0);
-    EXPECT(run.regions.begin()->second->asleep.off, counts ? 0 : 600);
+    EXPECT(run.regions.begin()->second->asleep->off, counts ? 0 : 600);
     const std::vector<Preempted> &preempted = run.regions.begin()->second->preempted;
     EXPECT(preempted.size(), counts ? 1u : 0u);
     if (counts) EXPECT(preempted[0].off, 600);
@@ -153,5 +153,5 @@ TEST(code_off_the_processor_counts_for_its_region) {
 TEST(a_thread_without_code_may_be_off_the_processor) {
   Made made(2);
   made.create(0, 1, 3).barrier(0, 1).barrier(1, 2).after(1000).passed(1, 1000, 400, false).run(1, 2, 3, 5);
-  EXPECT(made.read().regions.begin()->second->differing.off, 0);
+  EXPECT(made.read().regions.begin()->second->differing->off, 0);
 }

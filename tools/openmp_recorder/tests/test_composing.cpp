@@ -82,7 +82,7 @@ unsigned parts_written(bool with_bare_ones, int64_t cost) {
   Run run = Made(3).create(0, 1, 4).barrier(0, 1).barrier(2, 3).after(cost).barrier(1, 2).run(0, 1, 4, 5).read();
   Region &region = *run.regions.begin()->second;
   EXPECT(compose(region, with_bare_ones), true);
-  EXPECT(region.remarks.count(Remark::PartsLeftOut), !with_bare_ones && cost ? 1u : 0u);
+  EXPECT(region.remarks->count(Remark::PartsLeftOut), !with_bare_ones && cost ? 1u : 0u);
   return region.root->part ? 1 : region.root->children;
 }
 
@@ -128,10 +128,10 @@ TEST(a_region_in_a_task_counts_there_but_for_what_its_other_threads_do) {
   EXPECT(in_code(run), 97);
   EXPECT(compose(inner), false);
   remark_nested(inner);
-  EXPECT(outer.remarks.count(Remark::NestedRegion), 1u);
+  EXPECT(outer.remarks->count(Remark::NestedRegion), 1u);
   inner.met.passed = 59;  // as by the processor's clock, where waiting is nothing
   remark_nested(inner);
-  EXPECT(outer.remarks.count(Remark::NestedWaits), 1u);
+  EXPECT(outer.remarks->count(Remark::NestedWaits), 1u);
 }
 
 TEST(a_region_without_tasks_is_none) {

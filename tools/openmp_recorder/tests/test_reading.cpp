@@ -161,7 +161,7 @@ TEST(an_end_that_another_thread_tells_is_of_the_thread_that_ran) {
   EXPECT(text_of(region), "task {\n  work 10\n}\ntask {\n  work 5\n}\n");
   EXPECT(events_of(region), "start 0 0\nfinish 0 0\nstart 0 2\nfinish 0 2\nstart 0 4\nfinish 0 4\n"
                             "start 1 1\nfinish 1 1\nstart 1 3\nfinish 1 3\n");
-  EXPECT(region.remarks.count(Remark::ToldLate), 0u);
+  EXPECT(region.remarks->count(Remark::ToldLate), 0u);
 }
 
 TEST(an_end_without_a_word_is_before_the_thread_runs_another) {
@@ -179,7 +179,7 @@ TEST(an_end_without_a_word_is_before_the_thread_runs_another) {
                 .read();
   Region &region = only_region(run);
   EXPECT(text_of(region), "task {\n  work 9\n}\ntask {\n  work 5\n}\n");
-  EXPECT(region.remarks.count(Remark::ToldLate), 1u);
+  EXPECT(region.remarks->count(Remark::ToldLate), 1u);
 }
 
 TEST(an_untied_task_that_is_left_after_a_taskwait_with_depend_has_waited) {
@@ -207,8 +207,8 @@ TEST(a_task_that_did_not_end_is_remarked_and_open_groups_are_closed) {
                 .read({1003, 1003, false});
   Region &region = only_region(run);
   EXPECT(text_of(region), "task {\n}\ntaskgroup {\n  work 3\n}\n");
-  EXPECT(region.remarks.count(Remark::Unfinished), 1u);
-  EXPECT(region.remarks.count(Remark::LeftInside), 1u);
+  EXPECT(region.remarks->count(Remark::Unfinished), 1u);
+  EXPECT(region.remarks->count(Remark::LeftInside), 1u);
 }
 
 TEST(what_only_a_remark_can_tell) {
@@ -223,7 +223,7 @@ TEST(what_only_a_remark_can_tell) {
                 .read();
   Region &region = only_region(run);
   for (Remark remark : {Remark::MutexInOutSet, Remark::AllMemory, Remark::Target, Remark::Cancel, Remark::Detach})
-    EXPECT(region.remarks.count(remark), 1u);
+    EXPECT(region.remarks->count(remark), 1u);
   EXPECT(text_of(region), "task depend(inoutset: a0) {\n}\n");
 }
 
@@ -271,7 +271,7 @@ TEST(what_ordered_turns_wait_for_is_remarked) {
                 .read();
   Region &region = only_region(run);
   EXPECT(region.remarks[Remark::BetweenTurns].times, 1u);
-  EXPECT(region.remarks.count(Remark::UnknownItem), 0u);
+  EXPECT(region.remarks->count(Remark::UnknownItem), 0u);
 }
 
 TEST(items_beyond_the_limit_are_left_out) {

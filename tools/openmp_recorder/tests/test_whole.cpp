@@ -88,7 +88,7 @@ TEST(pieces_have_their_times_in_a_text_of_any_size_too) {
   tell_program(*made.found.whole, {1, true, true}, Places(), [](std::string_view) {});
   Events many = event_lines(*made.found.whole);
   EXPECT(many.whole, true);
-  EXPECT(timed_lines(*made.found.whole, many), timed_lines(*made.found.whole, few));
+  EXPECT(told_times(*made.found.whole, many), told_times(*made.found.whole, few));
 }
 
 TEST(time_off_the_processor_is_told_by_segment) {
@@ -152,7 +152,7 @@ TEST(a_chunk_of_k_turns_is_k_pieces_of_its_cost) {
   EXPECT(span_of(*made.found.whole), 104 + 5 * us);
   EXPECT(made.found.whole->pieces, 4u);
   EXPECT(made.found.whole->remarks[Remark::EqualTurns].times, 1u);
-  EXPECT(made.found.whole->remarks.count(Remark::TurnsTogether), 0u);
+  EXPECT(made.found.whole->remarks->count(Remark::TurnsTogether), 0u);
 }
 
 TEST(sections_are_told_from_loops) {
@@ -273,7 +273,7 @@ TEST(a_region_in_a_task_stands_where_the_task_met_it) {
   EXPECT_PART(made.text(), "    task {\n      work 2\n      taskgroup {\n        " + part +
                                "          work 5\n        }\n      }\n      work 3\n    }\n");
   EXPECT(made.found.whole->root->total, 110);
-  EXPECT(made.found.whole->remarks.count(Remark::NestedRegion), 0u);
+  EXPECT(made.found.whole->remarks->count(Remark::NestedRegion), 0u);
 }
 
 TEST(a_region_without_a_place_in_another_is_the_programs) {
@@ -307,7 +307,7 @@ TEST(a_program_that_was_killed_outside_of_regions_ran_until_its_last_record) {
   end_region(made.after(4));
   Region &all = *made.whole({0, 0, false, true}).whole;
   text_of(all);  // which gives the segments their numbers
-  EXPECT_PART(timed_lines(all, event_lines(all)), " 104 104\n");
+  EXPECT_PART(told_times(all, event_lines(all)), " 104 104\n");
 }
 
 TEST(tasks_are_those_of_their_region_and_chunks_are_none) {
@@ -358,7 +358,7 @@ TEST(what_does_not_fit_the_commands_has_longer_pieces_where_the_span_stays) {
   Run &run = made.whole();
   EXPECT(run.whole->least_piece > us, true);
   EXPECT(run.whole->pieces <= most_tasks, true);
-  EXPECT(run.whole->remarks.count(Remark::TurnsTogether), 0u);
+  EXPECT(run.whole->remarks->count(Remark::TurnsTogether), 0u);
 }
 
 // Of two threads: the second waits for the first, whose turn has no wait and costs one microsecond more.

@@ -110,7 +110,7 @@ TEST(times_of_segments_are_since_the_region_began) {
   Region &region = only_region(run);
   text_of(region);
   Events events = event_lines(region);
-  EXPECT(timed_lines(region, events), "times 2 0 3999\n0 0 0 1499\n1 1 1499 3999\n2 0 1499 1499\n");
+  EXPECT(told_times(region, events), "times 2 0 3999\n0 0 0 1499\n1 1 1499 3999\n2 0 1499 1499\n");
   EXPECT(events.whole, true);
   EXPECT(events.workers, 2u);
 }
@@ -151,7 +151,7 @@ TEST(the_head_tells_what_other_programs_took) {
   Run run = two_tasks();
   Region &region = only_region(run);
   const Task *root = region.root, *task = &region.tasks.back();
-  region.preempted = {{root, 0, 100}, {task, 0, 300}, {root, 0, 50}, {task, 9, 400}};
+  region.preempted.made() = {{root, 0, 100}, {task, 0, 300}, {root, 0, 50}, {task, 9, 400}};
   EXPECT(head_of(region, {}, Options(), Places()).find("preempted"), std::string::npos);  // no text is written
   text_of(region, {1, false, true});
   EXPECT_PART(head_of(region, {}, Options(), Places()), "# preempted: [[1, 300], [0, 150]]\n");
@@ -163,9 +163,9 @@ TEST(the_head_tells_the_recording) {
   region.place = 2;
   region.locks[7] = {ompt_mutex_critical, nullptr, 3, 400, 90, 300};
   region.divided[Divided::Loops].times = 4;
-  region.differing.add(true, 2000, 49000, nullptr);
-  region.differing.add(true, 1000, 1000, nullptr);
-  region.asleep.add(true, 500, 60000, nullptr);
+  region.differing->add(true, 2000, 49000, nullptr);
+  region.differing->add(true, 1000, 1000, nullptr);
+  region.asleep->add(true, 500, 60000, nullptr);
   region.untimed = 70000;
   region.remarks[Remark::Detach].add(nullptr);
   Options options;
@@ -227,7 +227,7 @@ TEST(locks_that_take_a_hundredth_are_remarked) {
   Region &region = only_region(run);
   region.locks[7] = {ompt_mutex_critical, nullptr, 3, 30, 90};
   remark_locks(region);
-  EXPECT(region.remarks.count(Remark::HeldLock), 0u);
+  EXPECT(region.remarks->count(Remark::HeldLock), 0u);
   region.locks[8] = {ompt_mutex_lock, nullptr, 1, 30, 90};
   remark_locks(region);
   EXPECT(region.remarks[Remark::HeldLock].times, 4u);
@@ -256,11 +256,10 @@ TEST(clocks_are_remarked_where_they_may_move_a_number_by_a_twentieth) {
   auto remarked = [](int64_t work, int64_t span, int64_t off, int64_t slightly) {
     Region region;
     region.work = work, region.span = span;
-    if (off) region.differing.add(true, off, off, nullptr);
-    region.differing.add(false, slightly, slightly, nullptr);
+    if (off) region.differing->add(true, off, off, nullptr);
+    region.differing->add(false, slightly, slightly, nullptr);
     remark_clocks(region);
-    auto remark = region.remarks.find(Remark::Preempted);
-    return remark == region.remarks.end() ? 0 : remark->second.times;
+    return region.remarks->count(Remark::Preempted) ? region.remarks[Remark::Preempted].times : 0;
   };
   EXPECT(remarked(2000000, 2000000, 50000, 50000), 0u);
   EXPECT(remarked(1999999, 1999999, 50000, 50000), 1u);

@@ -43,7 +43,7 @@ class Program : public Made {
   }
   std::string times() {  // of the text, below the line of all of them
     text();
-    std::string words = timed_lines(*found.whole, event_lines(*found.whole));
+    std::string words = told_times(*found.whole, event_lines(*found.whole));
     return words.substr(words.find('\n') + 1);
   }
   Run found;

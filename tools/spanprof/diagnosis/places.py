@@ -3,7 +3,8 @@ from array import array
 from collections import Counter, defaultdict
 from dataclasses import dataclass, field
 from functools import cached_property
-from operator import add
+from itertools import islice
+from operator import add, sub
 from typing import List, Tuple
 
 from spanprof.marks import CREATING
@@ -143,18 +144,21 @@ def set_longest(program):
 def uneven_of(program):
     """Of divided code, and of threads' own, by place: phase by phase, what they had less than that with the most."""
     code, shares, parts = program.code, {}, Counter(program.code.groups)
-    divided = {number: name for number, (kind, name) in enumerate(zip(code.kinds, program.kinds))
-               if kind_of(kind) == SHARE or name.startswith(OWN)}
-    for first, end, group in zip(code.own, [*code.own[1:], len(code)], code.groups):
+    divided = [name if kind_of(kind) == SHARE or name.startswith(OWN) else ""
+               for kind, name in zip(code.kinds, program.kinds)]
+    pieces = zip(map(divided.__getitem__, code.of), program.costs)
+    pieces = islice(pieces, code.own[0] if code.own else 0, None)
+    for length, group in zip(map(sub, [*code.own[1:], len(code)], code.own), code.groups):
         had = {}
-        for number, cost in zip(code.of[first:end], program.costs[first:end]):
-            if number in divided:
-                had[divided[number]] = had.get(divided[number], 0) + cost
+        for name, cost in islice(pieces, length):
+            had[name] = had.get(name, 0) + cost
         for name, cost in had.items():
-            shares.setdefault((name, group), []).append(cost)
+            most, whole = shares.get((name, group), (0, 0))
+            shares[name, group] = max(most, cost), whole + cost
     out = Counter()
-    for (name, group), costs in shares.items():
-        out[name] += parts[group] * max(costs) - sum(costs)
+    for (name, group), (most, whole) in shares.items():
+        out[name] += parts[group] * most - whole
+    del out[""]
     return out
 
 

@@ -109,17 +109,18 @@ def of_marks(marks):
     ends = {word: out.number(ENDS[word]) for word in BLOCKS}
     inside = [out.place(Segment(1, mark.comment, "", "").place()) for mark in marks.known]
     behind = [out.place(Segment(1, "", after_words(mark), mark.comment).place()) for mark in marks.known]
-    place, blocks, add, put = out.place(BEGINNING), [], out.row.append, out.at.append
+    words, place, blocks = [mark.word for mark in marks.known], out.place(BEGINNING), []
+    add, put = out.row.append, out.at.append
     for number in marks.numbers:
         put(place)
         if number > 0:
             add(number)
             continue
-        word = marks.known[-number].word
+        word = words[-number]
         if word == "}":
             number = blocks.pop()
             place = behind[-number]
-            add(ends[marks.known[-number].word])
+            add(ends[words[-number]])
             continue
         if word != "taskwait":
             blocks.append(number)
