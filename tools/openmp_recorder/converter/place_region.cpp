@@ -64,8 +64,7 @@ void put_empty_segment(EventList &events, Task &t, unsigned segment, Moment when
   for (bool start : {true, false}) events.push_back({&t, when.at, segment, when.worker, start});
 }
 
-void time_placed(const std::vector<Part> &parts, Task &owner, unsigned segment, Moment first,
-                 EventList &events) {
+void time_placed(const std::vector<Part> &parts, Task &owner, unsigned segment, Moment first, EventList &events) {
   for (size_t i = 0; i < parts.size(); i++) {
     if (i && parts[i].phase != parts[i - 1].phase) {
       first = begin_of_phase(parts, i, events, first);

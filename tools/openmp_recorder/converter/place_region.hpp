@@ -18,8 +18,7 @@ Moment begin_of_phase(const std::vector<Part> &parts, size_t one, const EventLis
 void put_empty_segment(EventList &events, Task &t, unsigned segment, Moment when);
 // What the owner does between its groups, and between the parts that it makes there, takes no time, from the segment
 // after this one on: at the first moment, and on the thread that is first in a later phase, as that runs nothing then.
-void time_placed(const std::vector<Part> &parts, Task &owner, unsigned segment, Moment first,
-                 EventList &events);
+void time_placed(const std::vector<Part> &parts, Task &owner, unsigned segment, Moment first, EventList &events);
 
 void add_step(Task &t, Step step);  // at its end, and counts it
 void take_over_steps(Task &into, Task &from);  // at its end: what the other one made is made there

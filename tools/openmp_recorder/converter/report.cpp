@@ -152,7 +152,9 @@ void Reporter::write(Region &region, const std::string &name) {
   int64_t work = work_in_units(region, options.unit);
   std::string words = head(region, work);
   Style style{options.unit, size.tasks > most_tasks, region.has_events};
-  if (!(recording.whole ? write_whole(region, name, words, style) : write_text(region, file, words, style, nullptr, nullptr))) return;
+  if (!(recording.whole ? write_whole(region, name, words, style)
+                        : write_text(region, file, words, style, nullptr, nullptr)))
+    return;
   tell_remarks(region, name);
   Line line("text");
   write_times(region, name, words, style, put_size(line, file, size, work));
