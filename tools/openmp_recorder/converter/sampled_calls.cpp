@@ -127,14 +127,15 @@ struct Called {
 Called called_from(const Calls &calls, const Places &places) {
   Called out;
   Names &all = out.names;
-  bool of_recorder = false;
+  bool of_recorder = false, in_program = false;
   for (const void *code : calls) {
     bool is_runtime = places.modules() && places.modules()->in_runtime(code);
     of_recorder |= is_recorder(code, places);
-    if (is_runtime && !all.empty() && (of_recorder || !is_of_system(all.back()))) break;
+    if (is_runtime && !all.empty() && (of_recorder || in_program || !is_of_system(all.back()))) break;
     if (is_runtime && !of_recorder) out = {{the_runtime}};
     if (is_runtime || is_recorder(code, places)) continue;
     Names more = names_of(code, places);
+    in_program |= more.empty();  // what a compiler makes of a construct has no name
     out.allocates |= std::any_of(more.begin(), more.end(), is_allocator);
     add_names(all, more);
   }

@@ -55,7 +55,8 @@ TABLE = (
 )
 BY_KIND = {cause.kind: cause for cause in TABLE}
 # Without these other code may be cheaper too, so that what their losses took is no bound of the gain.
-CHEAPER = ("lock", "memory", "allocation", "system", "sleep")
+CHEAPER = ("small_tasks", "creation", "small_regions", "small_chunks", "lock", "memory", "allocation", "system",
+           "sleep")
 # Short names of them, and of what is lost without a cause.
 NAMES = {"serial": "serial", "too_few_tasks": "too few tasks", "dependence": "dependences", "wait": "waits",
          "imbalance": "uneven tasks", "small_tasks": "small tasks", "creation": "creating tasks",

@@ -5,7 +5,7 @@ from typing import Tuple
 
 from spanprof import client
 from spanprof.diagnosis.calls import innermost
-from spanprof.diagnosis.losses import kind_of_starved, most_shared
+from spanprof.diagnosis.losses import holds_neighbours, kind_of_starved, most_shared
 from spanprof.diagnosis.places import OF_THREADS, SERIAL, SHARE, in_text
 from spanprof.errors import Fault
 from spanprof.progress import Progress, each
@@ -69,7 +69,8 @@ def splits(facts):
 
 
 def readers(facts):
-    """Names that many tasks of a place hold to write, and may only read."""
+    """Names that many tasks of a place hold to write, and may only read, and places of tasks that hold neighbours' so.
+    """
     found = {}
     for place in facts.places.values():
         shared = most_shared(place)
@@ -77,6 +78,8 @@ def readers(facts):
             found[shared[1]] = max(found.get(shared[1], 0), place.items[shared])
     for name in sorted(found, key=lambda name: -found[name])[:MOST]:
         yield single("in-for-inout", name)
+    for place in sorted(filter(holds_neighbours, facts.places.values()), key=lambda place: -place.cost)[:MOST]:
+        yield single("read-only", place.name)
 
 
 def waits(facts, seen):

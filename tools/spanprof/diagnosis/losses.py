@@ -119,7 +119,7 @@ def kind_of_task(facts, place):
     made = facts.places.get("task at " + place.at)
     if not place.tasks and made and 2 * made.undeferred > made.tasks > 0:
         return "undeferred"
-    if is_in_a_row(place) and place.tasks > facts.threads:
+    if (is_in_a_row(place) or holds_neighbours(place)) and place.tasks > facts.threads:
         return "dependence"
     is_uneven = place.tasks >= facts.threads and place.largest > UNEVEN * place.average
     return "imbalance" if is_uneven else "too_few_tasks"
@@ -129,6 +129,11 @@ def is_in_a_row(place):
     """Whether most tasks of a place write the same item, or the same one as the task that was made before them."""
     shared = most_shared(place)
     return shared is not None and 2 * max(place.items[shared], place.again) > place.tasks
+
+
+def holds_neighbours(place):
+    """Whether tasks of a place write what their neighbours have at another position of the clause."""
+    return sum(place.items[item] for item in place.moving) > place.tasks
 
 
 def most_shared(place):

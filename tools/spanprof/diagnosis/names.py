@@ -305,3 +305,8 @@ class Names:
         directive = items_in(self.directive(place.name, place.at))
         written, index = directive.get(kind, [])[::-1 if self.facts.is_of_gcc else 1], place.positions.get(item)
         return "%s: %s" % (written[index] if index is not None and index < len(written) else (kind, UNNAMED))
+
+    def of_neighbours(self, place):
+        """What tasks hold of their neighbours: all that the source has as `inout`."""
+        written = items_in(self.directive(place.name, place.at)).get("inout", [])
+        return [item for spelt, item in written if spelt == "inout"] or [UNNAMED]

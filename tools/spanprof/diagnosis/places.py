@@ -41,6 +41,7 @@ class Place:
     items: Counter = field(default_factory=Counter)     # depend items of these tasks, by type and name
     again: int = 0          # tasks that write the same items as the one made before them
     positions: dict = field(default_factory=dict)       # of an item: its place among those of its type in a task
+    moving: set = field(default_factory=set)    # items to write that tasks have at several positions: of neighbours
 
     def add(self, costs, at, end):
         """More pieces, which begin and end at these constructs."""
@@ -59,7 +60,8 @@ class Place:
         met = Counter()
         for item in task.items:
             self.items[item] += number
-            self.positions.setdefault(item, met[item[0]])
+            if self.positions.setdefault(item, met[item[0]]) != met[item[0]] and item[0] == "inout":
+                self.moving.add(item)
             met[item[0]] += 1
 
     @property

@@ -6,8 +6,9 @@ from spanprof.account_words import lasting
 from spanprof.diagnosis.calls import NO_NAME, OFFSET, ONE_AT_A_TIME, SHARES, innermost, together
 from spanprof.diagnosis.causes import BY_KIND, CHEAPER, NAMES, SECOND
 from spanprof.diagnosis.facts import Region
-from spanprof.diagnosis.losses import (A_TASK, MANY, allocating, average_task, has_many_faults, is_bandwidth, is_maker,
-                                       losses, missing_threads, most_shared, parallel_code, useful_time)
+from spanprof.diagnosis.losses import (A_TASK, MANY, allocating, average_task, has_many_faults, holds_neighbours,
+                                       is_bandwidth, is_in_a_row, is_maker, losses, missing_threads, most_shared,
+                                       parallel_code, useful_time)
 from spanprof.diagnosis.own_code import interpreted_share, is_interpreter, words_of_interpreter
 from spanprof.diagnosis.places import AFTER_REGION, SERIAL, SHARE
 from spanprof.diagnosis.plan import holder
@@ -25,6 +26,7 @@ LEAST_TOLD = 0.005     # of the threads' time, from which on a part of it is tol
 MUCH_STOLEN = 0.02     # of the processors' time, from which on that of the machine's host is told
 TRIED = {
     "in-for-inout": "depend(in: {item}) at {at} if only read, or a copy for each",
+    "read-only": "depend({item}) at {at} if only read",
     "drop-depend": "finer depend items at {at}, or none if no order is needed",
     "drop-wait": "leave out {waits}, if no result is needed yet",
     "defer": "defer more tasks at {at}: change its if or final",
@@ -42,12 +44,20 @@ def several(number, what):
 
 def words_of_place(facts, names, place):
     """Those of a place of code."""
-    shared = most_shared(place)
-    count = max(place.items[shared], place.again) if shared else 0
     return {"tasks": several(place.tasks, "task"), "largest": lasting(place.largest),
-            "average": lasting(int(place.average)), "item": names.item(place, shared) if shared else "",
-            "many": "all" if count == place.tasks else grouped(count),
+            "average": lasting(int(place.average)), **words_of_items(names, place),
             "contended": words_of_memory(facts, names, place)}
+
+
+def words_of_items(names, place):
+    """What the tasks of a place hold to write, and how many of them."""
+    shared = most_shared(place)
+    if holds_neighbours(place) and not is_in_a_row(place):
+        items = names.of_neighbours(place)
+        return {"item": "inout: %s%s" % (items[0], ", .." * (len(items) > 1)), "many": "neighbours"}
+    count = max(place.items[shared], place.again) if shared else 0
+    return {"item": names.item(place, shared) if shared else "",
+            "many": "all" if count == place.tasks else grouped(count)}
 
 
 def words_of_memory(facts, names, place):
@@ -279,6 +289,8 @@ def change_sentence(facts, names, step):
     if kind == "in-for-inout":
         item = names.item(holder(facts, place), ("inout", place))
         found["item"] = item.partition(": ")[2]
+    if kind == "read-only":
+        found["item"] = "in: " + ", ".join(names.of_neighbours(facts.places[step.place]))
     found["waits"] = waits(names, [one.word for one in step.change.requests])
     return TRIED["outside" if kind == "defer" and not facts.tasks_in_regions else kind].format(**found)
 

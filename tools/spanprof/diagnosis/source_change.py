@@ -27,7 +27,7 @@ def read_only(directive, spelt):
 def diff(names, step):
     """Lines to take out and to put in, of the step's first change; nothing where the source does not show it."""
     change = step.change
-    if not change or change.kind not in ("in-for-inout", "drop-wait", "drop-depend"):
+    if not change or change.kind not in ("in-for-inout", "read-only", "drop-wait", "drop-depend"):
         return [], []
     facts = names.facts
     place = facts.places.get(step.place)
@@ -37,6 +37,10 @@ def diff(names, step):
     if change.kind == "drop-depend":
         rest = re.sub(r"\s+", " ", DEPEND.sub("", directive)).strip()
         return ([directive], [rest]) if directive != rest else ([], [])
+    if change.kind == "read-only":
+        was = re.sub(r"\s+", " ", directive)
+        rest = re.sub(r"\bdepend ?\( ?inout\b", "depend(in", was)
+        return ([was], [rest]) if was != rest else ([], [])
     spelt = names.item(place, ("inout", change.place)).partition(": ")[2]
     changed = read_only(directive, spelt)
     return ([re.sub(r"\s+", " ", directive)], [changed]) if changed else ([], [])

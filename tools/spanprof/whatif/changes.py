@@ -98,15 +98,46 @@ class DropName(OfTasks):
         return (one._replace(items=kept), len(one.items) - len(kept)) if len(kept) < len(one.items) else None
 
 
+def read_only(one, names):
+    """A task with `in` for `inout` of these names, and for how many items; None where it has none."""
+    changed = tuple(("in", name) if name in names and kind == "inout" else (kind, name) for kind, name in one.items)
+    times = sum(now != was for now, was in zip(changed, one.items))
+    return (one._replace(items=tuple(dict.fromkeys(changed))), times) if times else None
+
+
 class InForInout(OfTasks):
     """Tasks have `in` for `inout` of a name."""
     what = "%d depend item%s changed to in: of the name %s"
 
     def instead(self, one):
-        changed = tuple(("in", name) if name == self.place and kind == "inout" else (kind, name)
-                        for kind, name in one.items)
-        times = sum(now != was for now, was in zip(changed, one.items))
-        return (one._replace(items=tuple(dict.fromkeys(changed))), times) if times else None
+        return read_only(one, (self.place,))
+
+
+def handed_on(found, place):
+    """The names that a task of a place holds to write right behind another one of it that has them at another position
+    of its list, as tasks do that hold what is their neighbours'."""
+    last, out = {}, set()
+    having = found.of_kind(lambda one: one.kind == "task" and one.items)
+    for number in filter(having.__contains__, found.row):
+        one = found.known[-number]
+        for position, (kind, name) in enumerate(one.items):
+            mine = position if kind == "inout" and one.name == place else None
+            if mine is not None and last.get(name, mine) not in (None, mine):
+                out.add(name)
+            last[name] = mine
+    return out
+
+
+class ReadOnly(OfTasks):
+    """The tasks of a place have `in` for `inout` of what is their neighbours' too."""
+    what = "%d depend item%s changed to in: those of neighbours at %s"
+
+    def made_of(self, found):
+        self.names = handed_on(found, self.place)
+        return super().made_of(found)
+
+    def instead(self, one):
+        return read_only(one, self.names) if one.name == self.place else None
 
 
 class Defer(OfTasks):

@@ -4,7 +4,7 @@ from difflib import get_close_matches
 from typing import NamedTuple
 
 from spanprof.errors import Fault
-from spanprof.whatif.changes import Defer, DropDepend, DropName, DropWait, Factor, InForInout
+from spanprof.whatif.changes import Defer, DropDepend, DropName, DropWait, Factor, InForInout, ReadOnly
 from spanprof.whatif.join import Join
 from spanprof.whatif.shapes import Cutoff, Grain, OwnTask, Split
 
@@ -75,6 +75,8 @@ def change(request, seen, costs):
         return DropName(find(place, seen.items, "depend item"))
     if option == "in-for-inout":
         return InForInout(find(place, seen.items, "depend item"))
+    if option == "read-only":
+        return ReadOnly(find(place, +seen.dependent, "task with depend items"))
     if option == "defer":
         return Defer(find(place, +seen.undeferred, "undeferred task"))
     if option == "split":

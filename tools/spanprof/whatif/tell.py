@@ -5,7 +5,7 @@ from spanprof.claims import speaks_of, why_not_of_more_threads
 from spanprof.head import grouped
 from spanprof.proof import proved
 
-RIGHT = (("drop-wait drop-depend drop-name in-for-inout",
+RIGHT = (("drop-wait drop-depend drop-name in-for-inout read-only",
           "whether the program stays right without it is for you to judge: no text says what its tasks read and write"),
          ("split grain task",
           "whether that code can be divided, or run in parallel to what follows it, is for you to judge"))

@@ -34,6 +34,12 @@ class Candidates(unittest.TestCase):
         one.items.update({("inout", "a0"): 8, ("in", "a1"): 8, ("inout", "a2"): 1})
         self.assertEqual(list(module.readers(facts([one]))), [single("in-for-inout", "a0")])
 
+    def test_items_of_neighbours_that_many_tasks_hold_to_write(self):
+        one = place(TASKS)
+        one.items.update({("inout", "a0"): 2, ("inout", "a1"): 8, ("inout", "a2"): 8})
+        one.moving.update({("inout", "a1"), ("inout", "a2")})
+        self.assertEqual(list(module.readers(facts([one])))[-1], single("read-only", TASKS))
+
     def test_serial_code_of_one_function_is_divided_together(self):
         places = [place(name, SERIAL, tasks=0) for name in ("after a", "after b", "after c")]
         ran = {name: {("main", function, "sin@libm.so.6"): 90000} for name, function in

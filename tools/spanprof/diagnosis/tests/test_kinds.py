@@ -94,6 +94,10 @@ class Kinds(unittest.TestCase):
         self.assertEqual(self.first(starved_at(chain)), "dependence")
         chain.again = 4
         self.assertEqual(self.first(starved_at(chain)), "too_few_tasks")
+        chain.moving.update(list(chain.items))
+        self.assertEqual(self.first(starved_at(chain)), "too_few_tasks")
+        chain.items.update({("inout", "a0"): 1})
+        self.assertEqual(self.first(starved_at(chain)), "dependence")
 
     def test_undeferred(self):
         self.assertEqual(self.first(starved_at(place(TASKS, undeferred=8))), "undeferred")

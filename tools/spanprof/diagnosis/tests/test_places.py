@@ -29,6 +29,11 @@ class Places(unittest.TestCase):
         found = program(text).places
         self.assertEqual([found["task at a.c:%d" % line].again for line in (3, 5)], [2, 0])
 
+    def test_items_of_neighbours_stand_at_several_positions(self):
+        text = "omptasks 1\n" + "".join("task depend(inout: %s) {  # a.c:3\nwork 1\n}\n" % items for items in (
+            "a, b, x", "b, c, y", "c, d, z"))
+        self.assertEqual(program(text).places["task at a.c:3"].moving, {("inout", "b"), ("inout", "c")})
+
     def test_threads_code_has_its_region(self):
         lines = ["omptasks 1\n"]
         for at in ("a.c:3", "a.c:9", "a.c:3"):

@@ -271,6 +271,7 @@ class Sentences(unittest.TestCase):
         for option, word, kind, told in (
                 ("in-for-inout", "a0", "dependence",
                  "depend(in: tab[f(0, 1)]) at image.c:9 if only read, or a copy for each"),
+                ("read-only", TASKS, "dependence", "depend(in: tab[f(0, 1)]) at image.c:9 if only read"),
                 ("drop-depend", TASKS, "dependence",
                  "finer depend items at image.c:9, or none if no order is needed"),
                 ("drop-wait", "taskwait at image.c:12", "wait",

@@ -1,7 +1,12 @@
 import unittest
 
-from spanprof.whatif.changes import DropDepend, DropName, DropWait, Factor
+from spanprof.whatif.changes import DropDepend, DropName, DropWait, Factor, ReadOnly
 from spanprof.whatif.tests.made_up import ROW, SORT, changed
+
+# Tasks hold their neighbours' items to write; others write these next.
+NEIGHBOURS = "omptasks 1\n" + "".join("task depend(%s) {  # a.c:%d\nwork 1\n}\n" % pair for pair in (
+    ("inout: a, b, x", 3), ("inout: b, c, y", 3), ("in: x) depend(inout: a", 7), ("in: y) depend(inout: b", 7),
+    ("inout: a, b, x", 3)))
 
 
 class OneThing(unittest.TestCase):
@@ -37,6 +42,13 @@ class OneThing(unittest.TestCase):
         self.assertEqual(changed(ROW, drop), "task { work 5 } work 2 task depend(inout: b) { work 6 } work 1 "
                                              "task depend(in: b) { work 7 } taskwait")
         self.assertEqual(drop.words(), "2 depend items dropped: of the name a")
+
+    def test_what_is_the_neighbours_too_is_only_read(self):
+        read = ReadOnly("task at a.c:3")
+        self.assertEqual(changed(NEIGHBOURS, read), " ".join("task depend(%s) { work 1 }" % items for items in (
+            "inout: a) depend(in: b) depend(inout: x", "in: b) depend(inout: c, y", "in: x) depend(inout: a",
+            "in: y) depend(inout: b", "inout: a) depend(in: b) depend(inout: x")))
+        self.assertEqual(read.words(), "3 depend items changed to in: those of neighbours at task at a.c:3")
 
     def test_changes_one_after_the_other_go_by_the_places_of_the_text(self):
         after = changed(SORT, DropWait("taskwait at sort.c:10"), Factor("after taskwait at sort.c:10", 2))
