@@ -2,6 +2,7 @@
 
 Threads x elapsed time = code as on one thread + the losses.
 """
+from collections import Counter
 from typing import NamedTuple
 
 from spanprof.diagnosis.calls import A_SAMPLE, RUNTIME, in_system, shares
@@ -10,6 +11,7 @@ from spanprof.diagnosis.own_code import of_interpreter, serial_places
 from spanprof.diagnosis.places import A_START, ALLOCATION, AROUND_REGIONS, OF_THREADS, OWN, SERIAL, SHARE
 from spanprof.text import BEGINNING, TURNS, where
 
+MAPPING = ("mmap", "munmap", "mremap", "madvise", "brk", "sbrk")
 SMALL = 5000            # nanoseconds of code in a task, below which creating and starting it costs much beside it
 A_TASK = 10000          # nanoseconds that each thread loses at most by making, waking for and starting one task
 A_TAKING = 1000         # nanoseconds that taking a chunk of a loop may cost
@@ -357,6 +359,15 @@ def first_use_share(usage):
 def has_many_faults(facts):
     """Whether page faults are most of what is lost to the system."""
     return 2 * fault_time(facts) >= system_time(facts)
+
+
+def maps_memory(facts):
+    """Whether the functions of the system in which most samples were map memory, or give it back."""
+    found = Counter()
+    for ran in facts.calls.ran.values():
+        for calls, time in ran.items():
+            found[in_system(calls) in MAPPING] += time * bool(in_system(calls))
+    return found[True] > found[False]
 
 
 def begun(facts):

@@ -7,8 +7,8 @@ from spanprof.diagnosis.calls import NO_NAME, OFFSET, ONE_AT_A_TIME, SHARES, inn
 from spanprof.diagnosis.causes import BY_KIND, CHEAPER, NAMES, SECOND
 from spanprof.diagnosis.facts import Region
 from spanprof.diagnosis.losses import (A_TASK, MANY, allocating, average_task, has_many_faults, holds_neighbours,
-                                       is_bandwidth, is_in_a_row, is_maker, losses, missing_threads, most_shared,
-                                       parallel_code, useful_time)
+                                       is_bandwidth, is_in_a_row, is_maker, losses, maps_memory, missing_threads,
+                                       most_shared, parallel_code, useful_time)
 from spanprof.diagnosis.own_code import interpreted_share, is_interpreter, words_of_interpreter
 from spanprof.diagnosis.places import AFTER_REGION, SERIAL, SHARE
 from spanprof.diagnosis.plan import holder
@@ -96,9 +96,9 @@ def words_of_division(facts, name, place):
 
 def words_of_kernel(facts, usage):
     """Page faults only where they are most of it."""
-    if has_many_faults(facts):
-        return {"kernel": "%s page faults" % grouped(usage.get("minor_faults") or 0),
-                "less_kernel": "reuse memory: no large malloc, mmap or free in each task"}
+    if has_many_faults(facts) or maps_memory(facts):
+        return {"kernel": "%s page faults" % grouped(usage.get("minor_faults") or 0) if has_many_faults(facts) else
+                "mapping memory", "less_kernel": "reuse memory: no large malloc, mmap or free in each task"}
     return {"kernel": "system calls", "less_kernel": "fewer system calls, each for more: larger buffers"}
 
 

@@ -128,6 +128,9 @@ class Sentences(unittest.TestCase):
                              (600, "85 % of the processor time is the kernel's: system calls" + at)):
             run = found(usage={"user_ns": 60 * MS, "system_ns": 340 * MS, "minor_faults": faults})
             self.assertEqual(lost_sentence(run, Names(run, SOURCES), Loss("system", TASKS, 1)), told)
+        run.calls = Sampled({TASKS: {("main", "tone", "munmap@libc.so.6"): 9000, ("main", "read@libc.so.6"): 5000}}, {})
+        self.assertEqual(lost_sentence(run, Names(run, SOURCES), Loss("system", TASKS, 1)),
+                         "85 % of the processor time is the kernel's: mapping memory" + at)
 
     def test_nothing_is_to_be_done_about_an_efficient_program(self):
         run = found()
