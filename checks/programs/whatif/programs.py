@@ -19,6 +19,7 @@ PROGRAMS = (
     small("split", "split", "task at split.c=4"),
     small("wait", "drop-wait", "taskwait at wait.c"),
     small("depend", "drop-depend", "task at depend.c"),
+    small("neighbours", "read-only", "task at neighbours.c:16"),
     small("factor", "factor", "task at factor.c:17=0.5"),
     small("join", "join", "task at join.c=8"),
     small("own_task", "task", "after taskwait at own_task.c:16"),
