@@ -5,8 +5,8 @@ use Rattle.large_command.proofs.Told.{answers_length, answers_whole}
 use Rattle.large_command.specs.LargeReports.{Answers}
 use Rattle.large_command.proofs.engine.answer_whole.Goals as goal
 
-pub returns-in-Ok-clause-report : goal.returns-in-Ok-clause-report
-returns-in-Ok-clause-report g c =
+pub returns-in_ok-answer_document-in-Ok-clause-report : goal.returns-in_ok-answer_document-in-Ok-clause-report
+returns-in_ok-answer_document-in-Ok-clause-report g c =
     let report = c.in_ok-answer_document-in-Ok.field-0 in
     answers_whole c.args.asked _ _ c.in-Ok.document.items _ c.in-Ok.ensures.reads
     (subst (λ (bytes : List ℕ). Answers (OfDocument c.args.asked) bytes report)
