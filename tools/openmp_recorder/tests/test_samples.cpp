@@ -173,7 +173,7 @@ TEST(what_the_runtime_does_for_the_program_is_one_function) {
 }
 
 TEST(code_without_a_name_calls_the_system_and_not_the_runtime) {
-  EXPECT(calls_in_modules({code(400), code(102), code(200), code(100)}), "libc.so.6@libc.so.6");
+  EXPECT(calls_in_modules({code(400), code(50), code(200), code(100)}), "libc.so.6@libc.so.6");
 }
 
 TEST(code_of_the_recorder_is_none_of_the_program) {
