@@ -4,7 +4,7 @@ from collections import Counter
 
 from spanprof.account_words import lasting
 from spanprof.diagnosis.calls import NO_NAME, OFFSET, ONE_AT_A_TIME, SHARES, innermost, together
-from spanprof.diagnosis.causes import BY_KIND, CHEAPER, NAMES, SECOND
+from spanprof.diagnosis.causes import BY_KIND, CHEAPER, ESTIMATED, NAMES, SECOND
 from spanprof.diagnosis.facts import Region
 from spanprof.diagnosis.losses import (A_TASK, MANY, allocating, average_task, has_many_faults, holds_neighbours,
                                        is_bandwidth, is_in_a_row, is_maker, losses, maps_memory, missing_threads,
@@ -299,14 +299,21 @@ def shortened(text, width):
     return text if len(text) <= width else text[:width - 3].rstrip() + "..."
 
 
+def bound_word(kind):
+    """What a time without losses of a kind is."""
+    return "about" if kind in ESTIMATED else "or less" if kind in CHEAPER else "at best"
+
+
 def after_words(step):
     """What the run takes after a step."""
-    return ("%s" if step.change else "at best %s" if step.at_best else "%s or less") % lasting(step.after)
+    bound = {"about": "about %s", "or less": "%s or less", "at best": "at best %s"}[bound_word(step.kind)]
+    return ("%s" if step.change else bound) % lasting(step.after)
 
 
-def or_less(found):
-    """Behind the time at best, where what is lost may cost more than its own time."""
-    return " or less" if any(loss.kind in CHEAPER for loss in found.causes) else ""
+def best_words(found):
+    """The time at best, where what is lost may cost more than its own time, or less."""
+    bounds = {bound_word(loss.kind) for loss in found.causes}
+    return ("about %s" if "about" in bounds else "%s or less" if "or less" in bounds else "%s") % lasting(found.best)
 
 
 def gain_words(step):
@@ -338,8 +345,8 @@ def words_of_threads(facts):
 
 def first_line(found):
     facts = found.facts
-    return "%s: %s on %s%s. At best %s%s." % (facts.program or "program", lasting(found.now), words_of_threads(facts),
-                                              speed_words(facts), lasting(found.best), or_less(found))
+    return "%s: %s on %s%s. At best %s." % (facts.program or "program", lasting(found.now), words_of_threads(facts),
+                                            speed_words(facts), best_words(found))
 
 
 def lost_lines(found, names):

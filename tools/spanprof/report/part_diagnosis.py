@@ -1,7 +1,7 @@
 """The first screen: a sentence, three times, where the threads' time went, the change as a diff, the plan, how sure."""
 from spanprof.account_words import lasting
-from spanprof.diagnosis.sentences import (after_words, change_sentence, loss_name, lost_sentence, or_less, several,
-                                          speed_words, sure_words, unsure, words_of_threads)
+from spanprof.diagnosis.sentences import (after_words, best_words, bound_word, change_sentence, loss_name,
+                                          lost_sentence, several, speed_words, sure_words, unsure, words_of_threads)
 from spanprof.diagnosis.source_change import diff
 from spanprof.report.figures import PROVED, badge
 from spanprof.report.markup import join, tag
@@ -25,15 +25,15 @@ def lost_words(told):
 
 
 def one_time(time, words):
-    return tag("div", tag("b", lasting(time)), tag("span", words), class_="time")
+    return tag("div", tag("b", time), tag("span", words), class_="time")
 
 
 def times(found):
     now = "now, on " + words_of_threads(found.facts)
-    first = [one_time(step.after, "after the first change, %s" % (
-        "predicted" if step.change else "at best" if step.at_best else "or less")) for step in found.plan[:1]]
-    return tag("div", one_time(found.now, now), *first,
-               one_time(found.best, "at best%s: all threads busy all the time" % or_less(found)), class_="times")
+    first = [one_time(lasting(step.after), "after the first change, %s" % (
+        "predicted" if step.change else bound_word(step.kind).replace("about", "estimated"))) for step in found.plan[:1]]
+    return tag("div", one_time(lasting(found.now), now), *first,
+               one_time(best_words(found), "at best: all threads busy all the time"), class_="times")
 
 
 def parts(told):

@@ -184,10 +184,10 @@ class Sentences(unittest.TestCase):
         ran = {("main", "tone"): 10 * 4000}
         run.calls = Sampled({TASKS: ran}, {}, {TASKS: Counter({"image.c:11": 24000, "image.c:12": 8000})})
         lines = short_lines(diagnose(run), Names(run, SOURCES))
-        self.assertEqual(lines[0], "image: 100 ms on 4 threads. At best 40.0 ms or less.")
+        self.assertEqual(lines[0], "image: 100 ms on 4 threads. At best about 40.0 ms.")
         self.assertEqual(lines[1:3], [
             "lost  60 %  threads write the same cache lines at once: image.c:11 and image.c:12",
-            "do    a local copy of what image.c:11 writes, written back once            100 ms -> 40.0 ms or less"])
+            "do    a local copy of what image.c:11 writes, written back once              100 ms -> about 40.0 ms"])
         self.assertIn("not known: what it costs on one thread: --full", lines[4])
 
     def test_code_that_streams_and_shares_no_lines_lacks_bandwidth(self):
