@@ -28,10 +28,13 @@ def one_time(time, words):
     return tag("div", tag("b", time), tag("span", words), class_="time")
 
 
+def how_known(step):
+    return "predicted" if step.change else bound_word(step.kind).replace("about", "estimated")
+
+
 def times(found):
     now = "now, on " + words_of_threads(found.facts)
-    first = [one_time(lasting(step.after), "after the first change, %s" % (
-        "predicted" if step.change else bound_word(step.kind).replace("about", "estimated"))) for step in found.plan[:1]]
+    first = [one_time(lasting(step.after), "after the first change, " + how_known(step)) for step in found.plan[:1]]
     return tag("div", one_time(lasting(found.now), now), *first,
                one_time(best_words(found), "at best: all threads busy all the time"), class_="times")
 
