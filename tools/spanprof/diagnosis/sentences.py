@@ -53,8 +53,7 @@ def words_of_items(names, place):
     """What the tasks of a place hold to write, and how many of them."""
     shared = most_shared(place)
     if holds_neighbours(place) and not is_in_a_row(place):
-        items = names.of_neighbours(place)
-        return {"item": "inout: %s%s" % (items[0], ", .." * (len(items) > 1)), "many": "neighbours"}
+        return {"item": "inout: " + names.of_neighbours(place)[0], "many": "neighbours"}
     count = max(place.items[shared], place.again) if shared else 0
     return {"item": names.item(place, shared) if shared else "",
             "many": "all" if count == place.tasks else grouped(count)}
