@@ -260,7 +260,7 @@ expect "its text elsewhere" 0 spanprof-convert --out elsewhere full.spanprof
 [ -e elsewhere.spanprof/program.tasks ] || fail "its text elsewhere"
 echo "recordings of any size"
 
-if command -v mpicc > /dev/null && command -v mpirun > /dev/null; then
+if command -v mpirun > /dev/null && echo "#include <mpi.h>" | mpicc -fsyntax-only -x c - 2> /dev/null; then
     export OMPI_ALLOW_RUN_AS_ROOT=1 OMPI_ALLOW_RUN_AS_ROOT_CONFIRM=1
     mpicc -g -O1 -fopenmp "$top/checks/recorders/record/ranks.c" -o ranks
     expect "a launcher" 0 spanprof-record --all --unit us -- mpirun --oversubscribe -n 3 ./ranks
