@@ -15,12 +15,13 @@ class Made(NamedTuple):
 
 
 GRAIN = "grain"
+LATER = ("neighbours",)     # not in the measurements that are kept
 # As these programs are compiled here, its code has another place.
 OTHER_PLACES = {"own_task": (("task", "after taskwait at own_task.c"),)}
 
 
 MADE = (
-    *(Made(one.name, OTHER_PLACES.get(one.name, one.changes)) for one in PROGRAMS),
+    *(Made(one.name, OTHER_PLACES.get(one.name, one.changes)) for one in PROGRAMS if one.name not in LATER),
     *(Made(one.name, one.changes) for one in TUTORIAL),
     Made("fib", (("cutoff", "6"),)),
     Made("fine_tree", (("join", "task at fine_tree.c=2"),)),
