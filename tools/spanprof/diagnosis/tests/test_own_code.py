@@ -36,7 +36,7 @@ class OwnCode(unittest.TestCase):
         for file in ("python3.11", "R", "octave-cli", "octave-cli-7.3.0", "perl", "ruby3.1", "guile-3.0", "libR.so",
                      "liboctave.so.10", "libpython3.11.so.1.0", "libruby-3.1.so.3.1"):
             self.assertTrue(INTERPRETER.match(file), file)
-        for file in ("perlbench", "R2", "Rust", "octave-test", "libRmath.so.1", "libm.so.6", "pythia"):
+        for file in ("perlbench", "Rx", "Rust", "octave-test", "libRmath.so.1", "libm.so.6", "pythia"):
             self.assertFalse(INTERPRETER.match(file), file)
 
     def test_what_an_interpreter_called_is_not_its_code(self):
