@@ -307,6 +307,8 @@ class Names:
         return "%s: %s" % (written[index] if index is not None and index < len(written) else (kind, UNNAMED))
 
     def of_neighbours(self, place):
-        """What tasks hold of their neighbours: all that the source has as `inout`."""
+        """What tasks hold of their neighbours to write, as the source spells it."""
         written = items_in(self.directive(place.name, place.at)).get("inout", [])
-        return [item for spelt, item in written if spelt == "inout"] or [UNNAMED]
+        last = len(written) - 1
+        at = sorted(last - one if self.facts.is_of_gcc else one for one in place.moving_at)
+        return [written[one][1] for one in at if 0 <= one <= last] or [UNNAMED]

@@ -42,6 +42,7 @@ class Place:
     again: int = 0          # tasks that write the same items as the one made before them
     positions: dict = field(default_factory=dict)       # of an item: its place among those of its type in a task
     moving: set = field(default_factory=set)    # items to write that tasks have at several positions: of neighbours
+    moving_at: set = field(default_factory=set)     # these positions
 
     def add(self, costs, at, end):
         """More pieces, which begin and end at these constructs."""
@@ -60,8 +61,10 @@ class Place:
         met = Counter()
         for item in task.items:
             self.items[item] += number
-            if self.positions.setdefault(item, met[item[0]]) != met[item[0]] and item[0] == "inout":
+            first = self.positions.setdefault(item, met[item[0]])
+            if first != met[item[0]] and item[0] == "inout":
                 self.moving.add(item)
+                self.moving_at.update((first, met[item[0]]))
             met[item[0]] += 1
 
     @property

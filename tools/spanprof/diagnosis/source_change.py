@@ -38,9 +38,12 @@ def diff(names, step):
         rest = re.sub(r"\s+", " ", DEPEND.sub("", directive)).strip()
         return ([directive], [rest]) if directive != rest else ([], [])
     if change.kind == "read-only":
-        was = re.sub(r"\s+", " ", directive)
-        rest = re.sub(r"\bdepend ?\( ?inout\b", "depend(in", was)
-        return ([was], [rest]) if was != rest else ([], [])
+        items, rest = names.of_neighbours(place), directive
+        for item in items:
+            rest, is_there = without_item(rest, item)
+            if not is_there:
+                return [], []
+        return [re.sub(r"\s+", " ", directive)], ["%s depend(in: %s)" % (rest, ", ".join(items))]
     spelt = names.item(place, ("inout", change.place)).partition(": ")[2]
     changed = read_only(directive, spelt)
     return ([re.sub(r"\s+", " ", directive)], [changed]) if changed else ([], [])

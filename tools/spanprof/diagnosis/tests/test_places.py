@@ -32,7 +32,8 @@ class Places(unittest.TestCase):
     def test_items_of_neighbours_stand_at_several_positions(self):
         text = "omptasks 1\n" + "".join("task depend(inout: %s) {  # a.c:3\nwork 1\n}\n" % items for items in (
             "a, b, x", "b, c, y", "c, d, z"))
-        self.assertEqual(program(text).places["task at a.c:3"].moving, {("inout", "b"), ("inout", "c")})
+        found = program(text).places["task at a.c:3"]
+        self.assertEqual((found.moving, found.moving_at), ({("inout", "b"), ("inout", "c")}, {0, 1}))
 
     def test_threads_code_has_its_region(self):
         lines = ["omptasks 1\n"]

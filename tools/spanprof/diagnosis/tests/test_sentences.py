@@ -271,6 +271,7 @@ class Sentences(unittest.TestCase):
 
     def test_each_change_that_is_tried_has_a_sentence(self):
         run = found()
+        run.places[TASKS].moving_at.add(0)
         for option, word, kind, told in (
                 ("in-for-inout", "a0", "dependence",
                  "depend(in: tab[f(0, 1)]) at image.c:9 if only read, or a copy for each"),

@@ -26,10 +26,11 @@ class Diffs(unittest.TestCase):
             ["#pragma omp task depend(in: b[0]) depend(out: d[0]) depend(in: tab[f(0, 1)])"]))
 
     def test_what_is_the_neighbours_too(self):
+        self.names.facts.places[TASKS].moving_at.add(0)
         was, now = diff(self.names, step("read-only", TASKS, TASKS))
         self.assertEqual((was, now), (
             ["#pragma omp task depend(in: b[0]) depend(inout: tab[f(0, 1)]) depend(out: d[0])"],
-            ["#pragma omp task depend(in: b[0]) depend(in: tab[f(0, 1)]) depend(out: d[0])"]))
+            ["#pragma omp task depend(in: b[0]) depend(out: d[0]) depend(in: tab[f(0, 1)])"]))
 
     def test_a_wait_and_all_items(self):
         self.assertEqual(diff(self.names, step("drop-wait", WAIT, WAIT)), (["#pragma omp taskwait"], []))
