@@ -57,14 +57,16 @@ def loaded_first(chosen, library):
     return ":".join(filter(None, [library if chosen.in_front else "", chosen.preload]))
 
 
-def why_nothing(status, said, out):
+def why_nothing(status, said, session):
     """The reason for which there is no text."""
+    news = said.news(session.out)
     if status < 0:
-        ended = "the program ended by %s" % signal_name(status)
-        return "; ".join([ended] + said.news(out))
+        return "; ".join(["the program ended by %s" % signal_name(status)] + news)
     if said.loaded:
-        return "; ".join(said.news(out)) or "the recorder reported no reason"
-    return "no OpenMP runtime loaded the recorder: did the program meet a construct of OpenMP?"
+        return "; ".join(news) or "the recorder reported no reason"
+    if session.has_runtime:
+        return "the program met no construct of OpenMP"
+    return "the program has no OpenMP runtime (libgomp, libomp), and loaded none: was it compiled with -fopenmp?"
 
 
 class Session:
@@ -88,6 +90,7 @@ class Session:
             raise Fault("--runs does not support a launcher; use: mpirun -n 4 spanprof-record --runs 5 -- PROGRAM")
         target = launched(options.command) if launches else self.path
         linked = linkage(target)
+        self.has_runtime = bool(linked.libraries or linked.inside)
         chosen = choose(target, linked, options.runtime)
         self.preload = chosen.preload
         self.library = os.path.realpath(recorder_library(tell))
@@ -168,7 +171,7 @@ class Session:
 
     def tell_nothing(self, status, said):
         what = "the run is recorded, and its text is not made" if has_failed(said.things) else "nothing is recorded"
-        say("%s: %s" % (what, why_nothing(status, said, self.out)))
+        say("%s: %s" % (what, why_nothing(status, said, self)))
 
     def record_once(self, more=None):
         """The program's end, the recordings, and what was said. `more` adds to the folder of the program's own, and
