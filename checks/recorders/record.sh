@@ -298,7 +298,7 @@ words='nothing is recorded: the program met no construct of OpenMP'
 expect_error 125 "$words" spanprof-record --out never -- ./llvm never
 expect_error 125 '--out no/x: there is no folder no' spanprof-record --out no/x -- ./llvm
 expect_error 125 '--runtime none: no such file' spanprof-record --runtime none -- ./llvm
-expect "wrong words" 125 spanprof-record --all --unit hours -- ./llvm
+expect "wrong words" 2 spanprof-record --all --unit hours -- ./llvm
 expect_word "wrong words" 'a unit is ns, us, ms, or nanoseconds up to 1000000000'
 SPANPROF=/none expect "no spanprof" 125 spanprof-record --all -- ./llvm
 expect_word "no spanprof" '/none: No such file or directory'

@@ -10,7 +10,7 @@ from typing import Dict, List, Optional
 from spanprof import client
 from spanprof.account import account_of
 from spanprof.account_program import NoAccount
-from spanprof.diagnosis.calls import Sampled, calls_of, is_before_main, is_of_ranks, plain
+from spanprof.diagnosis.calls import Sampled, calls_of, is_of_ranks, is_start, plain
 from spanprof.diagnosis.library_locks import set_library_locks
 from spanprof.diagnosis.lock_times import locks_of
 from spanprof.diagnosis.own_code import interpreter_of
@@ -244,10 +244,10 @@ def set_ranks(facts):
 
 
 def set_starting(facts):
-    """What runs before the program's first function is no code of its own that samples saw."""
-    ran = facts.calls.ran.get(BEGINNING, {})
-    for calls in filter(is_before_main, list(ran)):
-        del ran[calls]
+    """The start of a program is no code of its own that samples saw."""
+    for found in (facts.calls.ran.get(BEGINNING, {}), facts.calls.slept.get(BEGINNING, {})):
+        for calls in filter(is_start, list(found)):
+            del found[calls]
 
 
 def set_allocating(facts):

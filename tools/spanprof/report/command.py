@@ -68,10 +68,12 @@ def check_words(parser, chosen):
     """Ends the process where they exclude each other; the page has a name then, where it is asked for."""
     if chosen.fail_above is not None and not chosen.after:
         parser.error("--fail-above compares two recordings: name a second one")
-    if chosen.after:
-        return
-    if not (outputs(chosen) or chosen.json):
+    if chosen.after and (chosen.other or outputs(chosen)):
+        parser.error("two recordings are compared in lines, or by --json; --with OTHER.spanprof shows both on a page")
+    if not (chosen.after or outputs(chosen) or chosen.json):
         chosen.output = beside(chosen.program)
+    if chosen.other and not chosen.output:
+        parser.error("--with is for a page, which -o names; a second recording without --with is compared")
     paths = [os.path.realpath(path) for path, _ in outputs(chosen)]
     if len(set(paths)) < len(paths):
         parser.error("-o, --trace, --folded and --pprof are for different files")

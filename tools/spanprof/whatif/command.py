@@ -1,6 +1,8 @@
 """spanprof-whatif: a recorded text with another shape or other costs, and what spanprof tells of it."""
 import argparse
 import os
+import shutil
+import sys
 import tempfile
 
 from spanprof import client
@@ -56,7 +58,8 @@ def parse(words):
     add("--least", type=count(0, 10 ** 12), metavar="COST",
         help="neither split code that costs less nor make it a task (default: where a part would cost less than its "
         "creation)")
-    add("-o", "--output", metavar="CHANGED.tasks", help="write the changed text to this file")
+    add("-o", "--output", metavar="CHANGED.tasks", help="write the changed text to this file; - is standard output, and the numbers go "
+        "to standard error then")
     add("--places", action="store_true", help="list the places and depend items that can be changed")
     add("--json", action="store_true", help="print JSON")
     add("--version", action=Version)
@@ -92,7 +95,8 @@ def compare(chosen, text, before, path):
     times, predicted = changed_told(chosen.text, lambda before: changed(before, asked()), threads[0]) \
         if text.head.is_measured else ([], None)
     print(as_json(told, before, after, predicted) if chosen.json else
-          "\n".join([*told, *lines(before, after, text.head.unit), *times]))
+          "\n".join([*told, *lines(before, after, text.head.unit), *times]),
+          file=sys.stderr if chosen.output == "-" else sys.stdout)
 
 
 def answer(chosen):
@@ -105,7 +109,11 @@ def answer(chosen):
     if chosen.requests:
         with tempfile.TemporaryDirectory(prefix="spanprof-whatif-") as folder:
             before = numbers_of(TextFile(chosen.text), [min(chosen.threads or text.head.threads or 4, 1024)])
-            compare(chosen, text, before, chosen.output or os.path.join(folder, "changed.tasks"))
+            path = os.path.join(folder, "changed.tasks")
+            compare(chosen, text, before, path if chosen.output in (None, "-") else chosen.output)
+            if chosen.output == "-":
+                with open(path, encoding="utf-8") as file:
+                    shutil.copyfileobj(file, sys.stdout)
 
 
 def main(words):

@@ -71,6 +71,8 @@ class Command(unittest.TestCase):
         mesh = worked.path("mesh.tasks")
         self.assertIn("'0' is not a whole number from 1 to 1024", self.refused(mesh, "-o", "x", "--threads", "0"))
         self.assertIn("are for different files", self.refused(mesh, "-o", "x", "--trace", "./x"))
+        self.assertIn("--with is for a page", self.refused(mesh, "--with", mesh, "--json"))
+        self.assertIn("compared in lines, or by --json", self.refused(mesh, mesh, "-o", "x"))
         self.assertIn("unrecognized arguments: --js", self.refused(mesh, "--js"))
         self.assertEqual(self.refused(""), "spanprof-report: '': no such file\n")
         self.assertEqual(self.refused("no.tasks", "-o", "x"), "spanprof-report: no.tasks: no such file\n")
