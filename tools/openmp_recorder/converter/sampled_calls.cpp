@@ -15,6 +15,7 @@ using Names = std::vector<std::string>;  // innermost first
 constexpr const char *of_system = "@";  // before its library
 constexpr const char *headers = "@headers";  // in place of a library's name: the code stands in the program
 constexpr const char *the_runtime = "runtime@OpenMP";  // whatever it does for the program, or calls the system for
+constexpr const char *unnamed = "unnamed";  // what compilers make of a construct, and code of no file
 
 bool begins_with_one(const std::string &name, const std::vector<const char *> &starts) {
   return std::any_of(starts.begin(), starts.end(), [&](auto *start) { return !name.rfind(start, 0); });
@@ -131,14 +132,15 @@ Called called_from(const Calls &calls, const Places &places) {
   for (const void *code : calls) {
     bool is_runtime = places.modules() && places.modules()->in_runtime(code);
     of_recorder |= is_recorder(code, places);
-    if (is_runtime && !all.empty() && (of_recorder || in_program || !is_of_system(all.back()))) break;
+    if (is_runtime && (in_program || (!all.empty() && (of_recorder || !is_of_system(all.back()))))) break;
     if (is_runtime && !of_recorder) out = {{the_runtime}};
     if (is_runtime || is_recorder(code, places)) continue;
     Names more = names_of(code, places);
-    in_program |= more.empty();  // what a compiler makes of a construct has no name
+    in_program |= more.empty();
     out.allocates |= std::any_of(more.begin(), more.end(), is_allocator);
     add_names(all, more);
   }
+  if (in_program && all.empty()) all.push_back(unnamed);
   return out;
 }
 
@@ -150,10 +152,12 @@ struct Named {
 };
 
 Frame own_of(const Calls &calls, const Places &places) {
-  for (const void *code : calls)
-    if (const auto &frames = places.frames(code); library_of_system(code, places).empty() && !frames.empty() &&
-                                                  !frames[0].of_library && !is_allocator(frames[0].function))
+  for (const void *code : calls) {
+    const auto &frames = places.frames(code).empty() ? places.nameless(code) : places.frames(code);
+    if (library_of_system(code, places).empty() && !frames.empty() && !frames[0].of_library &&
+        !is_allocator(frames[0].function))
       return frames[0];
+  }
   return {};
 }
 
@@ -176,7 +180,7 @@ std::vector<const void *> all_contended(const Stacks &stacks, Places &places) {
   places.look_up({codes.begin(), codes.end()});
   auto has_line = [&](const void *code) {
     const std::vector<Frame> &frames = places.frames(code);
-    return !frames.empty() && frames[0].at == places.at(code);
+    return !places.nameless(code).empty() || (!frames.empty() && frames[0].at == places.at(code));
   };
   for (size_t i = 0; i < found.size(); i++)
     if (found[i] && !has_line(found[i])) found[i] = reinterpret_cast<const void *>(stacks.interrupted[i].code + 1);

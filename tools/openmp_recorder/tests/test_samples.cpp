@@ -174,6 +174,22 @@ TEST(what_the_runtime_does_for_the_program_is_one_function) {
 
 TEST(code_without_a_name_calls_the_system_and_not_the_runtime) {
   EXPECT(calls_in_modules({code(400), code(50), code(200), code(100)}), "libc.so.6@libc.so.6");
+  EXPECT(calls_in_modules({code(50), code(200), code(100)}), "unnamed");
+}
+
+TEST(code_without_a_name_has_a_line) {
+  Program made;
+  made.sample(0, 0, 4000).after(9);
+  end_region(made);
+  made.times();
+  Stacks stacks;
+  stacks.number({code(50), code(200)});
+  ModulesOfRun modules;
+  read_modules(modules);
+  Places places(&modules);
+  places.put_calls(code(50), {{"", "a.c:7"}});
+  EXPECT(sampled_lines(*made.found.whole, made.found.whole->off, stacks, places),
+         "1 ran 4000 unnamed\n1 at 4000 a.c:7\n");
 }
 
 TEST(code_of_the_recorder_is_none_of_the_program) {

@@ -50,6 +50,8 @@ TABLE = (
     Cause("too_few_threads", 0.1, "{got} in the region at {where}{others}: {usable} can run",
           "ask for {usable} threads at {where}{who_asked}"),
     Cause("too_many_threads", 0.1, "{threads} threads on {processors} processors, {in_region}", "{fewer}"),
+    Cause("affinity", 0.1, "threads share processors while others are idle, {in_region}",
+          "let threads run on all processors: OMP_PROC_BIND, OMP_PLACES, pinning in code"),
     Cause("machine", 0.25, "other programs used the processors: record again on an idle machine"),
     Cause("efficient", 0.0, "little: threads ran code {code} % of {time}{suspect}"),
 )
@@ -65,7 +67,7 @@ NAMES = {"serial": "serial", "too_few_tasks": "too few tasks", "dependence": "de
          "small_regions": "small regions", "small_chunks": "small chunks", "undeferred": "undeferred tasks",
          "loop_schedule": "loop schedule", "lock": "lock", "exclusion": "exclusion", "memory": "memory",
          "allocation": "memory allocation", "system": "operating system", "sleep": "asleep",
-         "too_few_threads": "too few threads", "too_many_threads": "too many threads", "machine": "busy machine",
+         "too_few_threads": "too few threads", "too_many_threads": "too many threads", "affinity": "affinity", "machine": "busy machine",
          "recorder": "recorder", "startup": "startup"}
 EFFICIENT = 0.85        # of the threads' time in code, from which on nothing need be lost
 BUSY = 0.1              # of the threads' time, from which on what other programs took is told apart

@@ -88,6 +88,7 @@ class Facts:
     needless: set = field(default_factory=set)      # waits that may be, by the source
     usage: Optional[dict] = None
     stolen: float = 0.0                 # of the machine's processors' time, by its host
+    others: Optional[int] = None        # time that other programs, and the host, used its processors
     coverage: Optional[float] = None
     runs: int = 1
     true_one: Optional[List[int]] = None        # elapsed times of unrecorded runs on one thread
@@ -274,15 +275,22 @@ def stolen_share(host, elapsed):
     return (host.get("stolen_ns") or 0) / whole if whole else 0.0
 
 
+def used_by_others(host, usage):
+    """Of the time in which the machine's processors were not idle; None where that is not known."""
+    busy = host.get("busy_ns")
+    own = (usage.get("user_ns") or 0) + (usage.get("system_ns") or 0)
+    return None if busy is None else max(0, busy - own) + (host.get("stolen_ns") or 0)
+
+
 def set_meta(facts, meta):
-    threads, usage = meta.get("threads") or {}, meta.get("usage")
+    threads, usage, host = meta.get("threads") or {}, meta.get("usage"), meta.get("host") or {}
     facts.asked, facts.processors = threads.get("asked"), meta.get("processors")
     facts.runtime = runtime_name(meta.get("runtime") or {})
     facts.is_of_gcc = facts.is_of_gcc or facts.runtime.startswith(RUNTIMES["gnu"])
     facts.is_imported = bool(meta.get("imported"))
     facts.runs = len(meta.get("runs") or [1])
     facts.usage = usage or None
-    facts.stolen = stolen_share(meta.get("host") or {}, meta.get("elapsed_ns") or 0)
+    facts.stolen, facts.others = stolen_share(host, meta.get("elapsed_ns") or 0), used_by_others(host, usage or {})
     facts.true_one, facts.true_many = meta.get("true_one"), meta.get("true_many")
     facts.cost_on_one = meta.get("cost_on_one")
 

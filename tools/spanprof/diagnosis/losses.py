@@ -30,7 +30,7 @@ BEYOND_CACHES = 1 << 27     # bytes
 UNSHARED = 0.02         # of the samples of code, below which it uses no line that other threads use
 NO_CAUSE = ("recorder", "startup")
 FINE = ("small_tasks", "creation")      # of all tasks together
-OF_WAITS = ("small_tasks", "small_regions", "exclusion", "sleep", "too_many_threads")
+OF_WAITS = ("small_tasks", "small_regions", "exclusion", "sleep", "too_many_threads", "affinity")
 OF_SHAPE = ("too_few_tasks", "imbalance", "dependence", "wait")
 
 
@@ -180,8 +180,8 @@ def begins_often(facts, place):
 def kind_of_delayed(facts, name):
     """Why a thread idled though this code was ready."""
     place = facts.places.get(name)
-    if kind_of_preempted(facts) == "too_many_threads":
-        return "too_many_threads"
+    if kind_of_preempted(facts) != "machine":
+        return kind_of_preempted(facts)
     if not place and often_begun(facts):
         return "small_regions"
     if place and is_divided(place):
@@ -287,7 +287,7 @@ def idle_losses(facts):
 def starting_share(facts, name):
     """Of the time for which threads were delayed at a place: as many regions start and end there."""
     place = facts.places.get(name)
-    is_often = place and place.pieces > MANY * facts.threads and kind_of_preempted(facts) != "too_many_threads"
+    is_often = place and place.pieces > MANY * facts.threads and kind_of_preempted(facts) == "machine"
     return facts.starting_by.get(name, 0.0) if is_often else 0.0
 
 
@@ -314,8 +314,12 @@ def missing_threads(facts):
 
 
 def kind_of_preempted(facts):
-    """More threads than processors preempt each other."""
-    return "too_many_threads" if facts.processors and facts.most_threads > facts.processors else "machine"
+    """More threads than processors preempt each other, and so do those that share one: then other programs used less
+    than what they waited for."""
+    if facts.processors and facts.most_threads > facts.processors:
+        return "too_many_threads"
+    is_idle = facts.others is not None and facts.preempted - facts.others > BUSY * (facts.code + facts.preempted)
+    return "affinity" if is_idle else "machine"
 
 
 def off_losses(facts):
@@ -505,7 +509,7 @@ def losses(facts):
     found = idle_losses(facts) + off_losses(facts) + in_code_losses(facts) + \
         [Loss("recorder", "", facts.recorder), Loss("startup", "", facts.outside)]
     missing = missing_threads(facts)
-    one_place = {"too_many_threads": crowded_region(facts), **dict.fromkeys(FINE, heaviest_name(facts)),
+    one_place = {**dict.fromkeys(("too_many_threads", "affinity"), crowded_region(facts)), **dict.fromkeys(FINE, heaviest_name(facts)),
                  "too_few_threads": max(missing, key=missing.get, default=""),
                  "small_regions": most_often(facts, found)}
     known = {"undeferred": heaviest_name(facts)}      # without times too

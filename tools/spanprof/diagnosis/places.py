@@ -17,6 +17,8 @@ AFTER_REGION = "after the " + BARRIER
 ALLOCATION = "allocation at "       # before a line that allocates memory
 OWN = named("task", OF_A_THREAD)    # the name of a thread's own code, in a text the same in all regions
 ALONE = 0.05        # of the largest piece of a phase: where the others together have less, one thread runs it
+FEW_TURNS = 3       # of one thread, above which one more makes little difference
+ABOUT = 0.15        # of a turn, by which those of one length differ
 A_START = 50000     # nanoseconds: a thread starts a region's code in less, or goes on after it
 AROUND_REGIONS = (OWN, AFTER_REGION)
 
@@ -34,6 +36,7 @@ class Place:
     longest: int = 0        # of threads' own code: the cost of the largest pieces, one of each phase of the region
     alone: int = 0          # of these, in phases that one thread runs
     uneven: int = 0         # of divided code, or threads' own: what all would cost more that had as much as the largest
+    by_a_turn: int = 0      # of this, where they had a few turns of one length, and some of them one more
     tasks: int = 0          # that begin with it
     undeferred: int = 0     # of these
     inoutset: int = 0       # of these, with such an item
@@ -146,7 +149,14 @@ def set_longest(program):
         place.alone += largest * (whole - largest < ALONE * largest)
 
 
-def uneven_of(program):
+def is_by_a_turn(costs, threads):
+    """Whether threads had this as they would have one or two turns of a loop, or none, and some of them one more."""
+    lengths = [max(costs) / most for most in range(1, FEW_TURNS + 1)]
+    return any(all(abs(one - max(costs)) < ABOUT * length or abs(one + length - max(costs)) < ABOUT * length
+                   for one in costs + [0] * (threads - len(costs))) for length in lengths)
+
+
+def set_uneven(program):
     """Of divided code, and of threads' own, by place: phase by phase, what they had less than that with the most."""
     code, shares, parts = program.code, {}, Counter(program.code.groups)
     divided = [name if kind_of(kind) == SHARE or name.startswith(OWN) else ""
@@ -158,13 +168,12 @@ def uneven_of(program):
         for name, cost in islice(pieces, length):
             had[name] = had.get(name, 0) + cost
         for name, cost in had.items():
-            most, whole = shares.get((name, group), (0, 0))
-            shares[name, group] = max(most, cost), whole + cost
-    out = Counter()
-    for (name, group), (most, whole) in shares.items():
-        out[name] += parts[group] * most - whole
-    del out[""]
-    return out
+            shares.setdefault((name, group), []).append(cost)
+    for (name, group), costs in shares.items():
+        if name:
+            less = parts[group] * max(costs) - sum(costs)
+            program.places[name].uneven += less
+            program.places[name].by_a_turn += less * is_by_a_turn(costs, parts[group])
 
 
 def read_places(code, costs):
@@ -181,8 +190,7 @@ def read_places(code, costs):
         if number is not None:      # a thread's own code has none
             program.places[names[number]].add_tasks(count, clauses, again)
     set_longest(program)
-    for name, cost in uneven_of(program).items():
-        program.places[name].uneven = cost
+    set_uneven(program)
     return program
 
 

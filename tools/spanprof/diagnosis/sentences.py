@@ -80,6 +80,8 @@ def words_of_schedule(names, name, place):
         return "smaller sections at %s, the longest first" % at
     if is_share and (names.facts.is_of_gcc or re.search(ONE_BY_ONE, names.directive(name, place.at))):
         return "smaller chunks at %s, the longest first" % at
+    if place and 2 * place.by_a_turn > place.uneven:
+        return "schedule(dynamic) at %s, or collapse loops if iterations are few" % at
     return "schedule(dynamic) at %s, or smaller chunks" % at
 
 

@@ -15,6 +15,7 @@ from spanprof.errors import Fault
 from spanprof.head import Head, head_of
 from spanprof.recording import open_recording
 from spanprof.record.console import tell
+from spanprof.record.counters import words_of
 from spanprof.record.ranks import is_child
 from spanprof.record.summary import named, other_region, remark_lines, summary, title
 from spanprof.record.summary_json import run_json, summary_json, write_json
@@ -91,7 +92,8 @@ def print_summary(session, recording, answers, others, news, scale, is_cut):
     if options.all or not (diagnosis or is_cut):
         show(summary(answers, news + [why] * bool(why), others, lines_of(account, no_account),
                      program_of(recording.text)))
-        show(named("losses", diagnosis.sum_lines() if diagnosis else []))
+        show(named("losses", diagnosis.sum_lines() if diagnosis else []) +
+             named("counters", words_of(recording.meta.get("counters") or {})))
     if options.json:
         run = run_json(answers, account, no_account)
         write_json(options.json, summary_json(diagnosis and diagnosis.json(), run, scale))

@@ -11,7 +11,7 @@ from spanprof.diagnosis.calls import Sampled, calls_of
 from spanprof.diagnosis.diagnose import diagnose
 from spanprof.diagnosis.facts import (Facts, elapsed_in, function_in, inner_regions, nested_threads, of_those_at_once,
                                       off_by_segment, regions_of, runtime_name, set_meta, set_off, set_ranks,
-                                      starting_shares, stolen_share)
+                                      starting_shares, stolen_share, used_by_others)
 from spanprof.diagnosis.lock_times import Held, locks_of
 from spanprof.diagnosis.places import AFTER_REGION, OWN, SERIAL
 from spanprof.diagnosis.sentences import sure_words
@@ -99,6 +99,12 @@ class Recorded(unittest.TestCase):
         self.assertEqual(stolen_share({"host_processors": 4, "stolen_ns": 20}, 100), 0.05)
         self.assertEqual(stolen_share({"host_processors": 4, "stolen_ns": None}, 100), 0.0)
         self.assertEqual(stolen_share({}, 100), 0.0)
+
+    def test_what_other_programs_used(self):
+        usage = {"user_ns": 70, "system_ns": 20}
+        self.assertEqual(used_by_others({"busy_ns": 100, "stolen_ns": 5}, usage), 15)
+        self.assertEqual(used_by_others({"busy_ns": 80}, usage), 0)
+        self.assertIsNone(used_by_others({"stolen_ns": 5}, usage))
 
     def test_the_threads_that_a_run_could_have_had(self):
         self.assertEqual(facts(threads=2).target, 4)

@@ -245,6 +245,14 @@ class Kinds(unittest.TestCase):
         run = delayed_at(place(TASKS), nested=16)       # of which no more than four were seen at once
         self.assertEqual(self.first(run), "too_many_threads")
 
+    def test_affinity(self):
+        """The machine's processors were idle for longer than the threads waited for them."""
+        shared = facts([place(TASKS)], preempted=200 * MS, others=20 * MS, regions=[Region("image.c:20", 4, 90 * MS)])
+        self.assertEqual([(one.kind, one.place, one.time) for one in diagnose(shared).causes],
+                         [("affinity", "image.c:20", 200 * MS)])
+        self.assertEqual(self.first(delayed_at(place(TASKS), preempted=60 * MS, others=10 * MS)), "affinity")
+        self.assertEqual(self.first(delayed_at(place(TASKS), preempted=60 * MS, others=50 * MS)), "machine")
+
     def test_machine(self):
         self.assertEqual(self.first(facts([place(TASKS)], preempted=200 * MS)), "machine")
 

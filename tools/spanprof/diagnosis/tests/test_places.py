@@ -1,6 +1,6 @@
 import unittest
 
-from spanprof.diagnosis.places import OF_THREADS, OWN, SERIAL, SHARE, TASK, in_text, lines_between
+from spanprof.diagnosis.places import (OF_THREADS, OWN, SERIAL, SHARE, TASK, in_text, is_by_a_turn, lines_between)
 from spanprof.diagnosis.tests.worked import TEXT, program
 from spanprof.tests.columns import segments_of
 
@@ -73,6 +73,16 @@ class Places(unittest.TestCase):
         region = "taskgroup {  # a.c:2\n" + part % (turns % 5 + turns % 3) + part % (turns % 6) + part % "" + "}\n"
         found = program("omptasks 1\n" + 2 * region).places["turns of the loop at a.c:3"]
         self.assertEqual(found.uneven, 2 * (24 - 14))
+
+    def test_a_turn_more_than_others(self):
+        for costs, is_one in (([20, 10, 11, 10], True), ([10, 9], True), ([30, 20, 21, 19], True), ([40, 30, 30, 30], False),
+                              ([10, 30, 50, 70], False), ([20, 15, 10, 5], False)):
+            self.assertEqual(is_by_a_turn(costs, 4), is_one, costs)
+        lines = ["omptasks 1\n", "taskgroup {  # a.c:3\n"]
+        for cost in (20, 10, 10, 10):
+            lines += ["task {  # one of the region's threads\n", "work %d\n" % cost, "}\n"]
+        own = program("".join([*lines, "}\n"])).places[OWN + " at a.c:3"]
+        self.assertEqual((own.uneven, own.by_a_turn), (30, 30))
 
     def test_each_segment_has_a_name_and_a_cost(self):
         found = program()

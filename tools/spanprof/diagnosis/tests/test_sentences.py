@@ -359,6 +359,9 @@ class Sentences(unittest.TestCase):
         run = facts([place(OWN + " at image.c:9", OF_THREADS)], few_turns={"image.c:9": [5, 4]})
         step = Step("loop_schedule", OWN + " at image.c:9", 2, 1, 1, 1, 1.0, None)
         self.assertIn("schedule(dynamic) at ", change_sentence(run, Names(run, SOURCES), step))
+        run.places[OWN + " at image.c:9"].uneven = run.places[OWN + " at image.c:9"].by_a_turn = MS
+        self.assertTrue(change_sentence(run, Names(run, SOURCES), step).endswith(
+            ", or collapse loops if iterations are few"))
 
     def test_several_waits_by_their_lines(self):
         names = Names(facts(), None)
