@@ -1,5 +1,5 @@
 // Turns that wait for others (sink) and let others go (source) keep that order while they create tasks.
-// openmp: 15.9.6 doacross clause, 15.10.2 stand-alone ordered construct
+// openmp: 15.9.6 doacross clause, 15.10.1 stand-alone ordered construct
 #include "expect.h"
 
 int main(void) {
