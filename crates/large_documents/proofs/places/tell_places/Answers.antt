@@ -1,8 +1,12 @@
-use Rattle.std.proofs.Common.{◌∙◌, ◌≡◌, ℕ, List, ap, inl, inr, length, subst, sym}
+use Rattle.std.proofs.Common.{◌∙◌, ◌≡◌, ℕ, List, ap, arith, inl, inr, length, subst, sym}
 use Rattle.std.proofs.lemmas.Result.{IfOk-weaker}
 use Rattle.large_documents.proofs.Members.{same_count}
 use Rattle.large_documents.specs.Places.{ArePlaces, IsPlacesFault}
 use Rattle.large_documents.proofs.places.tell_places.Goals as goal
+
+pub read_places-requires : goal.read_places-requires
+read_places-requires c =
+    omega (arith, c.len.ensures.is_graph.some, c.len.ensures.count)
 
 pub tell_sums-requires : goal.tell_sums-requires
 tell_sums-requires c =
