@@ -3,12 +3,13 @@ import re
 from collections import Counter
 
 from spanprof.account_words import lasting
+from spanprof.diagnosis.allocation import allocating, parallel_code
 from spanprof.diagnosis.calls import NO_NAME, OFFSET, ONE_AT_A_TIME, SHARES, innermost, together
 from spanprof.diagnosis.causes import BY_KIND, CHEAPER, ESTIMATED, NAMES, SECOND
 from spanprof.diagnosis.facts import Region
-from spanprof.diagnosis.losses import (A_TASK, MANY, allocating, average_task, has_many_faults, holds_neighbours,
-                                       is_bandwidth, is_in_a_row, is_maker, losses, maps_memory, missing_threads,
-                                       most_shared, parallel_code, useful_time)
+from spanprof.diagnosis.losses import (A_TASK, MANY, average_task, has_many_faults, holds_neighbours, is_bandwidth,
+                                       is_in_a_row, is_maker, losses, maps_memory, missing_threads, most_shared,
+                                       useful_time)
 from spanprof.diagnosis.own_code import interpreted_share, is_interpreter, words_of_interpreter
 from spanprof.diagnosis.places import AFTER_REGION, SERIAL, SHARE
 from spanprof.diagnosis.plan import holder
