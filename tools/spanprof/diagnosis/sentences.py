@@ -33,6 +33,7 @@ TRIED = {
     "defer": "defer more tasks at {at}: change its if or final",
     "outside": "create the tasks of {at} in a parallel region, in single",
     "task": "make {where} a task of its own"}
+BOUNDS = {"about": "about %s", "or less": "%s or less", "at best": "%s"}     # the first of several holds for all
 ONE_BY_ONE = r"schedule\s*\(\s*(\w+\s*:\s*)?(dynamic|guided)"
 SPLIT = {"serial": "parallelise {where}: loop or tasks", "imbalance": "divide the longest tasks at {where}",
          "too_few_tasks": "divide each task of {where} into {usable}",
@@ -81,9 +82,13 @@ def words_of_schedule(names, name, place):
         return "smaller sections at %s, the longest first" % at
     if is_share and (names.facts.is_of_gcc or re.search(ONE_BY_ONE, names.directive(name, place.at))):
         return "smaller chunks at %s, the longest first" % at
-    if place and 2 * place.by_a_turn > place.uneven:
-        return "schedule(dynamic) at %s, or collapse loops if iterations are few" % at
-    return "schedule(dynamic) at %s, or smaller chunks" % at
+    return "schedule(dynamic) at %s, or %s" % (at, "collapse loops" if may_be_few(place) else "smaller chunks")
+
+
+def may_be_few(place):
+    """Whether a loop may have hardly more turns than threads, by how uneven they are: another schedule divides no turn.
+    """
+    return place is not None and 2 * place.by_a_turn > place.uneven
 
 
 def few_turns(facts, name, place):
@@ -93,7 +98,9 @@ def few_turns(facts, name, place):
 
 def words_of_division(facts, name, place):
     few = few_turns(facts, name, place)
-    return "too few iterations, %d on %d threads" % tuple(few) if few else "its work is divided unevenly"
+    if few:
+        return "too few iterations, %d on %d threads" % tuple(few)
+    return "few iterations, or uneven ones" if may_be_few(place) else "its work is divided unevenly"
 
 
 def words_of_kernel(facts, usage):
@@ -308,14 +315,14 @@ def bound_word(kind):
 
 def after_words(step):
     """What the run takes after a step."""
-    bound = {"about": "about %s", "or less": "%s or less", "at best": "at best %s"}[bound_word(step.kind)]
-    return ("%s" if step.change else bound) % lasting(step.after)
+    word = bound_word(step.kind)
+    at_best = "at best " if word == "at best" and not step.change else ""
+    return at_best + (lasting(step.after) if step.change else BOUNDS[word] % lasting(step.after))
 
 
-def best_words(found):
-    """The time at best, where what is lost may cost more than its own time, or less."""
-    bounds = {bound_word(loss.kind) for loss in found.causes}
-    return ("about %s" if "about" in bounds else "%s or less" if "or less" in bounds else "%s") % lasting(found.best)
+def word_of_best(found):
+    """What the time at best is, where what is lost may cost more than its own time, or less."""
+    return min((bound_word(loss.kind) for loss in found.causes), key=list(BOUNDS).index, default="at best")
 
 
 def gain_words(step):
@@ -348,7 +355,7 @@ def words_of_threads(facts):
 def first_line(found):
     facts = found.facts
     return "%s: %s on %s%s. At best %s." % (facts.program or "program", lasting(found.now), words_of_threads(facts),
-                                            speed_words(facts), best_words(found))
+                                            speed_words(facts), BOUNDS[word_of_best(found)] % lasting(found.best))
 
 
 def lost_lines(found, names):
