@@ -25,7 +25,7 @@ class Cause(NamedTuple):
 TABLE = (
     Cause("serial", 0.05, "{where} runs on one thread: {alone}"),
     Cause("too_few_tasks", 0.05, "too few tasks: threads wait while {where} runs"),
-    Cause("imbalance", 0.05, "uneven tasks at {where}: the longest takes {largest}, the average {average}"),
+    Cause("imbalance", 0.05, "uneven tasks at {where}: longest {largest}, average {average}"),
     Cause("dependence", 0.05, "{tasks} of {where} are serial: {many} have depend({item})"),
     Cause("wait", 0.05, "threads wait at {where}, where other tasks could run"),
     Cause("small_tasks", 0.1, "{all_tasks} tasks of {average_task} each: creating and starting them costs too much",
@@ -39,7 +39,7 @@ TABLE = (
     Cause("loop_schedule", 0.05, "threads wait at the end of {at}: {uneven}", "{shared}"),
     Cause("lock", 0.1, "threads wait for {lock}, {times}", "{less_locking}"),
     Cause("exclusion", 0.1, "tasks of {where} exclude each other: mutexinoutset",
-          "smaller mutexinoutset items at {at}, or for the update alone"),
+          "exclude the update alone at {at}, or smaller items"),
     Cause("memory", 0.1, "{contended}",
           "{instead}"),
     Cause("allocation", 0.08, "memory allocation in {where}: {allocating} % of the code in parallel",

@@ -86,7 +86,7 @@ class Named(unittest.TestCase):
         one = self.facts.places[TASKS]
         self.assertEqual(self.names.item(one, ("inout", "a0")), "inout: tab[f(0, 1)]")
         self.assertEqual(self.names.item(one, ("inout", "a2")), "out: d[0]")
-        self.assertEqual(Names(self.facts, None).item(one, ("inout", "a2")), "inout: the same item")
+        self.assertEqual(Names(self.facts, None).item(one, ("inout", "a2")), "inout: one item")
 
     def test_items_of_a_directive(self):
         self.assertEqual(items_in("depend(USES: a) depend(inout: b)"), {})
@@ -173,7 +173,7 @@ class Sentences(unittest.TestCase):
 
     def test_in_place_of_what_is_contended(self):
         found = [Suspect("", "a.c:9", True), Suspect("part[me]", "a.c:9")]
-        self.assertEqual(list(map(str, found)), ["the atomic at a.c:9", "part[me] next to other threads' (a.c:9)"])
+        self.assertEqual(list(map(str, found)), ["the atomic at a.c:9", "part[me] next to others' (a.c:9)"])
         self.assertEqual([one.instead for one in found + [Suspect("", "a.c:9")]], [
             "a reduction in place of the atomic at a.c:9", "a local copy of part[me] (a.c:9), written back once",
             "a local copy of what a.c:9 writes, written back once"])
