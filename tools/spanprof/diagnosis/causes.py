@@ -51,7 +51,7 @@ TABLE = (
           "ask for {usable} threads at {where}{who_asked}"),
     Cause("too_many_threads", 0.1, "{threads} threads on {processors} processors, {in_region}", "{fewer}"),
     Cause("affinity", 0.1, "threads share processors while others are idle, {in_region}",
-          "let threads run on all processors: OMP_PROC_BIND, OMP_PLACES, pinning in code"),
+          "unbind threads: OMP_PROC_BIND, OMP_PLACES, sched_setaffinity"),
     Cause("machine", 0.25, "other programs used the processors: record again on an idle machine"),
     Cause("efficient", 0.0, "little: threads ran code {code} % of {time}{suspect}"),
 )
