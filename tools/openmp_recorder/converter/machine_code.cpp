@@ -103,6 +103,7 @@ std::optional<MemoryUse> memory_use(const std::string &instruction) {
     if ((!parts[0].empty() && use.base < 0) || (parts.size() > 1 && use.index < 0)) return std::nullopt;
   }
   use.writes = found + 1 == all.end() && writes_last(name, all.size());
+  use.is_atomic = begins_with(instruction, {"lock", "xchg"});
   return use;
 }
 

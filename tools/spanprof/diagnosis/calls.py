@@ -18,7 +18,7 @@ ONE_AT_A_TIME = {
     **dict.fromkeys(("rand", "random", "srand", "srandom"), "a generator for each thread, such as rand_r"),
     **dict.fromkeys(("printf", "vprintf", "puts", "putchar"), "a buffer for each thread, printed at its end"),
     **dict.fromkeys(("localtime", "localtime_r", "mktime", "strftime"), "call it once for many")}
-OUTERMOST = ("main", "_start")
+OUTERMOST = ("main", "_start", "unnamed")    # the last is code that a compiler made of a construct
 OF_MPI = re.compile("P?MPI_(?!Init)")
 MPI_BEGINS = re.compile("P?MPI_Init")
 # The system's loader, and constructors of static objects.

@@ -5,10 +5,11 @@ Threads x elapsed time = code as on one thread + the losses.
 from collections import Counter
 from typing import NamedTuple
 
+from spanprof.diagnosis.allocation import allocating, most_allocating
 from spanprof.diagnosis.calls import A_SAMPLE, RUNTIME, in_system, shares
 from spanprof.diagnosis.causes import BUSY, BY_KIND, SECOND
 from spanprof.diagnosis.own_code import of_interpreter, serial_places
-from spanprof.diagnosis.places import A_START, ALLOCATION, AROUND_REGIONS, OF_THREADS, OWN, SERIAL, SHARE
+from spanprof.diagnosis.places import A_START, AROUND_REGIONS, OF_THREADS, OWN, SERIAL, SHARE
 from spanprof.text import BEGINNING, TURNS, where
 
 MAPPING = ("mmap", "munmap", "mremap", "madvise", "brk", "sbrk")
@@ -448,30 +449,6 @@ def handling(facts):
             if times * A_TASK > time:
                 out[tuple(loss)] = out.get(tuple(loss), 0) + time
     return out
-
-
-def allocating(facts):
-    """By line, what allocating and freeing memory took of code in parallel, by samples."""
-    out = {}
-    for name, lines in facts.calls.allocated.items():
-        place, sampled = facts.places.get(name), sum(facts.calls.ran.get(name, {}).values())
-        if place and place.kind != SERIAL and sampled:
-            code = max(0, place.cost - facts.asleep_by.get(name, 0))
-            for line, time in lines.items():
-                line = ALLOCATION + line.partition(" ")[0]
-                out[line] = out.get(line, 0) + code * time // sampled
-    return out
-
-
-def most_allocating(facts):
-    """The line that takes most; empty where it is not known."""
-    found = allocating(facts)
-    line = max(found, key=found.get, default="")
-    return line if line != ALLOCATION else ""
-
-
-def parallel_code(facts):
-    return sum(place.cost for place in facts.places.values() if place.kind != SERIAL)
 
 
 def in_code_losses(facts):

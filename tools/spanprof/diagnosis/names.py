@@ -25,7 +25,7 @@ HOT = 0.8               # of the samples of code, that the lines have which are 
 NO_CALLS = ("if", "for", "while", "switch", "return", "sizeof")
 KINDS = ("in", "out", "inout", "inoutset", "mutexinoutset", "depobj")
 WRITES = {"out": "inout"}       # as the recorder writes it
-UNNAMED = "the same item"
+UNNAMED = "one item"
 
 
 def code_at(name):
@@ -83,7 +83,7 @@ class Suspect(NamedTuple):
     def __str__(self):
         if self.is_atomic:
             return "the atomic at " + self.at
-        return "%s next to other threads' (%s)" % self[:2] if self.item else "what %s writes" % self.at
+        return "%s next to others' (%s)" % self[:2] if self.item else "what %s writes" % self.at
 
     @property
     def instead(self):

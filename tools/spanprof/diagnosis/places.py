@@ -17,8 +17,7 @@ AFTER_REGION = "after the " + BARRIER
 ALLOCATION = "allocation at "       # before a line that allocates memory
 OWN = named("task", OF_A_THREAD)    # the name of a thread's own code, in a text the same in all regions
 ALONE = 0.05        # of the largest piece of a phase: where the others together have less, one thread runs it
-FEW_TURNS = 3       # of one thread, above which one more makes little difference
-ABOUT = 0.15        # of a turn, by which those of one length differ
+ABOUT = 0.25        # of a turn, by which those of one length differ
 A_START = 50000     # nanoseconds: a thread starts a region's code in less, or goes on after it
 AROUND_REGIONS = (OWN, AFTER_REGION)
 
@@ -36,7 +35,7 @@ class Place:
     longest: int = 0        # of threads' own code: the cost of the largest pieces, one of each phase of the region
     alone: int = 0          # of these, in phases that one thread runs
     uneven: int = 0         # of divided code, or threads' own: what all would cost more that had as much as the largest
-    by_a_turn: int = 0      # of this, where they had a few turns of one length, and some of them one more
+    by_a_turn: int = 0      # of this, where they had a turn or none, all of one length, and some of them one more
     tasks: int = 0          # that begin with it
     undeferred: int = 0     # of these
     inoutset: int = 0       # of these, with such an item
@@ -150,10 +149,10 @@ def set_longest(program):
 
 
 def is_by_a_turn(costs, threads):
-    """Whether threads had this as they would have one or two turns of a loop, or none, and some of them one more."""
-    lengths = [max(costs) / most for most in range(1, FEW_TURNS + 1)]
-    return any(all(abs(one - max(costs)) < ABOUT * length or abs(one + length - max(costs)) < ABOUT * length
-                   for one in costs + [0] * (threads - len(costs))) for length in lengths)
+    """Whether it is as if they had a turn of a loop, or none, and some of them one more."""
+    less = [max(costs) - one for one in costs + [0] * (threads - len(costs))]
+    return any(2 * max(less) > length and all(min(one, abs(length - one)) < ABOUT * length for one in less)
+               for length in (max(costs), max(costs) / 2))
 
 
 def set_uneven(program):

@@ -3,12 +3,13 @@ import re
 from collections import Counter
 
 from spanprof.account_words import lasting
+from spanprof.diagnosis.allocation import allocating, parallel_code
 from spanprof.diagnosis.calls import NO_NAME, OFFSET, ONE_AT_A_TIME, SHARES, innermost, together
 from spanprof.diagnosis.causes import BY_KIND, CHEAPER, ESTIMATED, NAMES, SECOND
 from spanprof.diagnosis.facts import Region
-from spanprof.diagnosis.losses import (A_TASK, MANY, allocating, average_task, has_many_faults, holds_neighbours,
-                                       is_bandwidth, is_in_a_row, is_maker, losses, maps_memory, missing_threads,
-                                       most_shared, parallel_code, useful_time)
+from spanprof.diagnosis.losses import (A_TASK, MANY, average_task, has_many_faults, holds_neighbours, is_bandwidth,
+                                       is_in_a_row, is_maker, losses, maps_memory, missing_threads, most_shared,
+                                       useful_time)
 from spanprof.diagnosis.own_code import interpreted_share, is_interpreter, words_of_interpreter
 from spanprof.diagnosis.places import AFTER_REGION, SERIAL, SHARE
 from spanprof.diagnosis.plan import holder
@@ -32,6 +33,7 @@ TRIED = {
     "defer": "defer more tasks at {at}: change its if or final",
     "outside": "create the tasks of {at} in a parallel region, in single",
     "task": "make {where} a task of its own"}
+BOUNDS = {"about": "about %s", "or less": "%s or less", "at best": "%s"}     # the first of several holds for all
 ONE_BY_ONE = r"schedule\s*\(\s*(\w+\s*:\s*)?(dynamic|guided)"
 SPLIT = {"serial": "parallelise {where}: loop or tasks", "imbalance": "divide the longest tasks at {where}",
          "too_few_tasks": "divide each task of {where} into {usable}",
@@ -80,9 +82,13 @@ def words_of_schedule(names, name, place):
         return "smaller sections at %s, the longest first" % at
     if is_share and (names.facts.is_of_gcc or re.search(ONE_BY_ONE, names.directive(name, place.at))):
         return "smaller chunks at %s, the longest first" % at
-    if place and 2 * place.by_a_turn > place.uneven:
-        return "schedule(dynamic) at %s, or collapse loops if iterations are few" % at
-    return "schedule(dynamic) at %s, or smaller chunks" % at
+    return "schedule(dynamic) at %s, or %s" % (at, "collapse loops" if may_be_few(place) else "smaller chunks")
+
+
+def may_be_few(place):
+    """Whether a loop may have hardly more turns than threads, by how uneven they are: another schedule divides no turn.
+    """
+    return place is not None and 2 * place.by_a_turn > place.uneven
 
 
 def few_turns(facts, name, place):
@@ -92,7 +98,9 @@ def few_turns(facts, name, place):
 
 def words_of_division(facts, name, place):
     few = few_turns(facts, name, place)
-    return "too few iterations, %d on %d threads" % tuple(few) if few else "its work is divided unevenly"
+    if few:
+        return "too few iterations, %d on %d threads" % tuple(few)
+    return "few iterations, or uneven ones" if may_be_few(place) else "its work is divided unevenly"
 
 
 def words_of_kernel(facts, usage):
@@ -307,14 +315,14 @@ def bound_word(kind):
 
 def after_words(step):
     """What the run takes after a step."""
-    bound = {"about": "about %s", "or less": "%s or less", "at best": "at best %s"}[bound_word(step.kind)]
-    return ("%s" if step.change else bound) % lasting(step.after)
+    word = bound_word(step.kind)
+    at_best = "at best " if word == "at best" and not step.change else ""
+    return at_best + (lasting(step.after) if step.change else BOUNDS[word] % lasting(step.after))
 
 
-def best_words(found):
-    """The time at best, where what is lost may cost more than its own time, or less."""
-    bounds = {bound_word(loss.kind) for loss in found.causes}
-    return ("about %s" if "about" in bounds else "%s or less" if "or less" in bounds else "%s") % lasting(found.best)
+def word_of_best(found):
+    """What the time at best is, where what is lost may cost more than its own time, or less."""
+    return min((bound_word(loss.kind) for loss in found.causes), key=list(BOUNDS).index, default="at best")
 
 
 def gain_words(step):
@@ -347,7 +355,7 @@ def words_of_threads(facts):
 def first_line(found):
     facts = found.facts
     return "%s: %s on %s%s. At best %s." % (facts.program or "program", lasting(found.now), words_of_threads(facts),
-                                            speed_words(facts), best_words(found))
+                                            speed_words(facts), BOUNDS[word_of_best(found)] % lasting(found.best))
 
 
 def lost_lines(found, names):

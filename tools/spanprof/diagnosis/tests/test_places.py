@@ -75,8 +75,8 @@ class Places(unittest.TestCase):
         self.assertEqual(found.uneven, 2 * (24 - 14))
 
     def test_a_turn_more_than_others(self):
-        for costs, is_one in (([20, 10, 11, 10], True), ([10, 9], True), ([30, 20, 21, 19], True), ([40, 30, 30, 30], False),
-                              ([10, 30, 50, 70], False), ([20, 15, 10, 5], False)):
+        for costs, is_one in (([20, 10, 12, 8], True), ([10, 9], True), ([30, 20, 21, 19], False),
+                              ([9, 10, 8], True), ([9, 10, 8, 9], False), ([10, 30, 50, 70], False), ([20, 15, 10, 5], False)):
             self.assertEqual(is_by_a_turn(costs, 4), is_one, costs)
         lines = ["omptasks 1\n", "taskgroup {  # a.c:3\n"]
         for cost in (20, 10, 10, 10):

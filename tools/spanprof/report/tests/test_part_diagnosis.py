@@ -44,7 +44,7 @@ class Screens(unittest.TestCase):
         steps = [Step("memory", TASKS, 100 * MS, 75 * MS, 75 * MS, 90 * MS)]
         shown = words_in(first_screen(Told(Diagnosis(run, lost, lost, steps, steps), Names(run, SOURCES))))
         for words in ("75.0 msafter the first change, estimated", "100 ms → about 75.0 ms (−25 %)",
-                      "about 0 nsat best: all threads busy"):
+                      "0 nsat best, estimated: all threads busy"):
             self.assertIn(words, shown)
 
     def test_the_bar_is_the_whole(self):
