@@ -5,15 +5,24 @@ At each moment the idle threads are shared evenly among these segments. The part
 """
 from collections import defaultdict
 from fractions import Fraction
+from itertools import compress
+from operator import and_, eq, lt
+
+
+READY, STARTS, BEGINS, ENDS = range(4)   # what changes at a moment, in this order; who starts was not ready before
 
 
 def changes(rows, kinds, count):
-    """Moments in their order, each with what changes then of which kind of so many, as one number: first come those
-    that are ready, then those that begin, then those that end."""
-    width = 3 * count
-    return sorted([moment * width + kind for moment, kind in zip(rows.ready, kinds)] +
-                  [moment * width + count + kind for moment, kind in zip(rows.begin, kinds)] +
-                  [moment * width + 2 * count + kind for moment, kind in zip(rows.end, kinds)])
+    """Moments in their order, each with what changes then of which kind of so many, as one number. What takes no time
+    changes nothing."""
+    width, out = 4 * count, []
+    for change, moments, chosen in (
+            (READY, rows.ready, map(lt, rows.ready, rows.begin)), (BEGINS, rows.begin, map(lt, rows.ready, rows.begin)),
+            (STARTS, rows.begin, map(and_, map(eq, rows.ready, rows.begin), map(lt, rows.begin, rows.end))),
+            (ENDS, rows.end, map(lt, rows.ready, rows.end))):
+        out += [moment * width + change * count + kind for moment, kind in compress(zip(moments, kinds), chosen)]
+    out.sort()
+    return out
 
 
 def less(counts, kind):
@@ -65,24 +74,27 @@ def exact_idle(rows, places, threads):
     kinds = [numbers.setdefault(place, len(numbers)) for place in places]
     count, moment = len(numbers), min(rows.begin)
     for change in changes(rows, kinds, count):
-        then, what = divmod(change, 3 * count)
+        then, what = divmod(change, 4 * count)
         if then > moment:
             if busy < threads:
                 idle, parts, among = (threads - busy) * (then - moment), delayed if ready else starved, waiting or busy
                 for kind, times in (ready or running).items():
                     parts[among * count + kind] += idle * times
             moment = then
-        if what < count:
-            ready[what] = ready.get(what, 0) + 1
+        change, kind = divmod(what, count)
+        if change == READY:
+            ready[kind] = ready.get(kind, 0) + 1
             waiting += 1
-        elif what < 2 * count:
-            what -= count
-            less(ready, what)
-            running[what] = running.get(what, 0) + 1
-            waiting, busy = waiting - 1, busy + 1
-        else:
-            less(running, what - 2 * count)
+            continue
+        if change == ENDS:
+            less(running, kind)
             busy -= 1
+            continue
+        if change == BEGINS:
+            less(ready, kind)
+            waiting -= 1
+        running[kind] = running.get(kind, 0) + 1
+        busy += 1
     return tuple(exact(parts, list(numbers)) for parts in (delayed, starved))
 
 

@@ -3,8 +3,8 @@ from array import array
 from collections import Counter, defaultdict
 from dataclasses import dataclass, field
 from functools import cached_property
-from itertools import islice
-from operator import add, sub
+from itertools import compress
+from operator import add
 from typing import List, Tuple
 
 from spanprof.marks import CREATING
@@ -135,17 +135,25 @@ def pieces_of(code, costs):
     return {divmod(pair, width): pieces for pair, pieces in found.items()}
 
 
+def firsts(names):
+    """Of each name where it stands first."""
+    found = {}
+    return [found.setdefault(name, number) for number, name in enumerate(names)]
+
+
 def set_longest(program):
     """Of threads' own code, by place, the largest pieces of the phases of a region, which run at once."""
-    phases = {}
-    for segment, group in zip(program.code.own, program.code.groups):
-        phase = program.kinds[program.code.of[segment]], group
-        largest, whole = phases.get(phase, (0, 0))
-        phases[phase] = max(largest, program.costs[segment]), whole + program.costs[segment]
-    for (name, _), (largest, whole) in phases.items():
-        place = program.places[name]
-        place.longest += largest
-        place.alone += largest * (whole - largest < ALONE * largest)
+    code, width, largest, whole = program.code, len(program.kinds), {}, defaultdict(int)
+    numbers = firsts(program.kinds)
+    for segment, group in zip(code.own, code.groups):
+        phase, cost = group * width + numbers[code.of[segment]], program.costs[segment]
+        whole[phase] += cost
+        if cost >= largest.get(phase, 0):
+            largest[phase] = cost
+    for phase, cost in largest.items():
+        place = program.places[program.kinds[phase % width]]
+        place.longest += cost
+        place.alone += cost * (whole[phase] - cost < ALONE * cost)
 
 
 def is_by_a_turn(costs, threads):
@@ -157,22 +165,24 @@ def is_by_a_turn(costs, threads):
 
 def set_uneven(program):
     """Of divided code, and of threads' own, by place: phase by phase, what they had less than that with the most."""
-    code, shares, parts = program.code, {}, Counter(program.code.groups)
-    divided = [name if kind_of(kind) == SHARE or name.startswith(OWN) else ""
-               for kind, name in zip(code.kinds, program.kinds)]
-    pieces = zip(map(divided.__getitem__, code.of), program.costs)
-    pieces = islice(pieces, code.own[0] if code.own else 0, None)
-    for length, group in zip(map(sub, [*code.own[1:], len(code)], code.own), code.groups):
-        had = {}
-        for name, cost in islice(pieces, length):
-            had[name] = had.get(name, 0) + cost
-        for name, cost in had.items():
-            shares.setdefault((name, group), []).append(cost)
-    for (name, group), costs in shares.items():
-        if name:
-            less = parts[group] * max(costs) - sum(costs)
-            program.places[name].uneven += less
-            program.places[name].by_a_turn += less * is_by_a_turn(costs, parts[group])
+    code, width, parts = program.code, len(program.kinds), Counter(program.code.groups)
+    numbers, had, begins, part = firsts(program.kinds), defaultdict(int), [*code.own, len(code)], -1
+    divided = [kind_of(kind) == SHARE or name.startswith(OWN) for kind, name in zip(code.kinds, program.kinds)]
+    pieces = zip(range(len(code)), code.of, program.costs)
+    for segment, kind, cost in compress(pieces, map(divided.__getitem__, code.of)):
+        while segment >= begins[part + 1]:
+            part += 1
+        had[part * width + numbers[kind]] += cost
+    shares = defaultdict(list)
+    for both, cost in had.items():
+        part, number = divmod(both, width)
+        if part >= 0:   # not before all parts
+            shares[code.groups[part] * width + number].append(cost)
+    for share, costs in shares.items():
+        place, threads = program.places[program.kinds[share % width]], parts[share // width]
+        less = threads * max(costs) - sum(costs)
+        place.uneven += less
+        place.by_a_turn += less * is_by_a_turn(costs, threads)
 
 
 def read_places(code, costs):

@@ -3,7 +3,7 @@ import os
 from dataclasses import dataclass
 
 from spanprof.diagnosis.changes import Bench
-from spanprof.diagnosis.diagnose import Diagnosis, diagnose
+from spanprof.diagnosis.diagnose import Diagnosis, diagnose, taken_by_others
 from spanprof.diagnosis.facts import facts_of, greedy_end
 from spanprof.diagnosis.losses import losses
 from spanprof.diagnosis.names import Names
@@ -37,8 +37,9 @@ class Told:
 def needs_trials(facts):
     """Of a long text that has lost most to a cause that no change of the text tells, none is tried: each is a pass over
     all of it."""
-    pieces = sum(place.pieces for place in facts.places.values())
-    first = next(iter(bounds(facts, facts.now, losses(facts))), None)
+    pieces, found = sum(place.pieces for place in facts.places.values()), losses(facts)
+    facts.taken = taken_by_others(facts, found)
+    first = next(iter(bounds(facts, facts.now, found)), None)
     return pieces < LONG or not first or first.gain < MOST_OF_IT * first.before
 
 
