@@ -5,6 +5,8 @@ OpenMP 5.2, and `// env:` the variables that it needs. Status 0: as the standard
 prints says what was seen and what is right.
 """
 import collections
+import math
+import os
 import pathlib
 import re
 import subprocess
@@ -25,7 +27,7 @@ INCLUDED = '#include "expect.h"\n'
 RUNS = 2                # on each number of threads; each run has rounds of its own
 LOOKS, APART = 5, 0.1   # at the threads of a program that hangs, and the seconds between them
 MOST_LINES = 3
-SOONER = 3              # a third of the time is enough where a program sleeps
+SOONER, LONGEST = 3, 12 # a third of the time is enough where a program sleeps, and many times as long is given
 BROKEN_DOWN = ("internal compiler error", "PLEASE submit a bug report")
 TICKS = slice(11, 13)   # of the fields behind a thread's name in /proc: its time in user and in system code
 RUNS_NOW = "R"          # the first of these fields, of a thread that waits for a processor too
@@ -138,11 +140,7 @@ def run(program, told, conditions, environment):
     variables.update(told.variables, OMP_NUM_THREADS=str(conditions.threads))
     with subprocess.Popen([*words, str(program)], stdout=subprocess.PIPE, stderr=subprocess.PIPE, text=True,
                           errors="replace", env={**environment, **variables}) as process:
-        ended, how = None, ""
-        for share in (1, SOONER - 1):
-            ended, how = ended_in(process, conditions.timeout * share / SOONER)
-            if ended or how == "asleep":
-                break
+        ended, how = ended_in(process, conditions.timeout)
         if not ended:
             process.kill()
             process.communicate()
@@ -151,11 +149,18 @@ def run(program, told, conditions, environment):
 
 
 def ended_in(process, seconds):
-    """What a process has written when it ends in so many seconds, or how it hangs."""
-    try:
-        return process.communicate(timeout=seconds), ""
-    except subprocess.TimeoutExpired:
-        return None, "asleep" if is_asleep(process.pid) else "busy"
+    """What a process has written when it ends, or how it hangs: for a part of so many seconds all its threads sleep, or
+    it has taken them as time and as processor time, or many times as long where others have the processors."""
+    begun = time.monotonic()
+    while True:
+        try:
+            return process.communicate(timeout=seconds / SOONER), ""
+        except subprocess.TimeoutExpired:
+            took = time.monotonic() - begun
+            if is_asleep(process.pid):
+                return None, "asleep"
+            if took > LONGEST * seconds or min(took, processor_time(process.pid)) > seconds:
+                return None, "busy"
 
 
 def verdict_on(status, written, complaints):
@@ -171,6 +176,14 @@ def looked_at(pid):
     """The states of a process's threads, and the processor time that each has taken."""
     stats = [path.read_text().rpartition(")")[2].split() for path in pathlib.Path(f"/proc/{pid}/task").glob("*/stat")]
     return {fields[0] for fields in stats}, [fields[TICKS] for fields in stats]
+
+
+def processor_time(pid):
+    """In seconds, of all threads of a process so far; endless where it has ended."""
+    try:
+        return sum(map(int, sum(looked_at(pid)[1], []))) / os.sysconf("SC_CLK_TCK")
+    except OSError:
+        return math.inf
 
 
 def is_asleep(pid):
