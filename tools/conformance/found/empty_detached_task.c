@@ -2,14 +2,14 @@
 
    Build and run: `gcc -O1 -fopenmp empty_detached_task.c && ./a.out`.
 
-   Expected (OpenMP API 5.2, 12.5 and 12.5.2): the variable in `detach` gets an event, and the task is complete once that
-   is fulfilled. A task without code that waits for something outside of OpenMP is written so. The program prints `an
-   event`.
+   Expected (OpenMP API 5.2, 12.5 and 12.5.2): the variable in `detach` gets an event, and the task is complete once
+   that is fulfilled. A task without code that waits for something outside of OpenMP is written so. The program prints
+   `an event`.
 
    Seen: `no event`. `omp_fulfill_event` with such a variable breaks down.
 
-   With optimization gcc leaves out tasks with an empty body and without `depend` (`scan_omp_task` in omp-low.cc); it does
-   not ask for `detach`.
+   With optimization gcc leaves out tasks with an empty body and without `depend` (`scan_omp_task` in omp-low.cc); it
+   does not ask for `detach`.
 
    At stake: a promise of the standard.
 

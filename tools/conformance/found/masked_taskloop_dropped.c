@@ -2,11 +2,11 @@
 
    Build and run: `clang -O1 -fopenmp masked_taskloop_dropped.c && ./a.out`.
 
-   Expected (OpenMP API 5.2, 17.3, 10.5 and 12.6): one thread of the team creates the tasks of the taskloop, and each turn
-   runs once. The program prints `40`.
+   Expected (OpenMP API 5.2, 17.3, 10.5 and 12.6): one thread of the team creates the tasks of the taskloop, and each
+   turn runs once. The program prints `40`.
 
-   Seen: `0`: the loop is left out, without a word. The code has no call of `__kmpc_taskloop`. With `masked` and `taskloop`
-   as two directives it prints `40`, and so it does with `parallel master taskloop`.
+   Seen: `0`: the loop is left out, without a word. The code has no call of `__kmpc_taskloop`. With `masked` and
+   `taskloop` as two directives it prints `40`, and so it does with `parallel master taskloop`.
 
    At stake: a promise of the standard.
 

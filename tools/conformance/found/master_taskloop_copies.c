@@ -2,8 +2,8 @@
 
    Build and run: `clang -O1 -fopenmp master_taskloop_copies.c && ./a.out`.
 
-   Expected (OpenMP API 5.2, 5.1.1 and 17.4): the combined form means the same as its parts one inside the other. `turns`
-   is shared in the region, and so in the taskloop inside it. The program prints `40`.
+   Expected (OpenMP API 5.2, 5.1.1 and 17.4): the combined form means the same as its parts one inside the other.
+   `turns` is shared in the region, and so in the taskloop inside it. The program prints `40`.
 
    Seen: `0`. With `shared(turns)`, and with the three directives one by one, it prints `40`.
 

@@ -122,7 +122,7 @@ def command_mutants(options, folder):
 
 def try_built(options, bench):
     """The same with runtimes that were built from changed sources, in campaigns."""
-    mutants, plan, seen = built_in(options.built, options.only), plan_of(options, bench), {}
+    mutants, plan, seen = built_in(options.built), plan_of(options, bench), {}
     wrong = False
     print("\n".join(tables.table(tables.BUILT_HEADS, [])))
     with contextlib.ExitStack() as stack:

@@ -108,7 +108,6 @@ def add_runtime_options(name, group):
     if name == "mutants":
         add("--built", default="", metavar="FOLDER",
             help="runtimes built from changed sources by checks/programs/mutants, in place of entry points")
-        add("--only", type=lambda words: words.split(","), default=[], metavar="NAME,..", help="only these mutants")
 
 
 def add_program_options(name, group):
