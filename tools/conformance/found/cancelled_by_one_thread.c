@@ -12,8 +12,8 @@
 
    At stake: a promise of the standard.
 
-   Versions (packages of Debian 12, x86-64): libomp 19.1.7: hung in 10 of 10 runs. Libgomp 12.2.0: in none of 10. Trunk
-   was not tried. */
+   Versions (packages of Debian 12, x86-64): libomp 19.1.7: hung in 10 of 10 runs. Libgomp 12.2.0: in none of 10.
+   Trunk was not tried. */
 #include <omp.h>
 #include <signal.h>
 #include <stdio.h>

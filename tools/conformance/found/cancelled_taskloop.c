@@ -8,13 +8,13 @@
 
    Seen: `run 20 hangs`; one thread is busy in `__kmpc_end_taskgroup`, the others wait in the barrier.
 
-   It looks as if the group counts tasks that nobody completes: a taskloop of many tasks hands its halves on as tasks of
-   the runtime, and with one that is left out the copy of the program's task is lost, which was counted before.
+   It looks as if the group counts tasks that nobody completes: a taskloop of many tasks hands its halves on as tasks
+   of the runtime, and with one that is left out the copy of the program's task is lost, which was counted before.
 
    At stake: a promise of the standard.
 
-   Versions (packages of Debian 12, x86-64): libomp 19.1.7: in two starts run 20 and run 495 hung. Libgomp 12.2.0: none
-   of 1,000. Trunk was not tried. */
+   Versions (packages of Debian 12, x86-64): libomp 19.1.7: in two starts run 20 and run 495 hung. Libgomp 12.2.0:
+   none of 1,000. Trunk was not tried. */
 #include <signal.h>
 #include <stdio.h>
 #include <unistd.h>

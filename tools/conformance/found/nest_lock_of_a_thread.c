@@ -2,8 +2,8 @@
 
    Build and run: `clang -O1 -fopenmp nest_lock_of_a_thread.c && ./a.out`.
 
-   Expected (OpenMP API 5.2, 18.9): a lock belongs to the task that sets it, and only that task may set a nestable lock
-   again. `omp_test_nest_lock` gives 0 in another task. The program prints `0`.
+   Expected (OpenMP API 5.2, 18.9): a lock belongs to the task that sets it, and only that task may set a nestable
+   lock again. `omp_test_nest_lock` gives 0 in another task. The program prints `0`.
 
    Seen: `2`: the undeferred task counts as the one that has the lock.
 

@@ -1,4 +1,5 @@
-// A task of a taskloop may cancel the group that the taskloop has: what has not begun need not run, and the taskloop ends.
+// A task of a taskloop may cancel the group that the taskloop has: what has not begun need not run, and the taskloop
+// ends.
 // openmp: 16.1 cancel construct, 12.6 taskloop construct
 // env: OMP_CANCELLATION=true
 #include "expect.h"

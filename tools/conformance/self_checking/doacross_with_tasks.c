@@ -3,18 +3,18 @@
 #include "expect.h"
 
 int main(void) {
-  for (int round = 0; round < 10; round++) {
-    int cells[40] = {0};
+  for (int round = 0; round < 3; round++) {
+    int cells[14] = {0};
 #pragma omp parallel
 #pragma omp for ordered(1) schedule(static, 1)
-    for (int i = 1; i < 40; i++) {
+    for (int i = 1; i < 14; i++) {
 #pragma omp task
       linger();
 #pragma omp ordered depend(sink : i - 1)
       cells[i] = cells[i - 1] + 1;
 #pragma omp ordered depend(source)
     }
-    expect("the last cell of the chain", cells[39], 39);
+    expect("the last cell of the chain", cells[13], 13);
   }
   return wrong;
 }

@@ -28,9 +28,9 @@ class Cases(unittest.TestCase):
         self.assertEqual(directed_cases(set(C_KINDS), ["tied"])[1], [])
 
     def test_random_programs_are_named_for_their_seeds(self):
-        cases = list(random_cases(range(5, 8), set(C_KINDS), ["tied"], []))
+        cases = list(random_cases(range(5, 8), set(C_KINDS), ["tied"]))
         self.assertEqual([case.name.split("-")[1] for case in cases], ["5", "6", "7"])
-        self.assertEqual(cases, list(random_cases(range(5, 8), set(C_KINDS), ["tied"], [])))
+        self.assertEqual(cases, list(random_cases(range(5, 8), set(C_KINDS), ["tied"])))
 
 
 class Conditions(unittest.TestCase):

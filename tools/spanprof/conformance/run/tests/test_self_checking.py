@@ -76,6 +76,11 @@ class Tries(unittest.TestCase):
         self.assertEqual([(failure.verdict, failure.rule) for failure in tally.failures],
                          [(Verdict("hung", "asleep"), "cancel_loop")])
 
+    def test_hangs_busy_once_it_has_had_the_time_of_a_processor(self):
+        conditions = Conditions(2, 8, 1, 0, 1)
+        tally = self_checking.try_case(bench(script("while :; do :; done")), self.CASE, [conditions])[0]
+        self.assertEqual([failure.verdict for failure in tally.failures], [Verdict("hung", "busy")])
+
     def refused(self, said):
         def refuse(*_):
             raise BuildFailed(said)
