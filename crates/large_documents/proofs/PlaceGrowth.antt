@@ -292,6 +292,9 @@ pub member_inside : (places costs items path : List ℕ) (i : ℕ) → items ≡
 member_inside places costs items path i same within inside =
     let nth = nth_member items path i same inside in
     let here : at path i ≡ at items i = nth.is in
-    let below = within.inside (at path i) (i, nth.inside,
-    get_or_default path i (at path i) 0 nth.inside) in
+    let below = within.inside (at path i) (
+      i,
+      nth.inside,
+      get_or_default path i (at path i) 0 nth.inside,
+    ) in
     omega (arith, here, below)

@@ -233,6 +233,7 @@ first_least x xs least (Some z) some others is =
   where
     smaller : (a b l : ℕ) → a ≤ b → least_with b (Some a) ≡ Some l → a ≡ l
     smaller a b l less e = let same : min b a ≡ a = omega (arith, less) in cc
+
     first : (a b l : ℕ) → a ≤ b → least_with a (Some b) ≡ Some l → a ≡ l
     first a b l less e = let same : min a b ≡ a = omega (arith, less) in cc
 

@@ -92,11 +92,7 @@ fn tell_sums(alloc: Global, graph: &Graph, places: &[u32]) -> Result<Report, All
 
 /// Reads the places of so many segments: the number of one for each of them, in their order. Each
 /// is below the number of segments.
-fn read_places(
-    alloc: Global,
-    text: &[u8],
-    count: u32,
-) -> Result<Vec<u32>, PlacesFault>
+fn read_places(alloc: Global, text: &[u8], count: u32) -> Result<Vec<u32>, PlacesFault>
     requires { 0 < count }
     ensures told { IfOk result (λ places. ArePlaces count text.now places.items) }
     ensures refused { IfErr result (IsPlacesFault count text.now) }
