@@ -38,6 +38,7 @@ grown costs slacks mine path s =
     let made : ℕ → ℕ → Option ℕ → PlaceSums = λ n work slack. record {
       segments = n;
       work = work;
+      on_path = length path;
       path = sum_by (at costs) path;
       slack = slack;
     } in
@@ -56,13 +57,16 @@ grown_path : (costs slacks mine path : List ℕ) (s : ℕ)
     → sums_of costs slacks mine (path ++ s ∷ [])
     ≡ with_member (sums_of costs slacks mine path) (at costs s)
 grown_path costs slacks mine path s =
-    let made : ℕ → PlaceSums = λ n. record {
+    let made : ℕ → ℕ → PlaceSums = λ n cost. record {
       segments = length mine;
       work = sum_by (at costs) mine;
-      path = n;
+      on_path = n;
+      path = cost;
       slack = least_of (map (at slacks) mine);
     } in
-    ap made (sum_by_push (at costs) path s)
+    let all = path ++ s ∷ [] in
+    ap (λ (n : ℕ). made n (sum_by (at costs) all)) (length_push path s)
+    ∙ ap (made (length path + 1)) (sum_by_push (at costs) path s)
 
 -- ---- one more segment in a list
 
@@ -271,6 +275,12 @@ module _ (places costs slacks segments path : List ℕ) (sums : List PlaceSums) 
       let same = ap (λ (x : PlaceSums). x.work) (so_far.each q inside) in
       omega (arith, same, room (at costs) (is_at places q) segments i s nth)
 
+  pub few_on_path : (i q : ℕ) → ArePlaceSums places costs slacks segments (take i path) sums
+      → q < length sums → (get_or sums q no_sums).on_path ≤ i
+  few_on_path i q so_far inside =
+      let same = ap (λ (x : PlaceSums). x.on_path) (so_far.each q inside) in
+      omega (arith, same, few_members places q path i)
+
   pub path_so_far : (i s q : ℕ) → ArePlaceSums places costs slacks segments (take i path) sums
       → IsNth path i s → q < length sums
       → (get_or sums q no_sums).path + at costs s ≤ sum_by (at costs) path
@@ -292,6 +302,9 @@ pub member_inside : (places costs items path : List ℕ) (i : ℕ) → items ≡
 member_inside places costs items path i same within inside =
     let nth = nth_member items path i same inside in
     let here : at path i ≡ at items i = nth.is in
-    let below = within.inside (at path i) (i, nth.inside,
-    get_or_default path i (at path i) 0 nth.inside) in
+    let below = within.inside (at path i) (
+      i,
+      nth.inside,
+      get_or_default path i (at path i) 0 nth.inside,
+    ) in
     omega (arith, here, below)

@@ -109,14 +109,16 @@ add_up costs found places each inside work reached =
     record { none = refl; more = λ s xs. one_longer s xs } in
     let works : IsSumOf (sum_by (at costs)) (at costs) =
     record { none = refl; more = λ s xs. sum_by-cons (at costs) s xs } in
+    let on_path : (k : ℕ) → k < length path → at places (at path k) < n = λ k h.
+    below_count places (at path k) (inside (at path k) (k, h, get_or_default path k (at path k) 0 h))
+    in
     record {
       segments = parts length (λ s. 1) places n all counts (inside_range places)
           ∙ length-range_with_len 0 (length places);
       work = parts (sum_by (at costs)) (at costs) places n all works (inside_range places)
           ∙ all_work places costs each ∙ sym work;
-      path = parts (sum_by (at costs)) (at costs) places n path works
-          (λ k h. below_count places (at path k)
-          (inside (at path k) (k, h, get_or_default path k (at path k) 0 h)))
+      on_path = parts length (λ s. 1) places n path counts on_path;
+      path = parts (sum_by (at costs)) (at costs) places n path works on_path
           ∙ reached;
     }
   where
@@ -233,6 +235,7 @@ first_least x xs least (Some z) some others is =
   where
     smaller : (a b l : ℕ) → a ≤ b → least_with b (Some a) ≡ Some l → a ≡ l
     smaller a b l less e = let same : min b a ≡ a = omega (arith, less) in cc
+
     first : (a b l : ℕ) → a ≤ b → least_with a (Some b) ≡ Some l → a ≡ l
     first a b l less e = let same : min a b ≡ a = omega (arith, less) in cc
 

@@ -12,10 +12,11 @@ over_places costs found places told =
     sum_by (λ p. told (sums_at places costs found.slacks found.chain p))
     (range_with_len 0 (place_count places))
 
--- all places together have all segments, the work and the span
+-- all places together have all segments and the work, all members of the path and the span
 pub record AddUp (costs : List ℕ) (found : Findings) (places : List ℕ) : Type 0 where
   pub segments : over_places costs found places (λ sums. sums.segments) ≡ length places
   pub work : over_places costs found places (λ sums. sums.work) ≡ found.work
+  pub on_path : over_places costs found places (λ sums. sums.on_path) ≡ length found.chain
   pub path : over_places costs found places (λ sums. sums.path) ≡ found.span
 
 -- a segment counts at its place, of which a row tells

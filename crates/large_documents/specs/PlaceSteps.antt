@@ -44,6 +44,7 @@ abbrev pub with_segment : PlaceSums → (cost slack : ℕ) → PlaceSums
 with_segment sums cost slack = record {
   segments = sums.segments + 1;
   work = sums.work + cost;
+  on_path = sums.on_path;
   path = sums.path;
   slack = least_with slack sums.slack;
 }
@@ -52,6 +53,7 @@ abbrev pub with_member : PlaceSums → (cost : ℕ) → PlaceSums
 with_member sums cost = record {
   segments = sums.segments;
   work = sums.work;
+  on_path = sums.on_path + 1;
   path = sums.path + cost;
   slack = sums.slack;
 }

@@ -64,13 +64,14 @@ abbrev pub least_of : List ℕ → Option ℕ
 least_of [] = None
 least_of (x ∷ xs) = least_with x (least_of xs)
 
--- How many segments there are, the sum of their costs, the sum of the costs of those on the path, and
--- the least of their slacks.
-abbrev pub sums_of : (costs slacks segments on_path : List ℕ) → PlaceSums
-sums_of costs slacks segments on_path = record {
+-- How many segments there are, the sum of their costs, the same of those on a path, and the least of
+-- the slacks.
+abbrev pub sums_of : (costs slacks segments path : List ℕ) → PlaceSums
+sums_of costs slacks segments path = record {
   segments = length segments;
   work = sum_by (at costs) segments;
-  path = sum_by (at costs) on_path;
+  on_path = length path;
+  path = sum_by (at costs) path;
   slack = least_of (map (at slacks) segments);
 }
 
@@ -87,15 +88,17 @@ sums_at places costs slacks path p =
 -- ---- the table
 
 abbrev pub no_sums : PlaceSums
-no_sums = record { segments = 0; work = 0; path = 0; slack = None }
+no_sums = record { segments = 0; work = 0; on_path = 0; path = 0; slack = None }
 
 abbrev pub places_header : List (List ℕ)
 places_header =
-    codes "place" ∷ codes "segments" ∷ codes "work" ∷ codes "path" ∷ codes "slack" ∷ []
+    codes "place" ∷ codes "segments" ∷ codes "work" ∷ codes "on_path" ∷ codes "path" ∷ codes "slack" ∷ []
 
 -- a place, and what is told of it
 abbrev pub row_of : PlaceSums → ℕ → List (Option ℕ)
-row_of sums p = Some p ∷ Some sums.segments ∷ Some sums.work ∷ Some sums.path ∷ sums.slack ∷ []
+row_of sums p =
+    Some p ∷ Some sums.segments ∷ Some sums.work ∷ Some sums.on_path ∷ Some sums.path ∷ sums.slack
+    ∷ []
 
 abbrev pub place_row : List PlaceSums → ℕ → List (Option ℕ)
 place_row sums p = row_of (slice_index_or sums p no_sums) p

@@ -24,7 +24,9 @@ pub struct PlaceSums {
     pub segments: u64,
     /// The sum of their costs.
     pub work: u64,
-    /// The sum of the costs of those on the critical path.
+    /// How many of them stand on the critical path.
+    pub on_path: u64,
+    /// The sum of the costs of these.
     pub path: u64,
     /// The least of their slacks.
     pub slack: Option<u64>,
@@ -45,6 +47,7 @@ pub enum PlacesFault {
 const NO_SUMS: PlaceSums = PlaceSums {
     segments: 0,
     work: 0,
+    on_path: 0,
     path: 0,
     slack: None,
 };
@@ -92,11 +95,7 @@ fn tell_sums(alloc: Global, graph: &Graph, places: &[u32]) -> Result<Report, All
 
 /// Reads the places of so many segments: the number of one for each of them, in their order. Each
 /// is below the number of segments.
-fn read_places(
-    alloc: Global,
-    text: &[u8],
-    count: u32,
-) -> Result<Vec<u32>, PlacesFault>
+fn read_places(alloc: Global, text: &[u8], count: u32) -> Result<Vec<u32>, PlacesFault>
     requires { 0 < count }
     ensures told { IfOk result (λ places. ArePlaces count text.now places.items) }
     ensures refused { IfErr result (IsPlacesFault count text.now) }
@@ -205,6 +204,7 @@ fn with_segment(sums: PlaceSums, cost: u64, slack: u64) -> PlaceSums
     PlaceSums {
         segments: sums.segments + 1,
         work: sums.work + cost,
+        on_path: sums.on_path,
         path: sums.path,
         slack: Some(least),
     }
@@ -212,10 +212,12 @@ fn with_segment(sums: PlaceSums, cost: u64, slack: u64) -> PlaceSums
 
 /// The sums of a place with one more segment of the path.
 fn with_member(sums: PlaceSums, cost: u64) -> PlaceSums
-    requires { sums.path + cost < 2 ^ 64 }
+    requires members { sums.on_path + 1 < 2 ^ 64 }
+    requires path { sums.path + cost < 2 ^ 64 }
     ensures { result ≡ with_member sums cost }
 {
     PlaceSums {
+        on_path: sums.on_path + 1,
         path: sums.path + cost,
         ..sums
     }
@@ -226,7 +228,7 @@ fn places_table(alloc: Global, sums: &[PlaceSums]) -> Result<Vec<u8>, AllocFault
     ensures { IfOk result (λ text. text.items
         ≡ numbered_table places_header (place_row sums.now) 0 (length sums.now)) }
 {
-    let header = ["place", "segments", "work", "path", "slack"];
+    let header = ["place", "segments", "work", "on_path", "path", "slack"];
     let mut rows = Table::new(alloc, &header)?;
     for place in 0..sums.len() {
         rows = rows.with_row(&place_row(sums, place))?;
@@ -234,7 +236,7 @@ fn places_table(alloc: Global, sums: &[PlaceSums]) -> Result<Vec<u8>, AllocFault
     rows.into_text()
 }
 
-fn place_row(sums: &[PlaceSums], place: usize) -> [Option<u64>; 5]
+fn place_row(sums: &[PlaceSums], place: usize) -> [Option<u64>; 6]
     requires { place < length sums.now }
     ensures { result ≡ place_row sums.now place }
 {
@@ -243,6 +245,7 @@ fn place_row(sums: &[PlaceSums], place: usize) -> [Option<u64>; 5]
         Some(place as u64),
         Some(of.segments),
         Some(of.work),
+        Some(of.on_path),
         Some(of.path),
         of.slack,
     ]

@@ -1,7 +1,7 @@
 use Rattle.std.proofs.Common.{ap, arith, length, set, slice_index_or, subst, take, List, ℕ}
 use Rattle.std.proofs.lemmas.List.{take_all}
-use Rattle.large_documents.proofs.PlaceGrowth.{member_inside, more_path, nth_member, path_so_far}
-use Rattle.large_documents.proofs.PlaceGrowth.{place_inside}
+use Rattle.large_documents.proofs.PlaceGrowth.{few_on_path, member_inside, more_path, nth_member}
+use Rattle.large_documents.proofs.PlaceGrowth.{path_so_far, place_inside}
 use Rattle.large_documents.specs.Places.{segments_of}
 use Rattle.large_documents.specs.PlaceSteps.{ArePlaceSums}
 use Rattle.large_documents.proofs.places.add_path.Goals as goal
@@ -35,8 +35,22 @@ bounds-sums-place c =
     place_inside _ _ _ _ _ _ c.loop-member.invariant
     (slice_index_or c.chain-member-items.result.now c.loop-member.member-index 0) inside
 
-pub with_member-requires : goal.with_member-requires
-with_member-requires c =
+pub with_member-requires-clause-members : goal.with_member-requires-clause-members
+with_member-requires-clause-members c =
+    let items = c.chain-member-items.result.now in
+    let places = c.args.places.now in
+    let path = c.args.found.now.chain in
+    let i = c.loop-member.member-index in
+    let s = slice_index_or items i 0 in
+    let inside = member_inside places c.args.costs.now items path i c.chain-member-items.ensures
+    c.requires.path c.loop-member-test.true in
+    let few = few_on_path places c.args.costs.now c.args.found.now.slacks (segments_of places) path
+    c.loop-member.sums i (slice_index_or places s 0) c.loop-member.invariant
+    (place_inside _ _ _ _ _ _ c.loop-member.invariant s inside) in
+    omega (arith, few, c.loop-member-test.true, c.chain-member-items.type_inv)
+
+pub with_member-requires-clause-path : goal.with_member-requires-clause-path
+with_member-requires-clause-path c =
     let items = c.chain-member-items.result.now in
     let places = c.args.places.now in
     let path = c.args.found.now.chain in

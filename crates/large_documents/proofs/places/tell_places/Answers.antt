@@ -35,8 +35,8 @@ returns-in-Ok c =
     }))
     c.tell_sums.ensures
 
-pub returns-in-Err : goal.returns-in-Err
-returns-in-Err c =
+pub returns : goal.returns
+returns c =
     let of = c.in_ok-graph.ensures in
     let count = c.len.ensures.count ∙ sym (same_count c.args.table c.in_ok-graph.graph of) in
     let why = subst (λ (n : ℕ). IsPlacesFault n c.args.rest.now c.in-Err.fault) count
