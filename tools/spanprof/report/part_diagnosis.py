@@ -1,5 +1,5 @@
 """The first screen: a sentence, three times, where the threads' time went, the change as a diff, the plan, how sure."""
-from spanprof.account_words import lasting
+from spanprof.durations import lasting
 from spanprof.diagnosis.sentences import (after_words, best_words, bound_word, change_sentence, loss_name,
                                           lost_sentence, several, speed_words, sure_words, unsure, words_of_threads)
 from spanprof.diagnosis.source_change import diff
