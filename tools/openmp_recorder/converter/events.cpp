@@ -57,7 +57,7 @@ Events event_lines(const Region &region) {
   return out;
 }
 
-void tell_times(const Region &region, const Events &events, const Taker &taker) {
+void print_times(const Region &region, const Events &events, const Taker &taker) {
   int64_t last = region.time.end - region.time.begin;
   for (const SegmentTime &time : events.times) last = std::max(last, time.end);
   size_t threads = std::max<size_t>(region.threads, events.workers);

@@ -3,7 +3,7 @@
 #include <vector>
 
 #include "run.hpp"
-#include "text.hpp"
+#include "program_text.hpp"
 
 // When a segment ran, in nanoseconds of the wall clock since the region began.
 struct SegmentTime {
@@ -20,4 +20,4 @@ struct Events {
 Events event_lines(const Region &region);
 // What follows the text in a timed document: the times of all segments, on the threads of the region and those that
 // ran its tasks beside them.
-void tell_times(const Region &region, const Events &events, const Taker &taker);
+void print_times(const Region &region, const Events &events, const Taker &taker);

@@ -3,7 +3,7 @@
 #include <cerrno>
 #include <cstring>
 
-#include "tell.hpp"
+#include "message.hpp"
 
 namespace {
 std::string unfinished(const std::string &name) { return name + ".new"; }
@@ -31,6 +31,6 @@ bool NewFile::end() {
   if (good && !rename(unfinished(name).c_str(), name.c_str())) return true;
   int why = errno;
   if (file) remove(unfinished(name).c_str()), remove(name.c_str());
-  Line("unwritten").put("file", name).put("why", std::string(std::strerror(why)));
+  Message("unwritten").put("file", name).put("why", std::string(std::strerror(why)));
   return false;
 }

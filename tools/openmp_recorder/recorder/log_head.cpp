@@ -19,7 +19,7 @@
 #include "own_stack.hpp"
 #include "path_numbers.hpp"
 #include "samples.hpp"
-#include "say.hpp"
+#include "notice.hpp"
 #include "system_calls.hpp"
 
 namespace {
@@ -64,7 +64,7 @@ Head *map_head(const std::string &path) {
 
 // Of the parent, which would be taken for one that runs as long as the child does: the file's map holds it as well. The
 // program may have closed the file, and use its number for another one.
-void let_go_of_lock() {
+void release_head_lock() {
   if (head) munmap(std::exchange(head, nullptr), sizeof(Head));
   struct stat open_there, own;
   std::string path = beginning.folder + log_form::head_file;
@@ -102,7 +102,7 @@ bool make_log() {
   head = map_head(beginning.folder + log_form::head_file);
   if (!head) return false;
   fill_head();
-  tell_modules(beginning.folder);
+  write_modules(beginning.folder);
   if (beginning.call_paths) begin_paths(beginning.folder);
   return true;
 }
@@ -225,7 +225,7 @@ void stop_log(Stopped why) {
     head->stop = read_pair();
     head->stopped = why;
   }
-  if (why != Stopped::End) say(word_of(why));
+  if (why != Stopped::End) notice(word_of(why));
 }
 
 void end_log(log_form::HowEnded how) {
@@ -261,7 +261,7 @@ void go_on_with_log() {
 void forget_log() {
   new (&making) std::mutex;  // another thread may have held it when the process forked
   forget_paths();
-  let_go_of_lock();
+  release_head_lock();
   thread_log = left_log = nullptr;
   forks = false;
   new (&of_ended) std::vector<ThreadLog *>;

@@ -103,7 +103,7 @@ void Samples::begin_file(const std::string &name) {
   else used = 0;
   if (memory) munmap(memory, window_bytes);
   std::memcpy(path, name.c_str(), name.size() + 1);
-  is_over = !window;
+  is_closed = !window;
   each = 1;
 }
 
@@ -113,7 +113,7 @@ void Samples::begin_thread() {
   (void)&at_end;
   // The program may have claimed the signal since: then it is not ours to send.
   if (timer >= 0 || !sample_signal()) return;
-  if (!window && !is_over) window = map_memory();
+  if (!window && !is_closed) window = map_memory();
   stack = own_stack();
   lowest = std::exchange(stack.lowest, 0);
   // Last: the first signal may come at once, and needs window and stack.
@@ -158,7 +158,7 @@ bool Samples::make_room() {
   // Where that fails `is_over` ends the samples of this thread; a handler can print nothing.
   window = map_window(path, ++windows);
   used = 0;
-  is_over = !window;
+  is_closed = !window;
   return window;
 }
 

@@ -32,7 +32,7 @@ class Waiting {
     if (samples) began = is_stamp ? read_time_stamp(After::Itself) : static_cast<uint64_t>(wall_time());
   }
   ~Waiting() {
-    if (samples && took() >= static_cast<double>(least_wait)) tell();
+    if (samples && took() >= static_cast<double>(least_wait)) record();
   }
   Waiting(const Waiting &) = delete;
 
@@ -47,7 +47,7 @@ class Waiting {
     return static_cast<double>(read_time_stamp(After::Itself) - began) * nanoseconds_of_tick();
   }
   // The thread may have lost its samples during the call, as in the child of a fork.
-  __attribute__((noinline)) void tell() const {
+  __attribute__((noinline)) void record() const {
     if (!in_runtime(place) && samples == own_samples) samples->put_wait(function, static_cast<int64_t>(took()));
   }
 };

@@ -71,8 +71,8 @@ TEST(what_is_no_sample_ends_its_window_alone) {
 
 TEST(samples_belong_to_the_segment_that_runs) {
   Program made;
-  made.sample(0, 0, 4000).after(9).add(0, Told::SyncBegin, 1, 0, ompt_sync_region_taskwait);
-  made.add(0, Told::SyncEnd, 1, 0, ompt_sync_region_taskwait).sample(0, 1, 8000).sample(0, 0, 4000).after(9);
+  made.sample(0, 0, 4000).after(9).add(0, RecordKind::SyncBegin, 1, 0, ompt_sync_region_taskwait);
+  made.add(0, RecordKind::SyncEnd, 1, 0, ompt_sync_region_taskwait).sample(0, 1, 8000).sample(0, 0, 4000).after(9);
   made.sample(0, 1, 900, true);
   end_region(made);
   made.times();

@@ -31,7 +31,7 @@ from spanprof.conformance.report.texts import Report
 from spanprof.conformance.run.reproduce import Limits, reproduce_all
 from spanprof.conformance.judge.segments import Table
 from spanprof.conformance.run.sparing import SparingBench
-from spanprof.conformance.generate.text import text_of
+from spanprof.conformance.generate.text_writer import text_of
 from spanprof.conformance.run.took import taken
 from spanprof.conformance.generate.variants import in_variant
 

@@ -9,7 +9,7 @@ from spanprof.diagnosis.losses import holds_neighbours, kind_of_starved, most_sh
 from spanprof.diagnosis.places import OF_THREADS, SERIAL, SHARE, in_text
 from spanprof.errors import Fault
 from spanprof.progress import Progress, each
-from spanprof.text import BARRIER
+from spanprof.program_text import BARRIER
 from spanprof.whatif.creating import costs_for
 from spanprof.whatif.numbers import greedy_end
 from spanprof.whatif.requests import Request, applied, changes

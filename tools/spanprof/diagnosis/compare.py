@@ -6,7 +6,7 @@ import re
 from dataclasses import dataclass
 from typing import List, Optional
 
-from spanprof.account_words import lasting
+from spanprof.durations import lasting
 from spanprof.diagnosis.places import lines_between
 from spanprof.diagnosis.schema import milliseconds
 from spanprof.diagnosis.sentences import LABEL, WIDTH, change_sentence, lost_sentence, shortened

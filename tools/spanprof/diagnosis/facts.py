@@ -8,8 +8,7 @@ from dataclasses import dataclass, field, replace
 from typing import Dict, List, Optional
 
 from spanprof import client
-from spanprof.account import account_of
-from spanprof.account_program import NoAccount
+from spanprof.breakdown_program import NoBreakdown
 from spanprof.diagnosis.calls import Sampled, calls_of, is_of_ranks, is_start, plain
 from spanprof.diagnosis.library_locks import set_library_locks
 from spanprof.diagnosis.lock_times import locks_of
@@ -22,8 +21,9 @@ from spanprof.idle import idle_by_place, most_at_once
 from spanprof.recording import document
 from spanprof.regions import program_of, union
 from spanprof.segment_table import code_in
-from spanprof.text import BEGINNING
+from spanprof.program_text import BEGINNING
 from spanprof.text_file import TextFile
+from spanprof.time_breakdown import breakdown_of
 from spanprof.whatif.numbers import numbers_of
 
 RUNTIMES = {"llvm": "LLVM", "gnu": "gcc"}
@@ -367,10 +367,10 @@ def facts_of(recording, end_of=greedy_end):
     set_allocating(facts)
     facts.interpreter = interpreter_of(facts)
     try:
-        set_breakdown(facts, account_of(head, numbers["work"], document(recording), program.names))
+        set_breakdown(facts, breakdown_of(head, numbers["work"], document(recording), program.names))
         if is_disturbed(facts) and head.clock == OWN_CLOCK:
             set_disturbed(facts, starved_alone(path, program.names, facts.threads))
-    except NoAccount:
+    except NoBreakdown:
         set_by_greedy(facts, head, end_of(path, facts.threads))
     set_library_locks(facts)
     return facts

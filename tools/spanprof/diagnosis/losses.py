@@ -10,7 +10,7 @@ from spanprof.diagnosis.calls import A_SAMPLE, RUNTIME, in_system, shares
 from spanprof.diagnosis.causes import BUSY, BY_KIND, SECOND
 from spanprof.diagnosis.own_code import of_interpreter, serial_places
 from spanprof.diagnosis.places import A_START, AROUND_REGIONS, OF_THREADS, OWN, SERIAL, SHARE
-from spanprof.text import BEGINNING, TURNS, where
+from spanprof.program_text import BEGINNING, TURNS, where
 
 MAPPING = ("mmap", "munmap", "mremap", "madvise", "brk", "sbrk")
 SMALL = 5000            # nanoseconds of code in a task, below which creating and starting it costs much beside it

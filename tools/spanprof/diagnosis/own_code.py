@@ -2,7 +2,7 @@
 that it loads without lines."""
 import re
 
-from spanprof.account_words import lasting
+from spanprof.durations import lasting
 from spanprof.diagnosis.calls import A_SAMPLE, LEAST, OF_SYSTEM, OUTERMOST, shares, together
 from spanprof.diagnosis.places import SERIAL
 

@@ -8,7 +8,7 @@ from spanprof.diagnosis.losses import (in_code_losses, is_in_a_row, kind_of_task
                                        share_of_start)
 from spanprof.diagnosis.own_code import own_share
 from spanprof.diagnosis.places import SERIAL, TASK
-from spanprof.text import BEGINNING
+from spanprof.program_text import BEGINNING
 
 STEPS = 3
 SPREAD = 0.16       # of a predicted time: nine of ten were within

@@ -1,7 +1,7 @@
 """What threads starved of a run's own doing, and what because other programs took processors: costs are without the
 time in which a thread was preempted, so a schedule of the text tells how the run would have gone without them."""
 from spanprof import client
-from spanprof.account import Rows
+from spanprof.time_breakdown import Rows
 from spanprof.diagnosis.losses import divided
 from spanprof.idle import idle_by_place
 from spanprof.text_file import TextFile

@@ -2,7 +2,7 @@
 import argparse
 import os
 
-from spanprof.account_words import lasting
+from spanprof.durations import lasting
 from spanprof.answers import Answers
 from spanprof.command import Console, end_with
 from spanprof.diagnosis.sentences import shortened
@@ -11,8 +11,8 @@ from spanprof.head import counted
 from spanprof.imports.folder import write
 from spanprof.imports.formats import FORMATS, format_of, read
 from spanprof.path.table import find_path
+from spanprof.program_text import where
 from spanprof.recording import ENDING, TEXT, given_text
-from spanprof.text import where
 from spanprof.text_file import TextFile
 from spanprof.version import Version
 from spanprof.whatif.numbers import numbers_of

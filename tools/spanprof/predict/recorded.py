@@ -4,7 +4,7 @@ from dataclasses import dataclass, replace
 from typing import Optional, Tuple
 
 from spanprof import client
-from spanprof.claims import is_divided
+from spanprof.validity import is_divided
 from spanprof.errors import Fault
 from spanprof.head import Head, comments, read_head
 from spanprof.predict.burden import text_with
@@ -12,7 +12,7 @@ from spanprof.predict.program import Program, read_program
 from spanprof.predict.times import rows_of, times_of
 from spanprof.recording import document, open_recording
 from spanprof.segment_table import read_code
-from spanprof.text import DIVIDER, has_loops
+from spanprof.program_text import DIVIDER, has_loops
 
 RUNTIMES = LLVM, GNU = "llvm", "gnu"
 

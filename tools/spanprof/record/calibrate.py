@@ -17,7 +17,7 @@ from spanprof.recording import ENDING, LOG
 from spanprof.record.console import say, tell
 from spanprof.record.run import environment, without_recorder
 from spanprof.record.runtime import llvm_runtime
-from spanprof.text import OF_A_THREAD
+from spanprof.program_text import OF_A_THREAD
 from spanprof.text_file import TextFile
 
 CALIBRATION = Product("calibrate", "the program for --calibrate", "clang-19 libomp-19-dev make")

@@ -19,7 +19,7 @@ from spanprof.record.run import environment, signal_name, watched
 from spanprof.record.runtime import choose, refuse_targets, what_it_lacks
 from spanprof.record.runtime_name import note_of
 from spanprof.record.target import find, launched
-from spanprof.record.told import Told
+from spanprof.record.messages import Messages
 from spanprof.record.work import Work, taken
 
 
@@ -28,7 +28,7 @@ class Recorded:
     """How the program ended, its recordings with a text, and what is told."""
     status: int
     found: List[str] = field(default_factory=list)
-    said: Told = None
+    said: Messages = None
 
 
 def check_earlier(path, out, is_replaced):
@@ -138,7 +138,7 @@ class Session:
 
     def write_all(self, folders, out, ended):
         facts = self.facts_of(ended, out)
-        return Told(bool(folders), [one for folder in folders for one in self.write(folder, out, facts)])
+        return Messages(bool(folders), [one for folder in folders for one in self.write(folder, out, facts)])
 
     def write_text(self, folder, out):
         """The text of the whole program of a log in its folder; empty where there is none."""

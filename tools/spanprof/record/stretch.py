@@ -10,7 +10,7 @@ from spanprof.errors import Fault, reading
 from spanprof.head import head_of, head_text
 from spanprof.recording import REGIONS, TEXT, TIMES
 from spanprof.regions import program_of
-from spanprof.text import BLOCKS, HEADER
+from spanprof.program_text import BLOCKS, HEADER
 
 ANY_BYTES = {"encoding": "utf-8", "errors": "surrogateescape"}
 SECONDS, WORD = re.compile(r"\d+(\.\d*)?s?"), re.compile(r"\s*(\w+|\})?")

@@ -3,7 +3,7 @@
 A person reads it to decide about a program, and what is proved is proved of the text. So each line that says `proved`
 says of what, and where the head tells that the text is not the program the line says that in its place.
 """
-from spanprof.claims import (OTHERWISE, against_parallelism, against_span, gain_may_be_less, gain_may_be_more,
+from spanprof.validity import (OTHERWISE, against_parallelism, against_span, gain_may_be_less, gain_may_be_more,
                              is_divided, is_of_one_thread, is_partial, least_end, lock_binds, pieces_words,
                              share_covered, tasks_made, tenths, why_not_of_more_threads)
 from spanprof.client import Refused

@@ -2,7 +2,7 @@
 import statistics
 from typing import NamedTuple
 
-from spanprof.account_words import lasting
+from spanprof.durations import lasting
 from spanprof.diagnosis.calls import IN_CALLS, is_of_ranks, samples_in
 from spanprof.record.ranks import rank_in
 

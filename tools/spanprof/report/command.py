@@ -6,7 +6,7 @@ import sys
 
 from spanprof.command import Console, check_files, count, end_with, percent, show, writing
 from spanprof.diagnosis.compare import as_json as comparison_json, compared, is_slower, lines as comparison_lines
-from spanprof.diagnosis.tell import told_of
+from spanprof.diagnosis.output import output_of
 from spanprof.errors import Fault
 from spanprof.progress import Progress
 from spanprof.recording import open_recording, text_of
@@ -88,7 +88,7 @@ def write(path, text):
 def write_the_rest(chosen, progress):
     """What was asked for; what was written is told."""
     if chosen.json:
-        print(json.dumps(told_of(open_recording(chosen.program), chosen.source or ()).json(), indent=2))
+        print(json.dumps(output_of(open_recording(chosen.program), chosen.source or ()).json(), indent=2))
     written = outputs(chosen)
     texts = ((chosen.program, ""), (chosen.other, "other ")) if chosen.output or chosen.trace else ()
     views = [View(text, chosen.threads, chosen.source, prefix, progress) for text, prefix in texts if text]
@@ -118,7 +118,7 @@ def check(chosen):
 
 def compare(chosen):
     """Prints what two recordings differ in; the process ends where the second is slower than it may be."""
-    told = [told_of(open_recording(path), chosen.source or ()) for path in (chosen.program, chosen.after)]
+    told = [output_of(open_recording(path), chosen.source or ()) for path in (chosen.program, chosen.after)]
     found = compared(*told)
     print(json.dumps(comparison_json(found), indent=2) if chosen.json else "\n".join(comparison_lines(found)))
     if is_slower(found, chosen.fail_above):

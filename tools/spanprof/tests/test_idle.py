@@ -2,7 +2,7 @@ import random
 import unittest
 from fractions import Fraction
 
-from spanprof.account import Row, Rows
+from spanprof.time_breakdown import Row, Rows
 from spanprof.idle import idle_by_place, rounded
 
 # of the worked program of docs/MODEL.md: thread, ready, begin and end of each segment

@@ -4,7 +4,7 @@ import os
 import re
 import unittest
 
-from spanprof.claims import moved
+from spanprof.validity import moved
 from spanprof.head import Head
 from spanprof.remarks import UNFINISHED, WORDS, in_json, in_words, read_remark, remark_of
 

@@ -6,7 +6,7 @@ A change counts in `count` what it has changed.
 from array import array
 from collections import Counter
 
-from spanprof.text import BLOCKS
+from spanprof.program_text import BLOCKS
 from spanprof.whatif.statements import MOST, as_statements
 
 

@@ -19,7 +19,7 @@ from spanprof.whatif.numbers import numbers_of
 from spanprof.whatif.requests import Request, applied, changes
 from spanprof.whatif.statements import as_statements
 from spanprof.whatif.survey import survey
-from spanprof.whatif.tell import as_json, lines, notes
+from spanprof.whatif.output import as_json, lines, notes
 from spanprof.whatif.texts import Text, version_of, write
 
 DESCRIPTION = """Changes a recorded program text as one might change the program, and compares work, span, and the

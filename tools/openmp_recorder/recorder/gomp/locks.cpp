@@ -23,7 +23,7 @@ template <class Own, class... Lock>
 void leave(ompt_mutex_t kind, const void *name, Own own, Lock... lock) {
   Release when = release_begins();
   own(lock...);
-  on_let_go(kind, name_of(name), when);
+  on_release(kind, name_of(name), when);
 }
 
 // A lock that is held now, without a wait.

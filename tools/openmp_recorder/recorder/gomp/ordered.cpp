@@ -6,7 +6,7 @@
 #include <vector>
 
 #include "callbacks.hpp"
-#include "told.hpp"
+#include "record_kind.hpp"
 #include "here.hpp"
 #include "own.hpp"
 
@@ -48,7 +48,7 @@ ENTRY void GOMP_ordered_end() {
   ENTER(GOMP_ordered_end);
   Release when = release_begins();
   own_GOMP_ordered_end();
-  on_let_go(order, name_of_order(), when);
+  on_release(order, name_of_order(), when);
 }
 
 ENTRY void GOMP_doacross_post(long *turn) {

@@ -10,7 +10,7 @@
 #include "callers.hpp"
 #include "life.hpp"
 #include "log_form.hpp"
-#include "say.hpp"
+#include "notice.hpp"
 
 CodeRange recorded_callers;
 
@@ -86,7 +86,7 @@ void *llvms_function(const char *name, const void *place) {
 void *others_function(const char *name, const void *place) {
   if (!last_caller.code.has(place)) last_caller = {code_around(place), runtime_called_by(place)};
   if (!last_caller.library || last_caller.library == own_library()) return nullptr;
-  tell_unseen(log_form::unseen_runtime);
+  report_unseen(log_form::unseen_runtime);
   return dlsym(last_caller.library, name);
 }
 
@@ -94,6 +94,6 @@ void *own_function(const char *name) {
   void *function = dlsym(own_library(), name);
   if (function) return function;
   // The call cannot be carried out, and to return would change what the program computes.
-  say(std::string("the runtime has no ") + name + ", which the program calls");
+  notice(std::string("the runtime has no ") + name + ", which the program calls");
   abort();
 }

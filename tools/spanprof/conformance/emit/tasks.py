@@ -6,7 +6,7 @@ from spanprof.conformance.emit.forms import (addends, adds, chunks_of, form_of, 
                                              is_of_regions, is_target, is_wait_for_items)
 from spanprof.conformance.emit.locations import Locations
 from spanprof.conformance.generate.program import Group, Loop, Task, Wait, Work, segment_count
-from spanprof.conformance.generate.text import text_of
+from spanprof.conformance.generate.text_writer import text_of
 
 TEMPLATE = DATA / "harness" / "program.c.in"
 WAITED_FOR, CREATES = 1, 2  # what the harness delays: see delays.c

@@ -19,7 +19,7 @@ from spanprof.conformance.judge.verdicts import TOO_MANY, Verdict
 from spanprof.conformance.run.launch import Conditions, launch
 from spanprof.conformance.judge.segments import Table
 from spanprof.conformance.run.settings import without_harness
-from spanprof.conformance.generate.text import text_of
+from spanprof.conformance.generate.text_writer import text_of
 from spanprof.conformance.judge.tied import moved, unconstrained
 from spanprof.conformance.run.toolchain import BuildFailed
 from spanprof.conformance.generate.variants import VARIANTS

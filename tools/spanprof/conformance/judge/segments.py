@@ -11,7 +11,7 @@ from spanprof.conformance.emit.loops import counts_down
 from spanprof.conformance.emit.forms import (chunks_of, form_of, has_sum, is_cancelled, is_detached, is_of_regions,
                                              kind_in_c)
 from spanprof.conformance.generate.program import Group, Loop, Wait, Work
-from spanprof.conformance.generate.text import head_of
+from spanprof.conformance.generate.text_writer import head_of
 
 
 @dataclass

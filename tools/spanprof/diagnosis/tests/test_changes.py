@@ -10,7 +10,7 @@ from spanprof.diagnosis.tests.worked import TEXT, facts, place, program
 from spanprof.errors import Fault
 from spanprof.head import read_head
 from spanprof.marks import statements
-from spanprof.text import Statement
+from spanprof.program_text import Statement
 from spanprof.whatif.requests import Request
 from spanprof.whatif.statements import of_stream
 from spanprof.whatif.survey import survey

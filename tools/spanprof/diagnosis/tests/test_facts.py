@@ -5,7 +5,7 @@ import unittest
 from types import SimpleNamespace
 from unittest import mock
 
-from spanprof.account import Account, Row, Rows
+from spanprof.time_breakdown import TimeBreakdown, Row, Rows
 from spanprof.diagnosis import facts as module
 from spanprof.diagnosis.calls import Sampled, calls_of
 from spanprof.diagnosis.diagnose import diagnose
@@ -168,7 +168,7 @@ class Starting(unittest.TestCase):
 
     def test_threads_that_only_took_turns_are_not_idle(self):
         rows = [Row(0, 0, 0, 10), Row(5, 10, 10, 30), Row(0, 30, 30, 40)]
-        found = Account(8, 50, 40, 0, 240, 120, rows=Rows.of(rows), places=["a", "b", "c"])
+        found = TimeBreakdown(8, 50, 40, 0, 240, 120, rows=Rows.of(rows), places=["a", "b", "c"])
         one = of_those_at_once(found, 2)
         self.assertEqual((one.threads, one.delayed, one.starved, one.outside), (2, 0, 40, 20))
         self.assertEqual(sum(one.parts.values()), 2 * 50)

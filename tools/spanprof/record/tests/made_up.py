@@ -2,7 +2,7 @@
 from dataclasses import dataclass, field
 
 from spanprof.tests.columns import code_of, rows_of
-from spanprof.text import Segment
+from spanprof.program_text import Segment
 
 LDD_GCC = """\
 \tlinux-vdso.so.1 (0x00007ff521519000)

@@ -2,7 +2,7 @@
 import itertools
 import unittest
 
-from spanprof.claims import is_divided
+from spanprof.validity import is_divided
 from spanprof.record.summary import summary
 from spanprof.head import Lock
 from spanprof.record.tests.made_up import Answers, Head

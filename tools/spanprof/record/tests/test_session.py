@@ -12,7 +12,7 @@ from spanprof.record.runs import record_often
 from spanprof.record.run import Ended
 from spanprof.record.runtime import Chosen
 from spanprof.record.session import Recorded
-from spanprof.record.told import Told
+from spanprof.record.messages import Messages
 from spanprof.recording import Recording, open_recording
 from spanprof.tests.in_folder import InFolder
 from spanprof.tests.recordings import TEXT, recording, write
@@ -33,10 +33,10 @@ class Earlier(InFolder):
 class Reasons(unittest.TestCase):
     def why(self, status=0, loaded=True, things=(), has_runtime=True):
         recorded = mock.Mock(out="/tmp/mine", has_runtime=has_runtime)
-        return session.why_nothing(status, Told(loaded, list(things)), recorded)
+        return session.why_nothing(status, Messages(loaded, list(things)), recorded)
 
     def test_each(self):
-        nothing = {"told": "no tasks", "inside": False}
+        nothing = {"message": "no tasks", "inside": False}
         self.assertEqual(self.why(status=-11, things=[nothing]),
                          "the program ended by SIGSEGV; no parallel region with tasks")
         self.assertEqual(self.why(things=[nothing]), "no parallel region with tasks")
@@ -84,7 +84,7 @@ class Runs(InFolder):
 
     def convert(self, program, log, folder, variables):
         write(os.path.join(folder, "program.tasks"), TEXT)
-        return [{"told": "text", "file": os.path.join(folder, "program.tasks")}]
+        return [{"message": "text", "file": os.path.join(folder, "program.tasks")}]
 
     def record(self, made, convert=None):
         told = io.StringIO()
@@ -120,7 +120,7 @@ class Runs(InFolder):
 
     def test_a_converter_that_dies(self):
         """The log stays, and no tool reads a text."""
-        fault = {"told": "fault", "log": "", "what": "its converter died: signal 6"}
+        fault = {"message": "fault", "log": "", "what": "its converter died: signal 6"}
         recorded, told = self.record(self.session([0]), lambda *_: [fault])
         self.assertEqual((recorded.found, self.names()), ([], ["mine.spanprof"]))
         self.assertIn("the run is recorded, and its text is not made: ", told)

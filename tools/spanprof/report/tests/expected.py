@@ -3,11 +3,11 @@ import json
 import re
 from functools import cached_property
 
-from spanprof.account import account_of
+from spanprof.time_breakdown import breakdown_of
 from spanprof.head import read_head
 from spanprof.recording import document, open_recording
 from spanprof.segment_table import read_code
-from spanprof.text import has_loops
+from spanprof.program_text import has_loops
 
 ROWS_OF_A_CURVE = 64
 
@@ -130,7 +130,7 @@ class Program(Sums):
     def found(self):
         """The account of the run beside the text, asked anew."""
         text = self.answer("show") if has_loops(self.text) else self.text
-        return account_of(read_head(self.text), self.line("work", "span"), self.timed,
+        return breakdown_of(read_head(self.text), self.line("work", "span"), self.timed,
                           list(read_code(text.split("\n"), "the text").places))
 
     def account(self, what, number=None):

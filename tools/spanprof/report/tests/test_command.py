@@ -62,7 +62,7 @@ class Command(unittest.TestCase):
     def test_the_diagnosis_as_json(self):
         out, told = io.StringIO(), mock.Mock()
         told.json.return_value = {"schema": 1}
-        with contextlib.redirect_stdout(out), mock.patch("spanprof.report.command.told_of", return_value=told):
+        with contextlib.redirect_stdout(out), mock.patch("spanprof.report.command.output_of", return_value=told):
             main([self.copied(), "--json"])
         self.assertEqual(json.loads(out.getvalue()), {"schema": 1})
         self.assertFalse(os.path.exists(self.out("mesh.html")))

@@ -2,7 +2,7 @@
 #pragma once
 #include <cstdint>
 
-enum class Told : uint8_t {
+enum class RecordKind : uint8_t {
   Nothing,  // there is no record
   ParallelBegin,
   ParallelEnd,
@@ -30,10 +30,10 @@ enum class Told : uint8_t {
 };
 
 // Whether its task is the one that the thread is in; whether short records that follow may be like such a one.
-constexpr bool names_task(Told told) {
-  return told == Told::Create || told == Told::SyncBegin || told == Told::SyncEnd;
+constexpr bool names_task(RecordKind kind) {
+  return kind == RecordKind::Create || kind == RecordKind::SyncBegin || kind == RecordKind::SyncEnd;
 }
-constexpr bool has_slot(Told told) { return names_task(told) || told == Told::LockGot; }
+constexpr bool has_slot(RecordKind kind) { return names_task(kind) || kind == RecordKind::LockGot; }
 
 // Details of a record: of Create what is set of the first five, of ImplicitBegin and ParallelBegin the last two; of
 // Schedule the status, of the others the kind, as OMPT has them.

@@ -4,7 +4,7 @@ import re
 from spanprof.conformance.emit.forms import GROUP_FORMS, LOOP_FORMS
 from spanprof.conformance.generate.program import KINDS, Group, Index, Item, Loop, Task, Wait, Work
 from spanprof.errors import Fault
-from spanprof.text import lines_of
+from spanprof.program_text import lines_of
 
 CLAUSE = re.compile(r"untied|mergeable|priority\([0-9]+\)|taskwait|detach|depobj|iterator|mutexinoutset|copied|target|"
                     r"cancels")

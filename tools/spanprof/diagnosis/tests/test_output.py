@@ -1,6 +1,6 @@
 import unittest
 
-from spanprof.diagnosis.tell import needs_trials
+from spanprof.diagnosis.output import needs_trials
 from spanprof.diagnosis.tests.worked import MS, facts, place
 
 

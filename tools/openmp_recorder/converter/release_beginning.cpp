@@ -1,4 +1,4 @@
-// The beginning of the whole program's text, up to a region that is over in its root: where there are more tasks than
+// The beginning of the whole program's text, up to a region that has ended in its root: where there are more tasks than
 // are to be held when the next region begins, it is written to a file and let go.
 #include <algorithm>
 
@@ -23,32 +23,32 @@ void Reader::note_placed() {
     const Step &step = root.steps[i];
     groups += step.kind == Kind::GroupBegin;
     groups -= step.kind == Kind::GroupEnd;
-    if (step.kind == Kind::Create && !groups && !step.child()->undeferred) may_let_go = false;
+    if (step.kind == Kind::Create && !groups && !step.child()->undeferred) may_release = false;
   }
-  if (!may_let_go || groups) return;
+  if (!may_release || groups) return;
   seen_steps = root.steps.size();
   placed.push_back({run.whole->tasks.begin_block(), root.steps.size(), run.whole->chunk_list.size(),
                     run.whole->loop_list.size(), begun.size()});
 }
 
-// No record that follows is of a task that was made until then. What is over stays so.
-bool Reader::is_over_until(const Placed &end) {
-  auto is_over = [](const Region *region) { return region->over && region->left_in_groups.empty(); };
-  while (regions_over < end.regions && is_over(begun[regions_over])) regions_over++;
-  if (regions_over < end.regions) return false;
-  auto is_done = [](const Task &t) { return t.over; };
-  while (blocks_over < end.blocks && run.whole->tasks.all_of_block(blocks_over, is_done)) blocks_over++;
-  return blocks_over >= end.blocks;
+// No record that follows is of a task that was made until then. What has ended stays so.
+bool Reader::is_ended_until(const Placed &end) {
+  auto has_ended = [](const Region *region) { return region->is_ended && region->left_in_groups.empty(); };
+  while (regions_ended < end.regions && has_ended(begun[regions_ended])) regions_ended++;
+  if (regions_ended < end.regions) return false;
+  auto is_done = [](const Task &t) { return t.is_ended; };
+  while (blocks_ended < end.blocks && run.whole->tasks.all_of_block(blocks_ended, is_done)) blocks_ended++;
+  return blocks_ended >= end.blocks;
 }
 
-void Reader::let_go_beginning() {
-  if (!may_let_go || run.whole->has_events || run.whole->tasks.size() <= room) return;
-  size_t over = 0;
-  while (over < placed.size() && is_over_until(placed[over])) over++;
-  if (over) let_go_until(placed[over - 1]);
+void Reader::release_beginning() {
+  if (!may_release || run.whole->has_events || run.whole->tasks.size() <= room) return;
+  size_t count = 0;
+  while (count < placed.size() && is_ended_until(placed[count])) count++;
+  if (count) release_until(placed[count - 1]);
 }
 
-void Reader::let_go_until(const Placed &found) {
+void Reader::release_until(const Placed &found) {
   const Placed end = found;
   if (!run.whole->before) run.whole->before = std::make_shared<Stretches>(how.beside);
   Region stretch;
@@ -130,8 +130,8 @@ void Reader::take_from_placed(const Placed &gone) {
     later.regions -= gone.regions;
   }
   begun.erase(begun.begin(), begun.begin() + static_cast<std::ptrdiff_t>(gone.regions));
-  blocks_over -= gone.blocks - 1;
-  regions_over -= gone.regions;
+  blocks_ended -= gone.blocks - 1;
+  regions_ended -= gone.regions;
   seen_steps -= gone.steps;
   chunks_gone = gone.chunks;
   loops_gone = gone.loops;

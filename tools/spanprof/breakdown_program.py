@@ -16,7 +16,7 @@ FAULTS = {
     "NotApart": "segment %s begins while another one runs on its thread"}
 
 
-class NoAccount(Exception):
+class NoBreakdown(Exception):
     """Why there is none."""
 
 
@@ -35,19 +35,19 @@ def ask(words, path):
         with open(path, "rb") as document:
             return answer(words, document)
     except OSError as wrong:
-        raise NoAccount("%s: %s" % (path, wrong.strerror)) from wrong
+        raise NoBreakdown("%s: %s" % (path, wrong.strerror)) from wrong
 
 
 def answer(words, document):
     """The same of an open file."""
     if not client.takes_any_size():
-        raise NoAccount(client.HOW)
+        raise NoBreakdown(client.HOW)
     program = client.program()
     try:
         done = subprocess.run(program + ["account"] + list(words), stdin=document, capture_output=True, text=True,
                               errors="replace", check=False)
     except OSError as wrong:
-        raise NoAccount("spanprof_large: %s" % wrong) from wrong
+        raise NoBreakdown("spanprof_large: %s" % wrong) from wrong
     if done.returncode:
-        raise NoAccount(in_words(done.stdout.strip()))
+        raise NoBreakdown(in_words(done.stdout.strip()))
     return done.stdout

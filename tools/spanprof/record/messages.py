@@ -2,7 +2,7 @@
 import os
 from dataclasses import dataclass
 
-from spanprof.remarks import remark_of, seen
+from spanprof.remarks import remark_of, occurrences
 
 LIMITS = {"blocks": "tasks and groups inside each other", "items": "depend items of one task",
           "piece": "units of work in one piece", "work": "units of work"}
@@ -45,7 +45,7 @@ WORDS = {
     "text": text,
     "remark": lambda told: "%s: %s" % (told["name"], remark_of(told["remark"])),
     "too large": too_large,
-    "outside": lambda told: "task outside of a parallel region, not recorded, " + seen(told),
+    "outside": lambda told: "task outside of a parallel region, not recorded, " + occurrences(told),
     "no tasks": lambda told: "no parallel region with tasks" +
                              (", and the program ended inside a region" if told["inside"] else ""),
     "unwritten": lambda told: "%s cannot be written%s" % (told["file"], ": " + told["why"] if "why" in told else ""),
@@ -58,11 +58,11 @@ WORDS = {
 
 
 def in_words(told):
-    return WORDS[told["told"]](told)
+    return WORDS[told["message"]](told)
 
 
 @dataclass
-class Told:
+class Messages:
     """What was told of all logs of a run; `loaded` is whether the runtime has loaded the recorder at all."""
     loaded: bool
     things: list
@@ -72,20 +72,20 @@ class Told:
         def new(value):
             return next((end + value[len(old):] for old, end in folders.items()
                          if isinstance(value, str) and value.startswith(old)), value)
-        return Told(self.loaded, [{name: new(value) for name, value in one.items()} for one in self.things])
+        return Messages(self.loaded, [{name: new(value) for name, value in one.items()} for one in self.things])
 
     @property
     def is_cut(self):
         """Whether the recorder stopped before the program did."""
-        return any(one["told"] == "stopped" for one in self.things)
+        return any(one["message"] == "stopped" for one in self.things)
 
     def without(self, texts):
         """All but that these were written."""
-        return Told(self.loaded, [one for one in self.things
-                                  if not (one["told"] == "text" and one["file"] in texts)])
+        return Messages(self.loaded, [one for one in self.things
+                                  if not (one["message"] == "text" and one["file"] in texts)])
 
     def news(self, out, texts=(), remarks=()):
         """What the summary would not show, without the path of the files; two conversions may tell the same."""
         rest = [one for one in self.without(texts).things
-                if not (one["told"] == "remark" and remark_of(one["remark"]) in remarks)]
+                if not (one["message"] == "remark" and remark_of(one["remark"]) in remarks)]
         return list(dict.fromkeys(in_words(one).replace(os.path.dirname(out) + os.sep, "") for one in rest))

@@ -1,20 +1,13 @@
-"""The account of a recorded run in four lines of a user's words, and as JSON."""
+"""The time breakdown of a recorded run in four lines, and as JSON."""
+from spanprof.durations import lasting
 from spanprof.proof import proved
 
 MOST_PLACES = 2
 LEAST = 0.0005      # of the threads' time, from which on a part is told
-LONG = ((10 ** 9, "s"), (10 ** 6, "ms"), (10 ** 3, "us"), (1, "ns"))
 
 
 def proved_sums():
     return proved("the four sums are proved of the recorded text and these times")
-
-
-def lasting(nanoseconds):
-    """In the unit that leaves a whole number, with three digits."""
-    size, name = next((pair for pair in LONG if nanoseconds >= pair[0]), LONG[-1])
-    digits = max(0, 3 - len(str(nanoseconds // size))) if size > 1 else 0
-    return "%.*f %s" % (digits, nanoseconds / size, name)
 
 
 def of_places(parts, words):
@@ -25,15 +18,15 @@ def of_places(parts, words):
     return words + ", ".join(shown) if shown else ""
 
 
-def held_up_words(found, share):
+def blocked_words(found, share):
     off = "preempted or in the recorder" if found.by_processor else "preempted"
-    parts = [(found.held_up.preempted, off), (found.held_up.asleep, "asleep"),
-             (found.held_up.at_locks, "waiting for locks")]
+    parts = [(found.blocked.preempted, off), (found.blocked.asleep, "asleep"),
+             (found.blocked.at_locks, "waiting for locks")]
     told = ["%s %s" % (share(part), name) for part, name in parts if part >= LEAST * found.whole and part]
-    return "; %s blocked in it: %s" % (share(found.held_up.all), ", ".join(told)) if told else ""
+    return "; %s blocked in it: %s" % (share(found.blocked.all), ", ".join(told)) if told else ""
 
 
-def account_lines(found):
+def breakdown_lines(found):
     """Shares are of threads times elapsed time."""
     def share(part):
         return "%.1f %%" % (100 * part / found.whole if found.whole else 0)
@@ -43,7 +36,7 @@ def account_lines(found):
 
     recorder = ", %s the recorder's" % share(found.recorder) if found.recorder >= LEAST * found.whole > 0 else ""
     lines = ["of %d x %s: %s in your code%s%s (measured)" % (
-                 found.threads, lasting(found.elapsed), share(found.code), recorder, held_up_words(found, share)),
+                 found.threads, lasting(found.elapsed), share(found.code), recorder, blocked_words(found, share)),
              "%s scheduling delay%s (measured)" % idle(found.delayed, found.delayed_by, "; ready: "),
              "%s idle%s (measured)" % idle(found.starved, found.starved_by, "; running: "),
              "%s startup and shutdown of the %s (measured); %s" % (
@@ -56,7 +49,7 @@ def account_lines(found):
 
 def lines_of(found, why=""):
     """What the summary tells of an account, or why there is none."""
-    return account_lines(found) if found else ["unavailable: " + why] if why else []
+    return breakdown_lines(found) if found else ["unavailable: " + why] if why else []
 
 
 def as_json(found):

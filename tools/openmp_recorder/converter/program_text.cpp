@@ -1,4 +1,4 @@
-#include "text.hpp"
+#include "program_text.hpp"
 
 #include <omp-tools.h>
 
@@ -292,7 +292,7 @@ int64_t work_in_units(const Region &region, int64_t unit) {
   return work;
 }
 
-void tell_program(Region &region, const Style &style, const Places &places, const Taker &taker, SegmentTable *table) {
+void print_program(Region &region, const Style &style, const Places &places, const Taker &taker, SegmentTable *table) {
   Writer(region, style, places, taker, table).tell();
 }
 

@@ -1,7 +1,7 @@
 """What is told of a text and its changed text, in lines and as JSON."""
 import json
 
-from spanprof.claims import speaks_of, why_not_of_more_threads
+from spanprof.validity import speaks_of, why_not_of_more_threads
 from spanprof.head import grouped
 from spanprof.proof import proved
 

@@ -1,8 +1,8 @@
-#include "tell.hpp"
+#include "message.hpp"
 
 #include <cstdio>
 
-Line::~Line() {
+Message::~Message() {
   std::string words = end() + "\n";
   fwrite(words.data(), 1, words.size(), stdout);
   fflush(stdout);

@@ -2,18 +2,18 @@
 #include "head.hpp"
 #include "span.hpp"
 #include "stretches.hpp"
-#include "text.hpp"
+#include "program_text.hpp"
 #include "whole.hpp"
 
 namespace {
 void begin_region(Made &made, uint32_t region, uint32_t implicit, unsigned threads = 2) {
-  made.add(0, Told::ParallelBegin, 0, region);
-  for (unsigned i = 0; i < threads; i++) made.add(i, Told::ImplicitBegin, implicit + i, region, 0, threads);
+  made.add(0, RecordKind::ParallelBegin, 0, region);
+  for (unsigned i = 0; i < threads; i++) made.add(i, RecordKind::ImplicitBegin, implicit + i, region, 0, threads);
 }
 
 void close_region(Made &made, uint32_t region, uint32_t implicit, unsigned threads = 2) {
   for (unsigned i = 0; i < threads; i++) made.barrier(i, implicit + i);
-  made.add(0, Told::ParallelEnd, 0, region);
+  made.add(0, RecordKind::ParallelEnd, 0, region);
 }
 
 // Three regions, each with tasks that depend on each other, a loop, and serial code behind it.
@@ -65,7 +65,7 @@ void expect_same(Run &few, Run &all) {
 
 TEST(what_is_over_is_let_go_with_its_text) {
   Program made = three_regions();
-  Run few = std::move(made.let_go()), all = std::move(made.whole());
+  Run few = std::move(made.released()), all = std::move(made.whole());
   EXPECT(few.whole->before != nullptr, true);
   EXPECT(few.whole->tasks.size() < all.whole->tasks.size() / 2, true);
   EXPECT(few.whole->before->tasks + few.whole->before->chunks.back() > 10, true);
@@ -74,7 +74,7 @@ TEST(what_is_over_is_let_go_with_its_text) {
 
 TEST(sums_of_what_is_let_go_are_those_of_what_is_held) {
   Program made = three_regions();
-  Run few = std::move(made.let_go()), all = std::move(made.whole());
+  Run few = std::move(made.released()), all = std::move(made.whole());
   WholeProgram &some = *few.whole, &every = *all.whole;
   EXPECT(some.cost, every.cost);
   EXPECT(some.work, every.work);
@@ -94,7 +94,7 @@ TEST(sums_of_what_is_let_go_are_those_of_what_is_held) {
 
 TEST(places_of_what_is_let_go_stand_in_the_head) {
   Program made = three_regions();
-  Run &few = made.let_go();
+  Run &few = made.released();
   each_stretch(*few.whole, [&](Region &stretch) {
     add_up(stretch);
     size_of(stretch);
@@ -110,7 +110,7 @@ TEST(nothing_is_let_go_while_a_task_before_it_did_not_end) {
   close_region(made.after(5), 1, 1);
   begin_region(made, 2, 11);
   close_region(made.after(5), 2, 11);
-  EXPECT(made.let_go().whole->before == nullptr, true);
+  EXPECT(made.released().whole->before == nullptr, true);
 }
 
 TEST(nothing_is_let_go_of_a_program_that_made_threads) {
@@ -118,10 +118,10 @@ TEST(nothing_is_let_go_of_a_program_that_made_threads) {
   close_region(made.after(4), 1, 1);
   begin_region(made, 2, 11);
   close_region(made.after(5), 2, 11);
-  EXPECT(made.let_go().whole->before != nullptr, true);
-  made.add(1, Told::ImplicitBegin, 9, 0, is_initial).add(1, Told::ParallelBegin, 9, 3);
-  made.add(1, Told::ImplicitBegin, 20, 3, 0, 1).after(6).add(1, Told::ImplicitEnd, 20).add(1, Told::ParallelEnd, 0, 3);
-  EXPECT(made.let_go().whole->before == nullptr, true);
+  EXPECT(made.released().whole->before != nullptr, true);
+  made.add(1, RecordKind::ImplicitBegin, 9, 0, is_initial).add(1, RecordKind::ParallelBegin, 9, 3);
+  made.add(1, RecordKind::ImplicitBegin, 20, 3, 0, 1).after(6).add(1, RecordKind::ImplicitEnd, 20).add(1, RecordKind::ParallelEnd, 0, 3);
+  EXPECT(made.released().whole->before == nullptr, true);
   EXPECT(made.text().substr(0, 5), "task ");
 }
 
@@ -129,12 +129,12 @@ TEST(a_task_outside_of_regions_is_let_go_where_it_is_awaited) {
   for (unsigned detail : {unsigned{is_undeferred}, 0U}) {
     Program made;
     end_region(made.after(4));
-    made.add(0, Told::ImplicitBegin, 9, 0, is_initial).create(0, 9, 3, detail).run(0, 9, 3, 5).after(2);
+    made.add(0, RecordKind::ImplicitBegin, 9, 0, is_initial).create(0, 9, 3, detail).run(0, 9, 3, 5).after(2);
     for (uint32_t region : {2, 3}) {
       begin_region(made, region, 10 * region, 1);
       close_region(made.after(5), region, 10 * region, 1);
     }
-    EXPECT(made.let_go().whole->before->chunks.size(), detail ? 2u : 1u);
+    EXPECT(made.released().whole->before->chunks.size(), detail ? 2u : 1u);
     made.text();
   }
 }
@@ -143,7 +143,7 @@ TEST(a_program_of_one_region_is_held) {
   Program made(2);
   made.create(0, 1, 50).run(1, 2, 50, 5);
   close_region(made.after(5), 1, 1);
-  EXPECT(made.let_go().whole->before == nullptr, true);
+  EXPECT(made.released().whole->before == nullptr, true);
 }
 
 TEST(regions_of_many_names_are_let_go_each_by_itself) {
@@ -156,5 +156,5 @@ TEST(regions_of_many_names_are_let_go_each_by_itself) {
     close_region(made.after(region), region, 10 * region);
   }
   EXPECT(made.text().size() > 1000, true);
-  EXPECT(made.let_go().whole->before->chunks.size() > 30, true);
+  EXPECT(made.released().whole->before->chunks.size() > 30, true);
 }

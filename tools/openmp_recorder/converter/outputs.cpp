@@ -1,4 +1,4 @@
-#include "report.hpp"
+#include "outputs.hpp"
 
 #include <algorithm>
 
@@ -15,14 +15,14 @@
 #include "size.hpp"
 #include "span.hpp"
 #include "stretches.hpp"
-#include "tell.hpp"
-#include "text.hpp"
+#include "message.hpp"
+#include "program_text.hpp"
 #include "whole_program.hpp"
 
 namespace {
-void tell_excess(const std::string &file, const Excess &over) {
-  Line line("too large");
-  line.put("file", file).put("what", over.what).put("has", over.has).put("takes", over.takes);
+void report_excess(const std::string &file, const Excess &excess) {
+  Message line("too large");
+  line.put("file", file).put("what", excess.what).put("has", excess.has).put("takes", excess.takes);
 }
 
 class Reporter {
@@ -31,7 +31,7 @@ class Reporter {
     if (job.paths) job.paths->name_in(places);
   }
   void write(Region &region, const std::string &name);
-  void tell_outside(const Seen &outside);
+  void report_outside(const Occurrences &outside);
   void write_regions(const Run &run, const WholeTime &time, const std::string &name);
   std::vector<Region *> chosen(const Run &run, std::vector<Region *> regions);
   void write_locks(const std::vector<Records *> &threads, const std::string &name);
@@ -44,7 +44,7 @@ class Reporter {
 
   Size measure(Region &region);
   std::string head(Region &region, int64_t work);
-  void tell_remarks(const Region &region, const std::string &name);
+  void report_remarks(const Region &region, const std::string &name);
   void write_times(Region &region, const std::string &name, const std::string &head, Style style, Object &line);
   bool write_text(Region &region, const std::string &file, const std::string &head, const Style &style,
                   SegmentTable *table, const std::function<void(const Taker &)> &behind);
@@ -94,9 +94,9 @@ std::string Reporter::head(Region &region, int64_t work) {
   return head_of(region, recording, options, places);
 }
 
-void Reporter::tell_remarks(const Region &region, const std::string &name) {
+void Reporter::report_remarks(const Region &region, const std::string &name) {
   for (auto &[what, seen] : region.remarks)
-    Line("remark").put("name", name).put_bare("remark", remark_in_json(what, seen, places));
+    Message("remark").put("name", name).put_bare("remark", remark_in_json(what, seen, places));
 }
 
 // Those of a region stand behind its text once more, and those of the whole program alone.
@@ -110,7 +110,7 @@ void Reporter::write_times(Region &region, const std::string &name, const std::s
   }
   std::string file = name + (recording.whole ? ".times" : ".timed");
   style.numbered = false;
-  auto times = [&](const Taker &taker) { tell_times(region, events, taker); };
+  auto times = [&](const Taker &taker) { print_times(region, events, taker); };
   auto behind = [&](const Taker &taker) { taker("---\n"), times(taker); };
   if (recording.whole ? write_file(file, times) : write_text(region, file, head, style, nullptr, behind))
     line.put("times", file);
@@ -120,7 +120,7 @@ bool Reporter::write_text(Region &region, const std::string &file, const std::st
                           SegmentTable *table, const std::function<void(const Taker &)> &behind) {
   return write_file(file, [&](const Taker &taker) {
     taker(head);
-    tell_program(region, style, places, taker, table);
+    print_program(region, style, places, taker, table);
     if (behind) behind(taker);
   });
 }
@@ -147,7 +147,7 @@ Object &Reporter::put_size(Object &line, const std::string &file, const Size &si
 void Reporter::write(Region &region, const std::string &name) {
   Size size = measure(region);
   std::string file = name + ".tasks";
-  if (Excess over = over_the_limits(size, options.unit)) return tell_excess(file, over);
+  if (Excess excess = over_the_limits(size, options.unit)) return report_excess(file, excess);
   if (options.lines) places.look_up(codes_of(region));
   int64_t work = work_in_units(region, options.unit);
   std::string words = head(region, work);
@@ -155,23 +155,23 @@ void Reporter::write(Region &region, const std::string &name) {
   if (!(recording.whole ? write_whole(region, name, words, style)
                         : write_text(region, file, words, style, nullptr, nullptr)))
     return;
-  tell_remarks(region, name);
-  Line line("text");
+  report_remarks(region, name);
+  Message line("text");
   write_times(region, name, words, style, put_size(line, file, size, work));
 }
 
-void Reporter::tell_outside(const Seen &outside) {
+void Reporter::report_outside(const Occurrences &outside) {
   if (!outside.times) return;
   if (options.lines) places.look_up({outside.code});
-  Line line("outside");
-  put_seen(line, outside, places);
+  Message line("outside");
+  put_occurrences(line, outside, places);
 }
 
 // Of a run without regions there is no table.
 void Reporter::write_regions(const Run &run, const WholeTime &time, const std::string &name) {
   if (run.regions.empty()) return;
   if (options.lines) places.look_up(codes_of_regions(run));
-  write_file(name + ".regions", [&](const Taker &taker) { tell_regions(run, time, places, taker); });
+  write_file(name + ".regions", [&](const Taker &taker) { print_regions(run, time, places, taker); });
 }
 
 // All, or where one is asked for that of median work at its place, so that one that a busy machine held up stands for
@@ -253,7 +253,7 @@ HowToRead how_to_read(const Job &job) {
 
 // These regions, composed. Where some were let go, the log is read again, and all but these are.
 std::vector<Region *> held(const std::vector<Region *> &few, const Job &job, Ending ending, Run &run) {
-  if (std::none_of(few.begin(), few.end(), [](auto *region) { return region->let_go; })) return few;
+  if (std::none_of(few.begin(), few.end(), [](auto *region) { return region->is_released; })) return few;
   HowToRead how = how_to_read(job);
   how.most_held = 0;
   for (const Region *region : few) how.held.insert(region->number);
@@ -302,7 +302,7 @@ void report(const Job &job, Ending &ending) {
   std::vector<Region *> with_tasks = compose_all(run, job.options);
   Recording recording{job.program, job.date, with_tasks.size(), time, threads};
   Reporter reporter(job, std::move(recording));
-  if (with_tasks.empty() && !job.may_be_empty) Line("no tasks").put("inside", ending.wall != 0);
+  if (with_tasks.empty() && !job.may_be_empty) Message("no tasks").put("inside", ending.wall != 0);
   std::vector<Region *> written = held(reporter.chosen(run, with_tasks), job, unread, run);
   for (size_t i = 0; i < written.size(); i++) {
     written[i]->text = i + 1;
@@ -311,5 +311,5 @@ void report(const Job &job, Ending &ending) {
   reporter.write_regions(run, {job.start, end, threads.outside}, job.out);
   for (size_t i = 0; i < written.size(); i++)
     reporter.write(*written[i], job.out + (i ? "." + std::to_string(i + 1) : ""));
-  reporter.tell_outside(run.outside);
+  reporter.report_outside(run.outside);
 }

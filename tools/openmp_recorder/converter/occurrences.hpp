@@ -2,7 +2,7 @@
 #pragma once
 #include <cstdint>
 
-struct Seen {
+struct Occurrences {
   uint64_t times = 0;
   const void *code = nullptr;  // of the first
   bool elsewhere = false;  // too
@@ -10,7 +10,7 @@ struct Seen {
     if (!times++) code = at;
     else if (at != code) elsewhere = true;
   }
-  void add(const Seen &more) {
+  void add(const Occurrences &more) {
     if (!more.times) return;
     if (times) elsewhere = elsewhere || more.elsewhere || more.code != code;
     else code = more.code, elsewhere = more.elsewhere;
@@ -19,9 +19,9 @@ struct Seen {
 };
 
 // By the thread that met it most; of several by the first.
-struct SeenBy : Seen {
+struct MostOccurrences : Occurrences {
   unsigned by = 0;
-  void take_if_most(const Seen &met, unsigned thread) {
-    if (met.times > times || (met.times == times && thread < by)) static_cast<Seen &>(*this) = met, by = thread;
+  void take_if_most(const Occurrences &met, unsigned thread) {
+    if (met.times > times || (met.times == times && thread < by)) static_cast<Occurrences &>(*this) = met, by = thread;
   }
 };

@@ -20,7 +20,7 @@ MOST_OF_IT = 0.4    # of the run's time
 
 
 @dataclass
-class Told:
+class Output:
     found: Diagnosis
     names: Names
 
@@ -53,7 +53,7 @@ def bench_of(path, facts, seconds=None):
         return None
 
 
-def told_of(recording, folders=(), seconds=None, end_of=greedy_end):
+def output_of(recording, folders=(), seconds=None, end_of=greedy_end):
     """`folders` are where the source is; without them beside the recording, and here. Changes are tried for so many
     seconds, or as long as a person waits."""
     facts = facts_of(recording, end_of)
@@ -62,7 +62,7 @@ def told_of(recording, folders=(), seconds=None, end_of=greedy_end):
     names = Names(facts, Sources(list(folders) or beside, facts.sources))
     if bench:
         facts.needless = set(filter(names.is_needless, bench.seen.waits))
-    return Told(diagnose(facts, bench), names)
+    return Output(diagnose(facts, bench), names)
 
 
 def diagnosis_of(answers, folders=()):
@@ -75,6 +75,6 @@ def diagnosis_of(answers, folders=()):
         is_shown = answers.is_long and answers.threads == threads and answers.greedy
         return answers.greedy.end if is_shown else greedy_end(path, threads)
     try:
-        return told_of(open_recording(answers.path), folders, end_of=end_of)
+        return output_of(open_recording(answers.path), folders, end_of=end_of)
     except (Fault, OSError):
         return None

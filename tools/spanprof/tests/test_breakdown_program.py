@@ -3,7 +3,7 @@ import tempfile
 import unittest
 from unittest import mock
 
-from spanprof.account_program import NoAccount, ask, in_words
+from spanprof.breakdown_program import NoBreakdown, ask, in_words
 from spanprof.client import HOW
 
 
@@ -32,19 +32,19 @@ class Asked(unittest.TestCase):
         self.assertEqual(self.asked("sh -c cat"), "a document")
 
     def test_what_it_refuses(self):
-        with self.assertRaisesRegex(NoAccount, "^segment 7 has no times$"):
+        with self.assertRaisesRegex(NoBreakdown, "^segment 7 has no times$"):
             self.asked("sh -c 'echo error: NotTimed 7; exit 1'")
 
     def test_no_program(self):
-        with self.assertRaisesRegex(NoAccount, "^spanprof_large: .*No such file"):
+        with self.assertRaisesRegex(NoBreakdown, "^spanprof_large: .*No such file"):
             self.asked("/none")
         with mock.patch("spanprof.client.takes_any_size", lambda: False):
-            with self.assertRaises(NoAccount) as caught:
+            with self.assertRaises(NoBreakdown) as caught:
                 ask([], __file__)
         self.assertEqual(str(caught.exception), HOW)
 
     def test_no_document(self):
-        with self.assertRaisesRegex(NoAccount, "^/no/mine.timed: No such file or directory$"):
+        with self.assertRaisesRegex(NoBreakdown, "^/no/mine.timed: No such file or directory$"):
             ask([], "/no/mine.timed")
 
 

@@ -7,7 +7,7 @@ from functools import cached_property
 from typing import List, NamedTuple, Optional
 
 from spanprof import client
-from spanprof.account_program import NoAccount, ask
+from spanprof.breakdown_program import NoBreakdown, ask
 from spanprof.idle import idle_by_place
 from spanprof.recording import document, open_recording
 from spanprof.remarks import UNFINISHED
@@ -37,7 +37,7 @@ class Rows(NamedTuple):
 
 
 @dataclass
-class HeldUp:
+class Blocked:
     """Of the time in code, in nanoseconds: what was no code of the program."""
     preempted: int = 0      # the system had put the thread off
     asleep: int = 0         # the code slept, or waited by itself
@@ -49,7 +49,7 @@ class HeldUp:
 
 
 @dataclass
-class Account:
+class TimeBreakdown:
     """In nanoseconds, over all threads."""
     threads: int
     elapsed: int
@@ -57,7 +57,7 @@ class Account:
     delayed: int
     starved: int
     outside: int
-    held_up: HeldUp = field(default_factory=HeldUp)
+    blocked: Blocked = field(default_factory=Blocked)
     recorder: int = 0       # of the time in code, by the wall clock
     by_processor: bool = False      # costs are read on that clock: then it is among what was preempted
     of_whole: bool = False  # the program, and not of a region
@@ -71,13 +71,13 @@ class Account:
 
     @property
     def code(self):
-        return self.busy - self.held_up.all - self.recorder
+        return self.busy - self.blocked.all - self.recorder
 
     @property
     def parts(self):
         """What the threads' time is made of; the parts add up to it."""
-        return {"code": self.code, "recorder": self.recorder, "preempted": self.held_up.preempted,
-                "asleep": self.held_up.asleep, "at locks": self.held_up.at_locks, "delayed": self.delayed,
+        return {"code": self.code, "recorder": self.recorder, "preempted": self.blocked.preempted,
+                "asleep": self.blocked.asleep, "at locks": self.blocked.at_locks, "delayed": self.delayed,
                 "starved": self.starved, "outside": self.outside}
 
     @cached_property
@@ -133,22 +133,22 @@ def divide_busy(found, head, work):
     waiting = at_locks(head) * unit
     if head.clock == "cpu":
         asleep, waiting = within((by * unit, waiting), beyond)
-        return HeldUp(beyond - asleep - waiting, asleep, waiting), 0
+        return Blocked(beyond - asleep - waiting, asleep, waiting), 0
     recorder = beyond - waiting - taken_off * unit
     *parts, recorder = within((by * unit, head.slept.get("by", 0) * unit, waiting, recorder), found.busy)
-    return HeldUp(*parts), recorder
+    return Blocked(*parts), recorder
 
 
-def account_of(head, work, path, places=()):
+def breakdown_of(head, work, path, places=()):
     """That of the timed document in a file, which is a run of the text. Without the places of its segments, as of a
     long text, the rows are not asked for, and idle time has no places."""
-    found = Account(**client.named_numbers(ask([], path)), places=list(places))
+    found = TimeBreakdown(**client.named_numbers(ask([], path)), places=list(places))
     if places:
         found.rows = read_rows(ask(["--rows"], path))
         if len(found.rows.thread) != len(places):
-            raise NoAccount("there are times of %d segments, and not of %d" % (len(found.rows.thread), len(places)))
+            raise NoBreakdown("there are times of %d segments, and not of %d" % (len(found.rows.thread), len(places)))
     # lines that are rounded to whole units may have less than the text covers
-    found.held_up, found.recorder = divide_busy(found, head, max(work, head.covered or 0))
+    found.blocked, found.recorder = divide_busy(found, head, max(work, head.covered or 0))
     found.by_processor = head.clock == "cpu"
     found.of_whole = bool(head.whole)
     found.left_out = (head.not_covered.get("of this region", 0) + head.untimed) * head.nanoseconds
@@ -172,13 +172,13 @@ def why_none(head):
     return "" if not head.elapsed or client.takes_any_size() else client.HOW
 
 
-def account_beside(answers):
+def recorded_breakdown(answers):
     """That of the timed document beside the text; or None, and why."""
     recording = open_recording(answers.path)
     if not recording.times or not answers.head.nanoseconds:
         return None, why_none(answers.head)
     try:
         places = () if answers.is_long else list(answers.code.places)
-        return account_of(answers.head, answers.work, document(recording), places), ""
-    except NoAccount as fault:
+        return breakdown_of(answers.head, answers.work, document(recording), places), ""
+    except NoBreakdown as fault:
         return None, str(fault)

@@ -3,8 +3,8 @@ import tempfile
 import unittest
 from unittest import mock
 
-from spanprof.account import Account, HeldUp, account_beside, account_of, divide_busy, times_name
-from spanprof.account_program import NoAccount
+from spanprof.time_breakdown import TimeBreakdown, Blocked, recorded_breakdown, breakdown_of, divide_busy, times_name
+from spanprof.breakdown_program import NoBreakdown
 from spanprof.client import HOW
 from spanprof.head import Lock
 from spanprof.record.tests.made_up import Answers, Head
@@ -27,13 +27,13 @@ def answers(work=11, **of_head):
 
 
 def divided(busy=100, work=60, **of_head):
-    return divide_busy(Account(2, 100, busy, 0, 0, 0), Head(**dict(dict(unit="ns"), **of_head)), work)
+    return divide_busy(TimeBreakdown(2, 100, busy, 0, 0, 0), Head(**dict(dict(unit="ns"), **of_head)), work)
 
 
 class Asked(unittest.TestCase):
     def account(self, made):
-        with mock.patch("spanprof.account.ask", told):
-            return account_of(made.head, made.work, "mine.timed", list(made.code.places))
+        with mock.patch("spanprof.time_breakdown.ask", told):
+            return breakdown_of(made.head, made.work, "mine.timed", list(made.code.places))
 
     def test_the_sums_and_the_rows(self):
         found = self.account(answers())
@@ -54,7 +54,7 @@ class Asked(unittest.TestCase):
     def test_times_of_another_text(self):
         made = answers()
         made.code = code_of(list(made.code)[:-1])
-        with self.assertRaisesRegex(NoAccount, "there are times of 4 segments, and not of 3"):
+        with self.assertRaisesRegex(NoBreakdown, "there are times of 4 segments, and not of 3"):
             self.account(made)
 
     def test_lines_that_are_rounded_down(self):
@@ -90,7 +90,7 @@ class Divided(unittest.TestCase):
         self.assertEqual((found.preempted, recorder), (10000, 40000))
 
     def test_a_recording_that_tells_nothing(self):
-        self.assertEqual(divided(work=100), (HeldUp(), 0))
+        self.assertEqual(divided(work=100), (Blocked(), 0))
 
 
 class Beside(unittest.TestCase):
@@ -101,9 +101,9 @@ class Beside(unittest.TestCase):
         self.made.path = os.path.join(kept.name, "mine.tasks")
 
     def beside(self, has_program=True):
-        with mock.patch("spanprof.account.ask", told), \
+        with mock.patch("spanprof.time_breakdown.ask", told), \
                 mock.patch("spanprof.client.takes_any_size", lambda: has_program):
-            found, why = account_beside(self.made)
+            found, why = recorded_breakdown(self.made)
         return found and found.busy, why
 
     def test_the_document_beside_the_text(self):
