@@ -486,7 +486,8 @@ def losses(facts):
     found = idle_losses(facts) + off_losses(facts) + in_code_losses(facts) + \
         [Loss("recorder", "", facts.recorder), Loss("startup", "", facts.outside)]
     missing = missing_threads(facts)
-    one_place = {**dict.fromkeys(("too_many_threads", "affinity"), crowded_region(facts)), **dict.fromkeys(FINE, heaviest_name(facts)),
+    one_place = {**dict.fromkeys(("too_many_threads", "affinity"), crowded_region(facts)),
+                 **dict.fromkeys(FINE, heaviest_name(facts)),
                  "too_few_threads": max(missing, key=missing.get, default=""),
                  "small_regions": most_often(facts, found)}
     known = {"undeferred": heaviest_name(facts)}      # without times too
