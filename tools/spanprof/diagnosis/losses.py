@@ -10,11 +10,12 @@ from spanprof.diagnosis.calls import A_SAMPLE, RUNTIME, in_system, shares
 from spanprof.diagnosis.causes import BUSY, BY_KIND, SECOND
 from spanprof.diagnosis.own_code import of_interpreter, serial_places
 from spanprof.diagnosis.places import A_START, AROUND_REGIONS, OF_THREADS, OWN, SERIAL, SHARE
-from spanprof.text import BEGINNING, where
+from spanprof.text import BEGINNING, TURNS, where
 
 MAPPING = ("mmap", "munmap", "mremap", "madvise", "brk", "sbrk")
 SMALL = 5000            # nanoseconds of code in a task, below which creating and starting it costs much beside it
 A_TASK = 10000          # nanoseconds that each thread loses at most by making, waking for and starting one task
+A_TAKING = 1000         # nanoseconds that taking a chunk of a loop may cost
 A_CREATION = 1000       # nanoseconds: a thread with less code for each task mostly waits for the runtime to create it
 MANY = 8                # tasks for each thread, from which on to make them may cost much
 # Of what other programs took, by which a loss of the program itself may be off. Of fifteen recordings, 13 to 90 % busy,
@@ -434,8 +435,12 @@ def calls_of_runtime(facts, name):
 
 
 def handling(facts):
-    """By kind and place, what the runtime took of code, by samples: chunks of loops, locks, small tasks."""
+    """By kind and place, what the runtime took of code, by samples: chunks of loops, locks, small tasks. Without them,
+    as of texts of many chunks, taking short ones is up to half of it."""
     out = {}
+    if not facts.calls.ran:
+        out = {("small_chunks", "%s at %s" % (TURNS, at)): min(A_TAKING * times, facts.code // 2)
+               for at, (times, _) in facts.chunks.items()}
     for name, ran in facts.calls.ran.items():
         share = shares(ran, in_system).get(RUNTIME.partition("@")[0], 0) if name in facts.places else 0
         if share:
