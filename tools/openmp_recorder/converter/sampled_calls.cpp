@@ -75,6 +75,7 @@ Names names_of(const void *code, const Places &places) {
 }
 
 bool is_of_system(const std::string &name) { return name.find(of_system) != std::string::npos; }
+bool is_of_program(const std::string &name) { return !is_of_system(name) || name.find(headers) != std::string::npos; }
 bool begins_the_program(const std::string &name) { return is_of_system(name) || name == "_start"; }
 bool calls_main(const std::string &name) { return !name.rfind("libc_start", 0); }
 
@@ -137,7 +138,7 @@ Called called_from(const Calls &calls, const Places &places) {
     if (is_runtime && !of_recorder) out = {{the_runtime}};
     if (is_runtime || is_recorder(code, places)) continue;
     Names more = names_of(code, places);
-    in_program |= library_of_system(code, places).empty();
+    in_program |= more.empty() || is_of_program(more.back());
     out.allocates |= std::any_of(more.begin(), more.end(), is_allocator);
     add_names(all, more);
   }

@@ -68,8 +68,8 @@ NAMES = {"serial": "serial", "too_few_tasks": "too few tasks", "dependence": "de
          "small_regions": "small regions", "small_chunks": "small chunks", "undeferred": "undeferred tasks",
          "loop_schedule": "loop schedule", "lock": "lock", "exclusion": "exclusion", "memory": "memory",
          "allocation": "memory allocation", "system": "operating system", "sleep": "asleep",
-         "too_few_threads": "too few threads", "too_many_threads": "too many threads", "affinity": "affinity", "machine": "busy machine",
-         "recorder": "recorder", "startup": "startup"}
+         "too_few_threads": "too few threads", "too_many_threads": "too many threads", "affinity": "affinity",
+         "machine": "busy machine", "recorder": "recorder", "startup": "startup"}
 EFFICIENT = 0.85        # of the threads' time in code, from which on nothing need be lost
 BUSY = 0.1              # of the threads' time, from which on what other programs took is told apart
 SECOND = 0.1            # of the run's time, from which on a second cause is told

@@ -9,9 +9,10 @@ from typing import Dict, List, Optional
 
 from spanprof import client
 from spanprof.breakdown_program import NoBreakdown
-from spanprof.diagnosis.calls import Sampled, calls_of, is_of_ranks, is_start, plain
+from spanprof.diagnosis.calls import RUNTIME, Sampled, calls_of, is_of_ranks, is_start, plain
 from spanprof.diagnosis.library_locks import set_library_locks
 from spanprof.diagnosis.lock_times import locks_of
+from spanprof.diagnosis.losses import divided
 from spanprof.diagnosis.own_code import interpreter_of
 from spanprof.diagnosis.places import A_START, AROUND_REGIONS, TASK, in_text, read_places
 from spanprof.diagnosis.undisturbed import is_disturbed, set_disturbed, starved_alone
@@ -251,6 +252,18 @@ def set_starting(facts):
             del found[calls]
 
 
+def set_waiting(facts):
+    """Threads that wait for locks of OpenMP are sampled as code is: as much in the runtime as samples are more than code
+    is none of it."""
+    for name, ran in facts.calls.ran.items():
+        code = facts.places[name].cost - facts.asleep_by.get(name, 0) if name in facts.places else 0
+        waited = min(facts.at_locks, 1000 * sum(ran.values()) - code) // 1000
+        waits = {calls: time for calls, time in ran.items() if calls[-1] == RUNTIME}
+        if waited > 0 and waits:
+            for calls, time in divided(max(0, sum(waits.values()) - waited), waits).items():
+                ran[calls] = time
+
+
 def set_allocating(facts):
     """The functions of the lines that allocate memory."""
     for line, _, function in (at.partition(" ") for found in facts.calls.allocated.values() for at in found):
@@ -372,5 +385,6 @@ def facts_of(recording, end_of=greedy_end):
             set_disturbed(facts, starved_alone(path, program.names, facts.threads))
     except NoBreakdown:
         set_by_greedy(facts, head, end_of(path, facts.threads))
+    set_waiting(facts)
     set_library_locks(facts)
     return facts

@@ -435,8 +435,8 @@ def calls_of_runtime(facts, name):
 
 
 def handling(facts):
-    """By kind and place, what the runtime took of code, by samples: chunks of loops, locks, small tasks. Without them
-    taking short chunks is up to half of it."""
+    """By kind and place, what the runtime took of code, by samples: chunks of loops, locks, small tasks. Without them,
+    as of texts of many chunks, taking short ones is up to half of it."""
     out = {}
     if not facts.calls.ran:
         out = {("small_chunks", "%s at %s" % (TURNS, at)): min(A_TAKING * times, facts.code // 2)
@@ -486,7 +486,8 @@ def losses(facts):
     found = idle_losses(facts) + off_losses(facts) + in_code_losses(facts) + \
         [Loss("recorder", "", facts.recorder), Loss("startup", "", facts.outside)]
     missing = missing_threads(facts)
-    one_place = {**dict.fromkeys(("too_many_threads", "affinity"), crowded_region(facts)), **dict.fromkeys(FINE, heaviest_name(facts)),
+    one_place = {**dict.fromkeys(("too_many_threads", "affinity"), crowded_region(facts)),
+                 **dict.fromkeys(FINE, heaviest_name(facts)),
                  "too_few_threads": max(missing, key=missing.get, default=""),
                  "small_regions": most_often(facts, found)}
     known = {"undeferred": heaviest_name(facts)}      # without times too

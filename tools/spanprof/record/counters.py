@@ -1,4 +1,4 @@
-"""What the processor counted of a run, by perf_event_open: silence where the machine, or its kernel, lets nobody see."""
+"""What the processor counted of a run, by perf_event_open: silence where the machine, or its kernel, shows nobody."""
 import ctypes
 import os
 import platform

@@ -2,16 +2,17 @@ import json
 import os
 import tempfile
 import unittest
+from collections import Counter
 from types import SimpleNamespace
 from unittest import mock
 
 from spanprof.time_breakdown import TimeBreakdown, Row, Rows
 from spanprof.diagnosis import facts as module
-from spanprof.diagnosis.calls import Sampled, calls_of
+from spanprof.diagnosis.calls import RUNTIME, Sampled, calls_of
 from spanprof.diagnosis.diagnose import diagnose
 from spanprof.diagnosis.facts import (Facts, elapsed_in, function_in, inner_regions, nested_threads, of_those_at_once,
                                       off_by_segment, regions_of, runtime_name, set_meta, set_off, set_ranks,
-                                      starting_shares, stolen_share, used_by_others)
+                                      set_waiting, starting_shares, stolen_share, used_by_others)
 from spanprof.diagnosis.lock_times import Held, locks_of
 from spanprof.diagnosis.places import AFTER_REGION, OWN, SERIAL
 from spanprof.diagnosis.sentences import sure_words
@@ -180,6 +181,15 @@ class Starting(unittest.TestCase):
         self.assertEqual(run.calls, Sampled({"the beginning": {("main", "MPI_Init"): 9000}},
                                             {"the beginning": {("main", "MPI_Allreduce"): 8000}}))
         self.assertEqual(run.asleep_by, {"the beginning": 8 * MS})
+
+    def test_samples_of_threads_that_wait_for_locks_are_none_of_code(self):
+        """Of 140 ms that samples saw 100 are code, and 10 of these in the runtime."""
+        ran = {("main", RUNTIME): 50000, ("main",): 90000}
+        for at_locks, left in ((40, 10000), (500, 10000), (20, 30000), (0, 50000)):
+            run = facts([place("task at a.c:9", cost=100 * MS)], at_locks=at_locks * MS,
+                        calls=Sampled({"task at a.c:9": Counter(ran)}, {}))
+            set_waiting(run)
+            self.assertEqual(run.calls.ran["task at a.c:9"], {("main", RUNTIME): left, ("main",): 90000})
 
     def test_a_region_of_one_thread_is_alone_without_those_inside_it(self):
         outer, inner, alone = (Region(i, 0, *times, 0, 0, 0, i > 1, "a.c:%d" % i) for i, times in

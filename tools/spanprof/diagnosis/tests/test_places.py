@@ -76,7 +76,8 @@ class Places(unittest.TestCase):
 
     def test_a_turn_more_than_others(self):
         for costs, is_one in (([20, 10, 12, 8], True), ([10, 9], True), ([30, 20, 21, 19], False),
-                              ([9, 10, 8], True), ([9, 10, 8, 9], False), ([10, 30, 50, 70], False), ([20, 15, 10, 5], False)):
+                              ([9, 10, 8], True), ([9, 10, 8, 9], False), ([10, 30, 50, 70], False),
+                              ([20, 15, 10, 5], False)):
             self.assertEqual(is_by_a_turn(costs, 4), is_one, costs)
         lines = ["omptasks 1\n", "taskgroup {  # a.c:3\n"]
         for cost in (20, 10, 10, 10):
