@@ -30,6 +30,11 @@ class Recorded:
     found: List[str] = field(default_factory=list)
     said: Messages = None
 
+    @property
+    def is_whole(self):
+        """Whether there is a recording of all of the run: on a full disk there is one of its beginning."""
+        return bool(self.found) and not (self.said and self.said.is_cut)
+
 
 def check_earlier(path, out, is_replaced):
     """A fault before the run where there is no recording to compare with, or none would be left."""
