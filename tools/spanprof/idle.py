@@ -69,11 +69,10 @@ def most_at_once(rows):
 
 def exact_idle(rows, places, threads):
     """Delayed and starved time by place, of rows with `ready`, `begin` and `end`."""
-    numbers, delayed, starved = {}, defaultdict(int), defaultdict(int)
+    delayed, starved, names = defaultdict(int), defaultdict(int), list(dict.fromkeys(places))
     ready, running, waiting, busy = {}, {}, 0, 0    # segments by kind, and all of them
-    kinds = [numbers.setdefault(place, len(numbers)) for place in places]
-    count, moment = len(numbers), min(rows.begin)
-    for change in changes(rows, kinds, count):
+    numbers, count, moment = {name: number for number, name in enumerate(names)}, len(names), min(rows.begin)
+    for change in changes(rows, list(map(numbers.__getitem__, places)), count):
         then, what = divmod(change, 4 * count)
         if then > moment:
             if busy < threads:
@@ -81,21 +80,20 @@ def exact_idle(rows, places, threads):
                 for kind, times in (ready or running).items():
                     parts[among * count + kind] += idle * times
             moment = then
-        change, kind = divmod(what, count)
-        if change == READY:
+        kind = what % count
+        if what < STARTS * count:
             ready[kind] = ready.get(kind, 0) + 1
             waiting += 1
-            continue
-        if change == ENDS:
+        elif what >= ENDS * count:
             less(running, kind)
             busy -= 1
-            continue
-        if change == BEGINS:
-            less(ready, kind)
-            waiting -= 1
-        running[kind] = running.get(kind, 0) + 1
-        busy += 1
-    return tuple(exact(parts, list(numbers)) for parts in (delayed, starved))
+        else:
+            if what >= BEGINS * count:
+                less(ready, kind)
+                waiting -= 1
+            running[kind] = running.get(kind, 0) + 1
+            busy += 1
+    return tuple(exact(parts, names) for parts in (delayed, starved))
 
 
 def idle_by_place(rows, places, threads):

@@ -5,6 +5,7 @@ from array import array
 from bisect import bisect_right
 from collections import Counter
 from dataclasses import dataclass, field, replace
+from itertools import compress
 from typing import Dict, List, Optional
 
 from spanprof import client
@@ -177,10 +178,10 @@ def starting_shares(found):
     """Of the delays of threads' own code, and of code after regions, by place: as much as a runtime takes."""
     whole, starting = Counter(), Counter()
     around = {name for name in set(found.places) if name.startswith(AROUND_REGIONS)}
-    for ready, begin, name in zip(found.rows.ready, found.rows.begin, found.places):
-        if name in around:
-            whole[name] += begin - ready
-            starting[name] += min(begin - ready, A_START)
+    rows = zip(found.rows.ready, found.rows.begin, found.places)
+    for ready, begin, name in compress(rows, map(around.__contains__, found.places)):
+        whole[name] += begin - ready
+        starting[name] += min(begin - ready, A_START)
     return {name: starting[name] / time for name, time in whole.items() if time}
 
 
