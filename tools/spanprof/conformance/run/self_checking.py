@@ -30,7 +30,7 @@ MOST_LINES = 3
 SOONER, LONGEST = 3, 12 # a third of the time is enough where a program sleeps, and many times as long is given
 BROKEN_DOWN = ("internal compiler error", "PLEASE submit a bug report")
 TICKS = slice(11, 13)   # of the fields behind a thread's name in /proc: its time in user and in system code
-RUNS_NOW = "R"          # the first of these fields, of a thread that waits for a processor too
+SLEEPS = "S"            # the first of these fields; a thread that waits for a processor, or has ended, has another
 
 
 @dataclass(frozen=True)
@@ -187,12 +187,12 @@ def processor_time(pid):
 
 
 def is_asleep(pid):
-    """Whether no thread of a process runs or waits for a processor, at some looks."""
+    """Whether each thread of a process sleeps, at some looks."""
     try:
         first = looked_at(pid)
         for _ in range(LOOKS):
             time.sleep(APART)
-            if RUNS_NOW in first[0] or looked_at(pid) != first:
+            if first[0] != {SLEEPS} or looked_at(pid) != first:
                 return False
     except OSError:     # one has ended
         return False

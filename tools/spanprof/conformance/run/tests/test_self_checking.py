@@ -1,4 +1,5 @@
 import subprocess
+import time
 import unittest
 from types import SimpleNamespace
 
@@ -80,6 +81,11 @@ class Tries(unittest.TestCase):
         conditions = Conditions(2, 8, 1, 0, 1)
         tally = self_checking.try_case(bench(script("while :; do :; done")), self.CASE, [conditions])[0]
         self.assertEqual([failure.verdict for failure in tally.failures], [Verdict("hung", "busy")])
+
+    def test_a_program_that_has_ended_does_not_sleep(self):
+        with subprocess.Popen(["true"]) as process:
+            time.sleep(.2)
+            self.assertFalse(self_checking.is_asleep(process.pid))
 
     def refused(self, said):
         def refuse(*_):
