@@ -1,5 +1,5 @@
 -- The report of a program's recorded graph.
-use Rattle.std.specs.Prelude.{◌≡◌, ℕ, ◌++◌, List, [], ◌∷◌, Option, Some, codes, flat_map, length}
+use Rattle.std.specs.Prelude.{◌≡◌, ℕ, ◌++◌, List, [], ◌∷◌, Some, codes, flat_map, length}
 use Rattle.std.specs.List.{range_with_len}
 use Rattle.csv_table.specs.Row.{line_of, list_line}
 use Rattle.dispatch_core.specs.Graph.{IsGraphOf}
@@ -11,13 +11,11 @@ use Rattle.spanprof_command.specs.declared.report.Status.TheVariants.{Done}
 abbrev pub graph_header : List (List ℕ)
 graph_header = codes "segment" ∷ codes "task" ∷ codes "cost" ∷ codes "predecessors" ∷ []
 
--- a segment, its task and its cost
-abbrev pub graph_fields : Table → ℕ → List (Option ℕ)
-graph_fields table s = Some s ∷ Some (segment table s).task ∷ Some (segment table s).cost ∷ []
-
--- and its predecessors
+-- a segment, its task, its cost and its predecessors
 abbrev pub graph_row : Table → RecordedGraph → ℕ → List ℕ
-graph_row table graph s = list_line (graph_fields table s) (predecessors_of graph s)
+graph_row table graph s =
+    list_line (Some s ∷ Some (segment table s).task ∷ Some (segment table s).cost ∷ [])
+    (predecessors_of graph s)
 
 -- a header, and a row for each segment
 abbrev pub graph_text : Table → RecordedGraph → List ℕ

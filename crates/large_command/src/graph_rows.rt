@@ -1,6 +1,6 @@
 //! The recorded graph of a table, as CSV.
-ghost use Rattle.std.specs.Prelude.{◌≡◌, ◌<◌, IfOk, length};
-ghost use Rattle.large_command.specs.GraphReports.{TellsGraph, graph_fields, graph_text};
+ghost use Rattle.std.specs.Prelude.{◌≡◌, ◌++◌, ◌<◌, IfOk, length};
+ghost use Rattle.large_command.specs.GraphReports.{TellsGraph, graph_row, graph_text};
 
 use csv_table::Table;
 use dispatch_core::graph::{Graph, graph_of};
@@ -26,19 +26,28 @@ fn graph_text(alloc: Global, table: &LargeTable, graph: &Graph) -> Result<Vec<u8
     let header = ["segment", "task", "cost", "predecessors"];
     let mut rows = Table::new(alloc, &header)?;
     for segment in 0..table.len() {
-        let fields = graph_fields(table, segment);
-        rows = rows.with_list(alloc, &fields, graph.preds(segment))?;
+        rows = with_segment(alloc, rows, table, graph, segment)?;
     }
     rows.into_text()
 }
 
-fn graph_fields(table: &LargeTable, segment: u32) -> [Option<u64>; 3]
-    requires { segment < length table.now.segments }
-    ensures { result ≡ graph_fields table.now segment }
+/// The rows with one more, of a segment.
+fn with_segment(
+    alloc: Global,
+    rows: Table,
+    table: &LargeTable,
+    graph: &Graph,
+    segment: u32,
+) -> Result<Table, AllocFault>
+    requires inside { segment < length table.now.segments }
+    requires costs { length graph.now.costs ≡ length table.now.segments }
+    ensures { IfOk result (λ more. more ≡ rows ++ graph_row table.now graph.now segment) }
 {
-    [
+    let task = table.task_of(segment);
+    let fields = [
         Some(u64::from(segment)),
-        Some(u64::from(table.task_of(segment))),
+        Some(u64::from(task)),
         Some(table.cost(segment)),
-    ]
+    ];
+    rows.with_list(alloc, &fields, graph.preds(segment))
 }
