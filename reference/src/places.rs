@@ -1,5 +1,5 @@
-//! What is told of each place of a program: how many segments stand there, their work, their part of the critical path,
-//! and the least of their slacks.
+//! What is told of each place of a program: how many segments stand there and their work, the same of those on the
+//! critical path, and the least of all slacks.
 
 use crate::analysis::analyse;
 use crate::documents::{number, words, Document};
@@ -12,6 +12,7 @@ use std::io::Write;
 struct Sums {
     segments: u64,
     work: u64,
+    on_path: u64,
     path: u64,
     slack: Option<u64>,
 }
@@ -28,7 +29,9 @@ pub fn places(graph: &Graph, document: &Document) -> Result<Vec<u8>, Refusal> {
         sums.slack = sums.slack.into_iter().chain([*slack]).min();
     }
     for member in &found.chain {
-        told[places[*member as usize]].path += graph.costs[*member as usize];
+        let sums = &mut told[places[*member as usize]];
+        sums.on_path += 1;
+        sums.path += graph.costs[*member as usize];
     }
     Ok(table(&told))
 }
@@ -44,11 +47,11 @@ fn read_places(document: &Document, segments: usize) -> Result<Vec<usize>, Refus
 }
 
 fn table(told: &[Sums]) -> Vec<u8> {
-    let mut text = b"place,segments,work,path,slack\n".to_vec();
+    let mut text = b"place,segments,work,on_path,path,slack\n".to_vec();
     for (place, sums) in told.iter().enumerate() {
         let slack = sums.slack.map_or(String::new(), |slack| slack.to_string());
-        let Sums { segments, work, path, .. } = sums;
-        writeln!(text, "{place},{segments},{work},{path},{slack}").expect("memory takes it");
+        let Sums { segments, work, on_path, path, .. } = sums;
+        writeln!(text, "{place},{segments},{work},{on_path},{path},{slack}").expect("memory takes it");
     }
     text
 }
@@ -74,11 +77,11 @@ mod tests {
     #[test]
     fn sums_by_place() {
         // Segments 0, 1 and 3 are on the path of 5 + 3 + 1; segment 2, of cost 2, has a slack of 1.
-        let header = "place,segments,work,path,slack\n";
+        let header = "place,segments,work,on_path,path,slack\n";
         let worked = [
-            ("---\n0 1 2 3", "0,1,5,5,0\n1,1,3,3,0\n2,1,2,0,1\n3,1,1,1,0\n"),
-            ("---\n0\n0\n0\n0\n", "0,4,11,9,0\n"),
-            ("---\n2 0 02 2", "0,1,3,3,0\n1,0,0,0,\n2,3,8,6,0\n"),
+            ("---\n0 1 2 3", "0,1,5,1,5,0\n1,1,3,1,3,0\n2,1,2,0,0,1\n3,1,1,1,1,0\n"),
+            ("---\n0\n0\n0\n0\n", "0,4,11,3,9,0\n"),
+            ("---\n2 0 02 2", "0,1,3,1,3,0\n1,0,0,0,0,\n2,3,8,2,6,0\n"),
         ];
         for (rest, rows) in worked {
             assert_eq!(told_of(rest), format!("{header}{rows}"), "{rest}");

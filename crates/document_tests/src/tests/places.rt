@@ -11,11 +11,11 @@ use std::thread::Threads;
 /// Places, and the rows of each. The segments have costs 5, 3, 2 and 1, and 2 alone is not on the
 /// path, with a slack of 1.
 const PLACES: &[(&str, &str)] = &[
-    ("0 1 2 3", "0,1,5,5,0\n1,1,3,3,0\n2,1,2,0,1\n3,1,1,1,0\n"),
-    ("0\n0\n1\n0\n", "0,3,9,9,0\n1,1,2,0,1\n"),
-    ("\r\n1 0\t1  001", "0,1,3,3,0\n1,3,8,6,0\n"),
-    ("2 0 2 2\n", "0,1,3,3,0\n1,0,0,0,\n2,3,8,6,0\n"),
-    ("0 0 0 0", "0,4,11,9,0\n"),
+    ("0 1 2 3", "0,1,5,1,5,0\n1,1,3,1,3,0\n2,1,2,0,0,1\n3,1,1,1,1,0\n"),
+    ("0\n0\n1\n0\n", "0,3,9,3,9,0\n1,1,2,0,0,1\n"),
+    ("\r\n1 0\t1  001", "0,1,3,1,3,0\n1,3,8,2,6,0\n"),
+    ("2 0 2 2\n", "0,1,3,1,3,0\n1,0,0,0,0,\n2,3,8,2,6,0\n"),
+    ("0 0 0 0", "0,4,11,3,9,0\n"),
 ];
 
 /// Places, and why they are refused.
@@ -49,7 +49,7 @@ fn gives<H: AllocGlobal + Threads + Abort + Sync>(
 #[test]
 fn tables(rt: HostRuntime) -> Result<(), Fail> {
     for (places, rows) in PLACES {
-        let text = format!(in rt.alloc(); "place,segments,work,path,slack\n{rows}")?;
+        let text = format!(in rt.alloc(); "place,segments,work,on_path,path,slack\n{rows}")?;
         gives(&rt, places, text.as_str(), Status::Done)?;
     }
     Ok(())
