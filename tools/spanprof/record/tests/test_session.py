@@ -165,7 +165,7 @@ class Statuses(unittest.TestCase):
 
     def test_what_goes_wrong_here(self):
         self.assertEqual(self.status(Recorded(0)), 125)
-        self.assertEqual(self.status(Recorded(0, ["a"], Messages(True, [{"told": "stopped"}]))), 125)
+        self.assertEqual(self.status(Recorded(0, ["a"], Messages(True, [{"message": "stopped"}]))), 125)
         self.assertEqual(self.status(Recorded(0, ["a"]), Fault("spanprof span: out of memory")), 125)
         self.assertEqual(self.status(Fault("no such program", 127)), 127)
         self.assertEqual(self.status(KeyboardInterrupt), -2)
