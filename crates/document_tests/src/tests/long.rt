@@ -96,7 +96,8 @@ fn placed(alloc: Global) -> Result<String, Fail> {
 #[test]
 fn places(rt: HostRuntime) -> Result<(), Fail> {
     let document = placed(rt.alloc())?;
-    let text = "place,segments,work,on_path,path,slack\n0,5001,0,1,0,0\n1,2500,2500,1,1,0\n2,2500,2500,0,0,0\n";
+    let text =
+        "place,segments,work,on_path,path,slack\n0,5001,0,1,0,0\n1,2500,2500,1,1,0\n2,2500,2500,0,0,0\n";
     assert!(&rt; command_gives(&rt, "places", &[], document.as_str(), text, Status::Done)?);
     Ok(())
 }

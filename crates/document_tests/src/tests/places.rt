@@ -11,7 +11,10 @@ use std::thread::Threads;
 /// Places, and the rows of each. The segments have costs 5, 3, 2 and 1, and 2 alone is not on the
 /// path, with a slack of 1.
 const PLACES: &[(&str, &str)] = &[
-    ("0 1 2 3", "0,1,5,1,5,0\n1,1,3,1,3,0\n2,1,2,0,0,1\n3,1,1,1,1,0\n"),
+    (
+        "0 1 2 3",
+        "0,1,5,1,5,0\n1,1,3,1,3,0\n2,1,2,0,0,1\n3,1,1,1,1,0\n",
+    ),
     ("0\n0\n1\n0\n", "0,3,9,3,9,0\n1,1,2,0,0,1\n"),
     ("\r\n1 0\t1  001", "0,1,3,1,3,0\n1,3,8,2,6,0\n"),
     ("2 0 2 2\n", "0,1,3,1,3,0\n1,0,0,0,0,\n2,3,8,2,6,0\n"),
