@@ -119,9 +119,6 @@ def kind_of_task(facts, place):
         return "serial"
     if 2 * place.undeferred > place.tasks > 0:
         return "undeferred"
-    made = facts.places.get("task at " + place.at)
-    if not place.tasks and made and 2 * made.undeferred > made.tasks > 0:
-        return "undeferred"
     if (is_in_a_row(place) or holds_neighbours(place)) and place.tasks > facts.threads:
         return "dependence"
     is_uneven = place.tasks >= facts.threads and place.largest > UNEVEN * place.average
