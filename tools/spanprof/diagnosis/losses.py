@@ -428,6 +428,8 @@ def calls_of_runtime(facts, name):
     times += [(lock.times, "lock", lock_name(lock)) for lock in facts.locks]
     if place.tasks and place.kind != SHARE or place.is_creating:
         times.append((facts.tasks, fine_kind(facts), heaviest_name(facts)))
+    if place.kind == OF_THREADS and begins_often(facts, place):
+        times.append((place.pieces, "small_regions", name))
     return times
 
 
