@@ -119,9 +119,6 @@ def kind_of_task(facts, place):
         return "serial"
     if 2 * place.undeferred > place.tasks > 0:
         return "undeferred"
-    made = facts.places.get("task at " + place.at)
-    if not place.tasks and made and 2 * made.undeferred > made.tasks > 0:
-        return "undeferred"
     if (is_in_a_row(place) or holds_neighbours(place)) and place.tasks > facts.threads:
         return "dependence"
     is_uneven = place.tasks >= facts.threads and place.largest > UNEVEN * place.average
@@ -431,6 +428,8 @@ def calls_of_runtime(facts, name):
     times += [(lock.times, "lock", lock_name(lock)) for lock in facts.locks]
     if place.tasks and place.kind != SHARE or place.is_creating:
         times.append((facts.tasks, fine_kind(facts), heaviest_name(facts)))
+    if place.kind == OF_THREADS and begins_often(facts, place):
+        times.append((place.pieces, "small_regions", name))
     return times
 
 

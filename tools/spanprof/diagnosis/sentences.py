@@ -86,9 +86,9 @@ def words_of_schedule(names, name, place):
 
 
 def may_be_few(place):
-    """Whether a loop may have hardly more turns than threads, by how uneven they are: another schedule divides no turn.
-    """
-    return place is not None and 2 * place.by_a_turn > place.uneven
+    """Whether a loop of gcc's, whose turns nothing tells, may have hardly more of them than there are threads: another
+    schedule divides none."""
+    return place is not None and place.kind != SHARE and 2 * place.by_a_turn > place.uneven
 
 
 def few_turns(facts, name, place):
