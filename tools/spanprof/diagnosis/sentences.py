@@ -2,7 +2,6 @@
 import re
 from collections import Counter
 
-from spanprof.durations import lasting
 from spanprof.diagnosis.calls import NO_NAME, OFFSET, ONE_AT_A_TIME, SHARES, innermost, together
 from spanprof.diagnosis.causes import BY_KIND, CHEAPER, ESTIMATED, NAMES, SECOND
 from spanprof.diagnosis.facts import Region
@@ -13,9 +12,10 @@ from spanprof.diagnosis.own_code import interpreted_share, is_interpreter, words
 from spanprof.diagnosis.places import AFTER_REGION, SERIAL, SHARE
 from spanprof.diagnosis.plan import holder
 from spanprof.diagnosis.sleeps import words_of_sleep
+from spanprof.durations import lasting
 from spanprof.head import grouped
-from spanprof.source_lines import line_of
 from spanprof.program_text import SECTION, where
+from spanprof.source_lines import line_of
 
 WIDTH, MOST_LINES = 100, 8
 LABEL = 6

@@ -2,17 +2,17 @@
 import argparse
 import os
 
-from spanprof.durations import lasting
 from spanprof.answers import Answers
 from spanprof.command import Console, end_with
 from spanprof.diagnosis.sentences import shortened
+from spanprof.durations import lasting
 from spanprof.errors import Fault
 from spanprof.head import counted
 from spanprof.imports.folder import write
 from spanprof.imports.formats import FORMATS, format_of, read
 from spanprof.path.table import find_path
-from spanprof.recording import ENDING, TEXT
 from spanprof.program_text import where
+from spanprof.recording import ENDING, TEXT
 from spanprof.text_file import TextFile
 from spanprof.version import Version
 from spanprof.whatif.numbers import numbers_of

@@ -1,8 +1,8 @@
 """The first screen: a sentence, three times, where the threads' time went, the change as a diff, the plan, how sure."""
-from spanprof.durations import lasting
 from spanprof.diagnosis.sentences import (after_words, best_words, bound_word, change_sentence, loss_name,
                                           lost_sentence, several, speed_words, sure_words, unsure, words_of_threads)
 from spanprof.diagnosis.source_change import diff
+from spanprof.durations import lasting
 from spanprof.report.figures import PROVED, badge
 from spanprof.report.markup import join, tag
 
