@@ -45,7 +45,7 @@ def events(source):
 def named(words, text):
     """Those of the words that a text names, by themselves or in a name of the code, and that are no plain English."""
     small = text.lower()
-    return {word for word in words - PLAIN_ENGLISH if re.search(r"(?<![a-z])" + word, small)}
+    return {word for word in words - PLAIN_ENGLISH if word in small and re.search(r"(?<![a-z])" + word, small)}
 
 
 def listed(page, heading):

@@ -7,8 +7,8 @@ from typing import Dict, List, Optional, Tuple
 
 from spanprof.durations import lasting
 from spanprof.errors import DAMAGE
-from spanprof.remarks import Remark, read_remark, occurrences
 from spanprof.program_text import CALLED_FROM, where
+from spanprof.remarks import Remark, read_remark, occurrences
 
 NANOSECONDS = {"ns": 1, "us": 1000, "ms": 1000000}
 DIVISION = ("outside regions", "in other regions", "in serial code", "in loops", "in parts without tasks", "in tasks")

@@ -22,4 +22,4 @@ std::vector<const void *> codes_of(const Region &region);  // whose places stand
 int64_t work_in_units(const Region &region, int64_t unit);  // as the text has it, rounded line by line
 // Piece by piece, and the table of its segments where one is wanted.
 void print_program(Region &region, const Style &style, const Places &places, const Taker &taker,
-                  SegmentTable *table = nullptr);
+                   SegmentTable *table = nullptr);

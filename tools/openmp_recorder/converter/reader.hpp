@@ -22,7 +22,8 @@ struct Worker {
   int64_t stood_still = 0;  // its clock, so far
   int64_t worked = 0, compared = 0;  // in code so far, and when both clocks were compared last
   const Task *outside = nullptr;  // of a whole program: its code outside of regions
-  std::map<std::pair<uint32_t, Divided>, Occurrences> divided;  // that it met in regions which it has not left, by number
+  std::map<std::pair<uint32_t, Divided>, Occurrences>
+      divided;  // that it met in regions which it has not left, by number
   std::vector<uint32_t> current;  // the task that runs, innermost region last
   std::vector<Task *> waits;  // tasks whose wait for dependences it is in, innermost last
   Resumed resumed;
@@ -104,7 +105,9 @@ class Reader {
   bool can_go_on(const Task *t) const { return t && !t->waiting && !t->is_ended && !t->wait; }
   void take_up();
   void end_unless_reported();
+  int64_t now_elsewhere(const Task *t);
   void end_elsewhere(Task *t);
+  void leave_elsewhere(Task *t);
   void count_task(Region &of);
   Task *create(Task *parent, bool undeferred);
   void settle(Task *parent);

@@ -61,4 +61,5 @@ class Object;
 class Places;
 // As an object of JSON, of which spanprof/remarks.py makes words; `# remark: ` stands before it in a text's head.
 std::string remark_in_json(Remark what, const Occurrences &seen, const Places &places);
-Object &put_occurrences(Object &fields, const Occurrences &seen, const Places &places);  // how often, and where or where first
+Object &put_occurrences(Object &fields, const Occurrences &seen,
+                        const Places &places);  // how often, and where or where first

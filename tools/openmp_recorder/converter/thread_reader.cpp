@@ -17,11 +17,14 @@ bool is_of_a_lock(RecordKind kind) { return kind == RecordKind::LockGot || kind 
 
 // Of such a record all is told as it stands: most are.
 bool is_plain(RecordKind kind) {
-  return kind == RecordKind::Create || kind == RecordKind::Schedule || kind == RecordKind::SyncBegin || kind == RecordKind::SyncEnd;
+  return kind == RecordKind::Create || kind == RecordKind::Schedule || kind == RecordKind::SyncBegin ||
+         kind == RecordKind::SyncEnd;
 }
 
 // Records of code that is divided among threads: no other task runs there.
-bool divides(RecordKind kind) { return kind == RecordKind::Divided || kind == RecordKind::Chunk || kind == RecordKind::DividedEnd; }
+bool divides(RecordKind kind) {
+  return kind == RecordKind::Divided || kind == RecordKind::Chunk || kind == RecordKind::DividedEnd;
+}
 }  // namespace
 
 ThreadReader::ThreadReader(const std::string &path, unsigned worker, const log_form::Head &head,
@@ -234,7 +237,8 @@ const Record &ThreadReader::tell() {
   if (is_of_a_lock(raw.record_kind())) return record;
   log.stood_still += in_a_record;
   reported += !divides(raw.record_kind());
-  if (raw.record_kind() == RecordKind::Dependences) record.other = 0, read_items(record.code), record.code = log.items.size();
+  if (raw.record_kind() == RecordKind::Dependences)
+    record.other = 0, read_items(record.code), record.code = log.items.size();
   return record;
 }
 
@@ -256,7 +260,8 @@ const Record &ThreadReader::tell_sample() {
 
 const Record *ThreadReader::next() {
   while (is_read || (is_read = read())) {
-    bool has_begun = record.kind, is_behind = raw.record_kind() != RecordKind::Items && raw.record_kind() != RecordKind::StoodStill;
+    bool has_begun = record.kind,
+         is_behind = raw.record_kind() != RecordKind::Items && raw.record_kind() != RecordKind::StoodStill;
     if (has_begun && is_behind && sampled < samples.size() && samples[sampled].order < raw.record.at)
       return &tell_sample();
     is_read = false;

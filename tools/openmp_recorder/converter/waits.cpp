@@ -106,7 +106,8 @@ void Reader::end_groups_at_barrier(Region &region, unsigned phase) {
 }
 
 void Reader::barrier_end(Task *t) {
-  if (!t->is_ended || r->detail == ompt_sync_region_barrier_implicit_parallel) return;  // nothing follows a region's end
+  if (!t->is_ended || r->detail == ompt_sync_region_barrier_implicit_parallel)
+    return;  // nothing follows a region's end
   end_groups_at_barrier(*t->region, implicit[r->task].phase++);
   Task *part = add_part(r->task, t->region);
   for (const void *code : std::exchange(implicit[r->task].groups, {})) begin_group(part, code);

@@ -69,7 +69,8 @@ void say_unseen(uint32_t what) {
   if (life->options.quiet) return;
   if (what & log_form::unseen_detach) notice("gcc's detach is not seen by LLVM's runtime, and the program may crash");
   if (what & log_form::unseen_target)
-    notice("gcc's target is run by its own runtime beside LLVM's: with nowait or depend the program's results may be wrong");
+    notice(
+        "gcc's target is run by its own runtime beside LLVM's: with nowait or depend the program's results may be wrong");
   if (what & log_form::unseen_runtime) notice("a second libgomp in the process is not recorded");
 }
 
@@ -113,6 +114,8 @@ __attribute__((destructor)) void end_of_library() {
 }
 }  // namespace
 
+// LLVM's runtime calls it once, before it calls anything else of the tool; in front of gcc's it runs under the guard of
+// a static (`begin_here`). So there is one thread here, and no callback before it has returned.
 void runtime_begins() {
   if (life) return;
   life = new Life;
@@ -154,6 +157,7 @@ void report_unseen(uint32_t more) {
 
 void expect_end_by_this_thread() { on_exit(on_end_by_exit, nullptr); }
 
+// Several threads may come here, by `exit`, the runtime's end and the library's: the first one ends the log.
 void end_recording() {
   if (life->ended.exchange(true)) return;
   end_log(inside_a_region() ? log_form::HowEnded::InsideARegion : log_form::HowEnded::ByRuntime);

@@ -17,6 +17,7 @@ std::atomic<uint64_t> written_changes{0};
 
 uint64_t changes_of(const dl_phdr_info &any) { return any.dlpi_adds + any.dlpi_subs; }
 
+// The numbers are the loader's, the same with each module, so it stops at the first.
 int read_changes(dl_phdr_info *any, size_t, void *changes) {
   *static_cast<uint64_t *>(changes) = changes_of(*any);
   return 1;
@@ -38,6 +39,8 @@ int write_module(dl_phdr_info *module, size_t, void *to) {
 }
 }  // namespace
 
+// The whole list is appended each time: a library that was closed keeps its line, since records before name its code.
+// Two threads may do so at once, and then the same lines stand there twice.
 void write_modules(const std::string &folder) {
   std::string path = folder + log_form::modules_file;
   int file = open(path.c_str(), O_WRONLY | O_CREAT | O_APPEND | O_CLOEXEC, 0666);

@@ -120,11 +120,13 @@ void Samples::begin_thread() {
   timer = make_timer(this);
 }
 
+// The kernel may have reused the number of a timer that was deleted: so it is deleted by one thread alone.
 void Samples::end_timer() {
   int known = timer.exchange(-1);
   if (known >= 0) syscall(SYS_timer_delete, known);
 }
 
+// The timer first. A signal that is on its way still finds the object, which is never freed.
 void Samples::end_thread() {
   end_timer();
   own_samples = nullptr;
@@ -189,6 +191,7 @@ void Samples::publish(RawSample &sample, int64_t began) {
   __atomic_store_n(&sample.at, read_time_stamp(After::Itself), __ATOMIC_RELEASE);
 }
 
+// The order matters: ask, stand in the way, read the clock, find room, write, and publish.
 void Samples::take(const siginfo_t &signal, const ucontext_t &context) {
   // Nothing may touch the window before.
   if (!is_to_write(signal)) return;
@@ -205,6 +208,7 @@ void Samples::take(const siginfo_t &signal, const ucontext_t &context) {
 }
 
 // In the place of the recorder's own functions stands that of the system which they called.
+// Not in the handler, but possibly in one of the program's, which may have interrupted `take` or another `put_wait`.
 void Samples::put_wait(const void *function, int64_t nanoseconds) {
   if (!may_write()) return;
   KeepErrno kept;

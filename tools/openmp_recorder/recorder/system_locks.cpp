@@ -38,6 +38,7 @@ __attribute__((tls_model("initial-exec"))) __thread Held held;
 
 ompt_wait_id_t name_of(const void *lock) { return reinterpret_cast<ompt_wait_id_t>(lock); }
 
+// Without room for more the lock is recorded as got, and its release passes unrecorded.
 void hold(const void *lock) {
   if (held.count < Held::most) held.locks[held.count++] = lock;
 }
@@ -75,6 +76,7 @@ __attribute__((noinline)) int leave(Lock *lock, int (*systems)(Lock *), unsigned
 }
 }  // namespace
 
+// The system's wait gives the mutex back inside, where nobody can look on.
 void leave_for_wait(const void *lock) {
   if (held.count && drop(lock)) on_lock_left(static_cast<ompt_mutex_t>(system_mutex), name_of(lock), nullptr);
 }
@@ -87,9 +89,9 @@ void leave_for_wait(const void *lock) {
     if (__builtin_expect(status != EBUSY, true)) return status; \
     return wait_for(lock, own_##name.get(), kind, PLACE);       \
   }
-#define UNLOCK(name, type, kind)                                 \
-  ENTRY int name(type *lock) {                                   \
-    auto systems = own_##name.get();                             \
+#define UNLOCK(name, type, kind)                                     \
+  ENTRY int name(type *lock) {                                       \
+    auto systems = own_##name.get();                                 \
     bool is_recorded = __builtin_expect(held.count, 0);              \
     return is_recorded ? leave(lock, systems, kind) : systems(lock); \
   }

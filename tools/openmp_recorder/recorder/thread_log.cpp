@@ -24,6 +24,7 @@ char *map_block(const std::string &path) {
   if (file < 0) return nullptr;
   void *pages = MAP_FAILED;
   errno = is_allowed(log_form::block_bytes) ? posix_fallocate(file, 0, log_form::block_bytes) : EFBIG;
+  // Populated, so that no record waits for a page, which would be no code's time.
   if (!errno) pages = mmap(nullptr, log_form::block_bytes, PROT_READ | PROT_WRITE, MAP_SHARED | MAP_POPULATE, file, 0);
   int why = errno;
   close(file);
@@ -93,6 +94,7 @@ ThreadLog::ThreadLog(unsigned of)
   begin_clocks();
 }
 
+// Where another library has its own restartable sequences all logs go back to the wall clock, from any time on.
 void ThreadLog::begin_clocks() {
   if (switches_are_known && !kept.is_known()) lose_switches();
   auto apart = kept.is_known() ? longest_unlooked : far_apart;
@@ -165,6 +167,7 @@ void ThreadLog::follow(const log_form::RawRecord &raw) {
   if (names_task(kind)) current = raw.task;
 }
 
+// So no short record reaches beyond the next look at the clocks, or has a difference that does not fit.
 void ThreadLog::renew_left() {
   uint64_t passed = last - looked;
   left = std::min(passed < far_ticks ? far_ticks - passed : 0, log_form::ticks_too_long);

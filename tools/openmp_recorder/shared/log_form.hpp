@@ -16,8 +16,8 @@ constexpr const char *head_file = "/head", *modules_file = "/modules", *thread_f
 constexpr const char *paths_file = "/paths";  // of creations, where call paths were asked for
 constexpr const char *samples_file = "/samples.";  // of a thread
 
-// In machine order. Kinds are those of `RecordKind`. Where the first eight bytes are 0 no record is written yet, and the
-// block's records end there. A record by the processor's clock has eight bytes more: that clock of the thread, in
+// In machine order. Kinds are those of `RecordKind`. Where the first eight bytes are 0 no record is written yet, and
+// the block's records end there. A record by the processor's clock has eight bytes more: that clock of the thread, in
 // nanoseconds.
 struct RawRecord {
   uint64_t at;  // ticks when the runtime called; the highest bit is 0

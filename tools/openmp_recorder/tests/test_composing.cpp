@@ -8,8 +8,10 @@ namespace {
 const std::string part = "  task {  # one of the region's threads\n";
 
 Made &explicit_barrier(Made &made) {
-  for (unsigned thread : {0, 1}) made.add(thread, RecordKind::SyncBegin, 1 + thread, 0, ompt_sync_region_barrier_explicit);
-  for (unsigned thread : {0, 1}) made.add(thread, RecordKind::SyncEnd, 1 + thread, 0, ompt_sync_region_barrier_explicit);
+  for (unsigned thread : {0, 1})
+    made.add(thread, RecordKind::SyncBegin, 1 + thread, 0, ompt_sync_region_barrier_explicit);
+  for (unsigned thread : {0, 1})
+    made.add(thread, RecordKind::SyncEnd, 1 + thread, 0, ompt_sync_region_barrier_explicit);
   return made;
 }
 }  // namespace
@@ -113,7 +115,10 @@ TEST(the_runtimes_own_region_is_no_code) {
 Run region_in_a_task(int64_t other) {
   Made made(2);
   made.create(0, 1, 3).barrier(0, 1).barrier(1, 2).go(0, 1, 3).add(0, RecordKind::ParallelBegin, 3, 2);
-  made.add(0, RecordKind::ImplicitBegin, 4, 2, 0, 2).add(1, RecordKind::ImplicitBegin, 5, 2, 0, 2).after(other / 2).barrier(0, 4);
+  made.add(0, RecordKind::ImplicitBegin, 4, 2, 0, 2)
+      .add(1, RecordKind::ImplicitBegin, 5, 2, 0, 2)
+      .after(other / 2)
+      .barrier(0, 4);
   made.after(other - other / 2).barrier(1, 5).add(1, RecordKind::ImplicitEnd, 5).after(100 - other);
   made.add(0, RecordKind::ImplicitEnd, 4).after(7).go(0, 3, 1, ompt_task_complete);
   return made.read();

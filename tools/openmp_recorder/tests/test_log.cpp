@@ -24,7 +24,8 @@ using log_form::ShortRecord;
 
 constexpr size_t in_block = block_bytes / sizeof(RawRecord);
 
-RawRecord raw(uint64_t at, RecordKind kind, uint32_t task = 0, uint32_t other = 0, uint64_t code = 0, unsigned detail = 0) {
+RawRecord raw(uint64_t at, RecordKind kind, uint32_t task = 0, uint32_t other = 0, uint64_t code = 0,
+              unsigned detail = 0) {
   return {at, task, other, log_form::make_word(code, static_cast<unsigned>(kind), detail)};
 }
 
@@ -81,7 +82,10 @@ class MadeLog {
 
 TEST(a_log_ends_at_the_first_record_that_is_not_there) {
   MadeLog log;
-  log.last({raw(10, RecordKind::Schedule, 1, 2, 0, 7), raw(20, RecordKind::SyncBegin, 2, 0, 99), {}, raw(30, RecordKind::Schedule)});
+  log.last({raw(10, RecordKind::Schedule, 1, 2, 0, 7),
+            raw(20, RecordKind::SyncBegin, 2, 0, 99),
+            {},
+            raw(30, RecordKind::Schedule)});
   std::vector<Record> found = log.records();
   EXPECT(found.size(), 2u);
   EXPECT(found[0].detail, 7u);
@@ -161,7 +165,8 @@ TEST(a_creation_has_the_path_that_is_listed) {
   MadeLog log;
   auto path = log_form::place_of_path(2);
   log.paths("4010a0 4020b0\n4010c0 4020b0\n");
-  log.last({raw(10, RecordKind::Create, 1, 2, path), raw(20, RecordKind::LoopBegin, 1, 0, path), raw(30, RecordKind::Create, 1, 3, 99)});
+  log.last({raw(10, RecordKind::Create, 1, 2, path), raw(20, RecordKind::LoopBegin, 1, 0, path),
+            raw(30, RecordKind::Create, 1, 3, 99)});
   std::vector<Record> found = log.records();
   EXPECT(found.size(), 3u);
   for (size_t i : {size_t{0}, size_t{1}}) {
@@ -227,7 +232,8 @@ TEST(a_block_that_was_not_written_whole_is_the_last_one) {
 
 TEST(items_follow_their_dependences) {
   MadeLog log;
-  log.last({raw(10, RecordKind::Dependences, 3, 0, 3), raw(uint64_t{1} << 56 | 64, RecordKind::Items, 72, 2u << 24, 0, 2),
+  log.last({raw(10, RecordKind::Dependences, 3, 0, 3),
+            raw(uint64_t{1} << 56 | 64, RecordKind::Items, 72, 2u << 24, 0, 2),
             raw(uint64_t{3} << 56 | 80, RecordKind::Items, 0, 0, 0, 1), raw(20, RecordKind::Schedule, 1, 2)});
   LogFolder folder = log.open();
   Records &thread = *folder.threads.at(0);
@@ -379,9 +385,9 @@ TEST(threads_without_files) {
 TEST(a_region_in_a_thread_of_a_team_is_inside) {
   MadeLog log;
   log.last({raw(10, RecordKind::ImplicitBegin, 5, 1, 4), raw(20, RecordKind::ParallelBegin, 5, 2, 99),
-            raw(30, RecordKind::ImplicitBegin, 6, 2, 2), raw(40, RecordKind::ImplicitEnd, 6, 2), raw(50, RecordKind::ParallelEnd, 0, 2),
-            raw(60, RecordKind::ImplicitEnd, 5, 1), raw(70, RecordKind::ImplicitBegin, 7, 0, 1, is_initial),
-            raw(80, RecordKind::ParallelBegin, 7, 3, 99)});
+            raw(30, RecordKind::ImplicitBegin, 6, 2, 2), raw(40, RecordKind::ImplicitEnd, 6, 2),
+            raw(50, RecordKind::ParallelEnd, 0, 2), raw(60, RecordKind::ImplicitEnd, 5, 1),
+            raw(70, RecordKind::ImplicitBegin, 7, 0, 1, is_initial), raw(80, RecordKind::ParallelBegin, 7, 3, 99)});
   LogFolder folder = log.open();
   while (folder.threads.at(0)->next()) {
   }

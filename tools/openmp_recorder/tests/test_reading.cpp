@@ -55,7 +55,8 @@ TEST(a_barrier_ends_the_groups_around_it_and_begins_them_anew) {
         .create(thread, 1 + thread, 5 + thread)
         .add(thread, RecordKind::WaitBegin, 1 + thread, 0, group);
   for (unsigned thread : {0u, 1u}) made.run(thread, 1 + thread, 5 + thread, 7);
-  for (unsigned thread : {0u, 1u}) made.add(thread, RecordKind::SyncEnd, 1 + thread, 0, group).barrier(thread, 1 + thread);
+  for (unsigned thread : {0u, 1u})
+    made.add(thread, RecordKind::SyncEnd, 1 + thread, 0, group).barrier(thread, 1 + thread);
   Run run = made.read();
   std::string text = text_of(only_region(run));
   for (const char *cost : {"9", "7"}) {
@@ -162,6 +163,25 @@ TEST(an_end_that_another_thread_tells_is_of_the_thread_that_ran) {
   EXPECT(events_of(region), "start 0 0\nfinish 0 0\nstart 0 2\nfinish 0 2\nstart 0 4\nfinish 0 4\n"
                             "start 1 1\nfinish 1 1\nstart 1 3\nfinish 1 3\n");
   EXPECT(region.remarks->count(Remark::ToldLate), 0u);
+}
+
+TEST(an_untied_task_is_left_where_another_thread_takes_it_up) {
+  Run run = Made(2)
+                .create(0, 1, 3, is_untied)
+                .barrier(0, 1)
+                .barrier(1, 2)
+                .go(0, 1, 3)
+                .after(1)
+                .go(1, 2, 3)
+                .after(4)
+                .go(0, 3, 1)
+                .after(5)
+                .go(1, 3, 2, ompt_task_complete)
+                .read();
+  Region &region = only_region(run);
+  EXPECT(text_of(region), "task {\n  work 10\n}\n");
+  EXPECT(events_of(region), "start 0 0\nfinish 0 0\nstart 1 1\nfinish 1 1\nstart 0 2\nfinish 0 2\n");
+  EXPECT(region.remarks->empty(), true);
 }
 
 TEST(an_end_without_a_word_is_before_the_thread_runs_another) {

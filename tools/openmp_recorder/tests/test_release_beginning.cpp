@@ -120,7 +120,10 @@ TEST(nothing_is_let_go_of_a_program_that_made_threads) {
   close_region(made.after(5), 2, 11);
   EXPECT(made.released().whole->before != nullptr, true);
   made.add(1, RecordKind::ImplicitBegin, 9, 0, is_initial).add(1, RecordKind::ParallelBegin, 9, 3);
-  made.add(1, RecordKind::ImplicitBegin, 20, 3, 0, 1).after(6).add(1, RecordKind::ImplicitEnd, 20).add(1, RecordKind::ParallelEnd, 0, 3);
+  made.add(1, RecordKind::ImplicitBegin, 20, 3, 0, 1)
+      .after(6)
+      .add(1, RecordKind::ImplicitEnd, 20)
+      .add(1, RecordKind::ParallelEnd, 0, 3);
   EXPECT(made.released().whole->before == nullptr, true);
   EXPECT(made.text().substr(0, 5), "task ");
 }

@@ -13,7 +13,9 @@ Made with_a_task() {
   return made;
 }
 
-Made &end_threads(Made &made) { return made.add(0, RecordKind::ImplicitEnd, 1, 1).add(1, RecordKind::ImplicitEnd, 2, 1); }
+Made &end_threads(Made &made) {
+  return made.add(0, RecordKind::ImplicitEnd, 1, 1).add(1, RecordKind::ImplicitEnd, 2, 1);
+}
 
 Made over() {
   Made made = with_a_task();
@@ -111,8 +113,14 @@ TEST(a_region_is_held_where_a_task_did_not_end) {
 
 TEST(a_region_in_a_task_of_another_is_held) {
   Made made(2);
-  made.create(0, 1, 3).go(0, 1, 3).add(0, RecordKind::ParallelBegin, 3, 2).add(0, RecordKind::ImplicitBegin, 4, 2, 0, 1);
-  made.after(10).add(0, RecordKind::ImplicitEnd, 4, 2).add(0, RecordKind::ParallelEnd, 3, 2).go(0, 3, 1, ompt_task_complete);
+  made.create(0, 1, 3)
+      .go(0, 1, 3)
+      .add(0, RecordKind::ParallelBegin, 3, 2)
+      .add(0, RecordKind::ImplicitBegin, 4, 2, 0, 1);
+  made.after(10)
+      .add(0, RecordKind::ImplicitEnd, 4, 2)
+      .add(0, RecordKind::ParallelEnd, 3, 2)
+      .go(0, 3, 1, ompt_task_complete);
   end_threads(made).add(0, RecordKind::ParallelEnd, 0, 1).add(0, RecordKind::ParallelBegin, 0, 3);
   made.add(0, RecordKind::ImplicitBegin, 11, 3, 0, 1).create(0, 11, 12);
   Run run = made.read({}, holding(0));

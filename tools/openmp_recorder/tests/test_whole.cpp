@@ -95,7 +95,10 @@ TEST(time_off_the_processor_is_told_by_segment) {
   Program made;
   made.after(50 * us).passed(0, 50 * us, 20 * us, true).add(0, RecordKind::SyncBegin, 1, 0, ompt_sync_region_taskwait);
   made.add(0, RecordKind::SyncEnd, 1, 0, ompt_sync_region_taskwait).add(0, RecordKind::Divided, 4, 1, 0, 50);
-  made.add(0, RecordKind::Chunk, 4).after(80 * us).passed(0, 80 * us, 40 * us, true, true).add(0, RecordKind::DividedEnd, 0, 1);
+  made.add(0, RecordKind::Chunk, 4)
+      .after(80 * us)
+      .passed(0, 80 * us, 40 * us, true, true)
+      .add(0, RecordKind::DividedEnd, 0, 1);
   end_region(made);
   made.times();
   EXPECT(off_lines(*made.found.whole, made.found.whole->off),
@@ -105,7 +108,11 @@ TEST(time_off_the_processor_is_told_by_segment) {
 TEST(time_off_the_processor_in_chunks_that_are_joined_is_of_the_first) {
   Program made;
   loop(made, 0, 3, {{1, 300}, {1, 400}});
-  made.add(0, RecordKind::Divided, 1, 1, 0, 50).add(0, RecordKind::Chunk, 1).after(900).add(0, RecordKind::Chunk, 1).after(90);
+  made.add(0, RecordKind::Divided, 1, 1, 0, 50)
+      .add(0, RecordKind::Chunk, 1)
+      .after(900)
+      .add(0, RecordKind::Chunk, 1)
+      .after(90);
   made.passed(0, 60 * us, 40 * us, true).add(0, RecordKind::DividedEnd, 0, 1);
   end_region(made);
   std::string times = made.times();
@@ -157,7 +164,9 @@ TEST(a_chunk_of_k_turns_is_k_pieces_of_its_cost) {
 
 TEST(sections_are_told_from_loops) {
   Program made;
-  made.add(0, RecordKind::Divided, 1, 1, static_cast<unsigned>(Divided::Sections), 50).add(0, RecordKind::Chunk, 1).after(2 * us);
+  made.add(0, RecordKind::Divided, 1, 1, static_cast<unsigned>(Divided::Sections), 50)
+      .add(0, RecordKind::Chunk, 1)
+      .after(2 * us);
   end_region(made.add(0, RecordKind::DividedEnd, 0, 1));
   std::string words = "task {  # a section\n        work 2000\n      }\n    }\n";
   EXPECT_PART(made.text(), "taskgroup {  # the sections\n      " + words);
@@ -210,7 +219,10 @@ TEST(turns_of_less_than_a_microsecond_are_written_together) {
 
 TEST(turns_that_joined_a_chunk_are_told_after_it) {
   Program made;
-  made.add(0, RecordKind::Divided, 5, 1, 0, 50).add(0, RecordKind::Chunk, 1).after(6 * us).add(0, RecordKind::Chunk, 1, 0, 0, 2);
+  made.add(0, RecordKind::Divided, 5, 1, 0, 50)
+      .add(0, RecordKind::Chunk, 1)
+      .after(6 * us)
+      .add(0, RecordKind::Chunk, 1, 0, 0, 2);
   end_region(made.after(2 * us).add(0, RecordKind::DividedEnd, 0, 0, 0, 1));
   EXPECT_PART(made.text(), of_turns + pieces(3, 2 * us) + pieces(2, us));
   EXPECT(made.found.whole->short_chunks.at(reinterpret_cast<const void *>(50)).times, 3u);
@@ -241,7 +253,11 @@ TEST(turns_that_are_not_told_are_counted_by_the_loop) {
 
 TEST(a_chunk_that_makes_tasks_is_code_of_its_part) {
   Program made;
-  made.add(0, RecordKind::Divided, 2, 1, 0, 50).add(0, RecordKind::Chunk, 1).after(2 * us).add(0, RecordKind::Chunk, 1).after(3 * us);
+  made.add(0, RecordKind::Divided, 2, 1, 0, 50)
+      .add(0, RecordKind::Chunk, 1)
+      .after(2 * us)
+      .add(0, RecordKind::Chunk, 1)
+      .after(3 * us);
   made.create(0, 1, 3).after(4 * us).add(0, RecordKind::DividedEnd, 0, 1);
   end_region(made.run(0, 1, 3, 5 * us));
   EXPECT_PART(made.text(), "    " + of_turns + pieces(1, 2 * us) + "    }\n    work 3000\n" +
@@ -268,7 +284,10 @@ TEST(a_loop_whose_chunks_are_not_told_stays_as_it_was_divided) {
 TEST(a_region_in_a_task_stands_where_the_task_met_it) {
   Program made;
   made.create(0, 1, 3).barrier(0, 1).go(0, 1, 3).after(2).add(0, RecordKind::ParallelBegin, 3, 2);
-  made.add(0, RecordKind::ImplicitBegin, 9, 2, 0, 1).after(5).add(0, RecordKind::ImplicitEnd, 9).add(0, RecordKind::ParallelEnd, 0, 2);
+  made.add(0, RecordKind::ImplicitBegin, 9, 2, 0, 1)
+      .after(5)
+      .add(0, RecordKind::ImplicitEnd, 9)
+      .add(0, RecordKind::ParallelEnd, 0, 2);
   made.after(3).go(0, 3, 1, ompt_task_complete).add(0, RecordKind::ParallelEnd, 0, 1);
   EXPECT_PART(made.text(), "    task {\n      work 2\n      taskgroup {\n        " + part +
                                "          work 5\n        }\n      }\n      work 3\n    }\n");
@@ -278,7 +297,10 @@ TEST(a_region_in_a_task_stands_where_the_task_met_it) {
 
 TEST(a_region_without_a_place_in_another_is_the_programs) {
   Program made;
-  made.after(2).add(0, RecordKind::ParallelBegin, 1, 2, is_runtimes).add(0, RecordKind::ImplicitBegin, 9, 2, 0, 1).after(5);
+  made.after(2)
+      .add(0, RecordKind::ParallelBegin, 1, 2, is_runtimes)
+      .add(0, RecordKind::ImplicitBegin, 9, 2, 0, 1)
+      .after(5);
   made.add(0, RecordKind::ImplicitEnd, 9).add(0, RecordKind::ParallelEnd, 0, 2);
   end_region(made.after(3));
   EXPECT_PART(made.text(),
@@ -289,7 +311,11 @@ TEST(a_region_without_a_place_in_another_is_the_programs) {
 TEST(tasks_and_loops_outside_of_regions_are_code_of_the_root) {
   Program made;
   end_region(made.after(4));
-  made.add(0, RecordKind::ImplicitBegin, 9, 0, is_initial).after(1).create(0, 9, 3, is_undeferred).run(0, 9, 3, 5).after(2);
+  made.add(0, RecordKind::ImplicitBegin, 9, 0, is_initial)
+      .after(1)
+      .create(0, 9, 3, is_undeferred)
+      .run(0, 9, 3, 5)
+      .after(2);
   loop(made, 0, 2, {{2, 4 * us}}, 0);
   EXPECT_PART(made.text(), "work 1\ntask if(0) {\n  work 5\n}\nwork 4002\n");
   EXPECT(made.found.outside.times, 0u);
@@ -322,7 +348,10 @@ TEST(a_thread_that_the_program_made_is_beside_the_first) {
   Program made(2);
   end_region(made.after(4), 2);
   made.add(1, RecordKind::ImplicitBegin, 9, 0, is_initial).add(1, RecordKind::ParallelBegin, 9, 2);
-  made.add(1, RecordKind::ImplicitBegin, 10, 2, 0, 1).after(6).add(1, RecordKind::ImplicitEnd, 10).add(1, RecordKind::ParallelEnd, 0, 2);
+  made.add(1, RecordKind::ImplicitBegin, 10, 2, 0, 1)
+      .after(6)
+      .add(1, RecordKind::ImplicitEnd, 10)
+      .add(1, RecordKind::ParallelEnd, 0, 2);
   std::string words = made.text();
   EXPECT(words.substr(0, 5), "task ");
   EXPECT_PART(words, "  taskgroup {\n    " + part + "      work 6\n    }\n  }\n");
@@ -334,7 +363,10 @@ TEST(by_the_processors_clock_it_has_its_code_outside_of_regions) {
   Program made(2);
   end_region(made.after(4), 2);
   made.add(1, RecordKind::ImplicitBegin, 9, 0, is_initial).add(1, RecordKind::ParallelBegin, 9, 2);
-  made.add(1, RecordKind::ImplicitBegin, 10, 2, 0, 1).after(6).add(1, RecordKind::ImplicitEnd, 10).add(1, RecordKind::ParallelEnd, 0, 2);
+  made.add(1, RecordKind::ImplicitBegin, 10, 2, 0, 1)
+      .after(6)
+      .add(1, RecordKind::ImplicitEnd, 10)
+      .add(1, RecordKind::ParallelEnd, 0, 2);
   made.after(5).add(1, RecordKind::ImplicitEnd, 9, 0, is_initial);
   std::string words = made.text();
   set_record_clock({false, 0});

@@ -7,33 +7,33 @@ import time
 from dataclasses import asdict
 
 from spanprof.command import Console
+from spanprof.conformance.emit.alone import Alone
+from spanprof.conformance.generate.directed import directed_programs, first_comment
+from spanprof.conformance.generate.random_programs import seeds_in_turn
+from spanprof.conformance.generate.text_writer import text_of
+from spanprof.conformance.generate.variants import in_variant
+from spanprof.conformance.judge.discarding import completed, record_of
+from spanprof.conformance.judge.explain import explain
+from spanprof.conformance.judge.segments import Table
+from spanprof.conformance.judge.verdicts import Missing
+from spanprof.conformance.opening import entry_points, found_judge, open_bench, plan_of, program_in, unit_in
 from spanprof.conformance.report import store, tables
+from spanprof.conformance.report.facts import facts_of, of_mutants, tested
+from spanprof.conformance.report.publish import publish
+from spanprof.conformance.report.results import Results
+from spanprof.conformance.report.texts import Report
 from spanprof.conformance.run import self_checking
 from spanprof.conformance.run.built import built_in
 from spanprof.conformance.run.campaign import (cases_of, directed_cases, random_cases, run_cases, self_checking_cases,
                                                telling_first, tried)
-from spanprof.conformance.emit.alone import Alone
-from spanprof.conformance.generate.directed import directed_programs, first_comment
-from spanprof.conformance.judge.discarding import completed, record_of
-from spanprof.conformance.judge.explain import explain
-from spanprof.conformance.report.facts import facts_of, of_mutants, tested
-from spanprof.conformance.generate.random_programs import seeds_in_turn
 from spanprof.conformance.run.journal import Journal
-from spanprof.conformance.judge.verdicts import Missing
 from spanprof.conformance.run.launch import read_logs
 from spanprof.conformance.run.mutant_campaigns import Campaigns
 from spanprof.conformance.run.progress import rough
 from spanprof.conformance.run.mutants import build_mutants, mutants_of, mutated
-from spanprof.conformance.opening import entry_points, found_judge, open_bench, plan_of, program_in, unit_in
-from spanprof.conformance.report.publish import publish
-from spanprof.conformance.report.results import Results
-from spanprof.conformance.report.texts import Report
 from spanprof.conformance.run.reproduce import Limits, reproduce_all
-from spanprof.conformance.judge.segments import Table
 from spanprof.conformance.run.sparing import SparingBench
-from spanprof.conformance.generate.text_writer import text_of
 from spanprof.conformance.run.took import taken
-from spanprof.conformance.generate.variants import in_variant
 
 CONSOLE = Console("spanprof-conformance")
 THREADS_ALONE = 4   # of a program by itself

@@ -8,8 +8,8 @@ from spanprof.diagnosis.calls import innermost
 from spanprof.diagnosis.losses import holds_neighbours, kind_of_starved, most_shared
 from spanprof.diagnosis.places import OF_THREADS, SERIAL, SHARE, in_text
 from spanprof.errors import Fault
-from spanprof.progress import Progress, each
 from spanprof.program_text import BARRIER
+from spanprof.progress import Progress, each
 from spanprof.whatif.creating import costs_for
 from spanprof.whatif.numbers import greedy_end
 from spanprof.whatif.requests import Request, applied, changes

@@ -20,10 +20,10 @@ from spanprof.diagnosis.undisturbed import is_disturbed, set_disturbed, starved_
 from spanprof.errors import reading
 from spanprof.head import head_of
 from spanprof.idle import idle_by_place, most_at_once
+from spanprof.program_text import BEGINNING
 from spanprof.recording import document
 from spanprof.regions import program_of, union
 from spanprof.segment_table import code_in
-from spanprof.program_text import BEGINNING
 from spanprof.text_file import TextFile
 from spanprof.time_breakdown import breakdown_of
 from spanprof.whatif.numbers import numbers_of

@@ -8,9 +8,9 @@ from operator import add
 from typing import List, Tuple
 
 from spanprof.marks import CREATING
+from spanprof.program_text import BARRIER, OF_A_THREAD, construct, is_share, named
 from spanprof.segment_table import Code
 from spanprof.source_lines import line_of
-from spanprof.program_text import BARRIER, OF_A_THREAD, construct, is_share, named
 
 SERIAL, OF_THREADS, TASK, SHARE = "serial", "of threads", "task", "share"
 AFTER_REGION = "after the " + BARRIER

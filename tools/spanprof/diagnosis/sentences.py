@@ -15,8 +15,8 @@ from spanprof.diagnosis.plan import holder
 from spanprof.diagnosis.sleeps import words_of_sleep
 from spanprof.durations import lasting
 from spanprof.head import grouped
-from spanprof.source_lines import line_of
 from spanprof.program_text import SECTION, where
+from spanprof.source_lines import line_of
 
 WIDTH, MOST_LINES = 100, 8
 LABEL = 6

@@ -2,10 +2,10 @@
 import argparse
 import os
 
-from spanprof.durations import lasting
 from spanprof.answers import Answers
 from spanprof.command import Console, end_with
 from spanprof.diagnosis.sentences import shortened
+from spanprof.durations import lasting
 from spanprof.errors import Fault
 from spanprof.head import counted
 from spanprof.imports.folder import write

@@ -7,20 +7,20 @@ from typing import List
 from spanprof import client
 from spanprof.converting import convert_into, converter, has_failed, recorder_library
 from spanprof.errors import Fault
-from spanprof.recording import ENDING, LOG, META, TEXT, open_recording
 from spanprof.record.console import say, tell
 from spanprof.record.counters import Counters
 from spanprof.record.facts import facts_of_run, processors_there_are
 from spanprof.record.files import check_file, check_folder
 from spanprof.record.linkage import linkage
+from spanprof.record.messages import Messages
 from spanprof.record.meta import old_meta, write_meta
 from spanprof.record.ranks import is_launcher, of_rank, rank_of
 from spanprof.record.run import environment, signal_name, watched
 from spanprof.record.runtime import choose, refuse_targets, what_it_lacks
 from spanprof.record.runtime_name import note_of
 from spanprof.record.target import find, launched
-from spanprof.record.messages import Messages
 from spanprof.record.work import Work, taken
+from spanprof.recording import ENDING, LOG, META, TEXT, open_recording
 
 
 @dataclass

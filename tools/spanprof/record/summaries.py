@@ -5,22 +5,22 @@ import shlex
 from typing import NamedTuple
 
 from spanprof import client
-from spanprof.time_breakdown import recorded_breakdown
-from spanprof.breakdown_lines import lines_of
 from spanprof.answers import Answers
+from spanprof.breakdown_lines import lines_of
 from spanprof.command import show
 from spanprof.diagnosis.compare import compared, lines as comparison_lines
 from spanprof.diagnosis.output import output_of
 from spanprof.errors import Fault
 from spanprof.head import Head, head_of
-from spanprof.recording import open_recording
 from spanprof.record.console import tell
 from spanprof.record.counters import words_of
 from spanprof.record.ranks import is_child
 from spanprof.record.summary import named, other_region, remark_lines, summary, title
 from spanprof.record.summary_json import run_json, summary_json, write_json
 from spanprof.record.waits import told as told_of_waits, waited_for, waits_of
+from spanprof.recording import open_recording
 from spanprof.regions import program_of
+from spanprof.time_breakdown import recorded_breakdown
 
 MORE = "spanprof-report %s"
 

@@ -4,7 +4,6 @@ from array import array
 from functools import cached_property
 from typing import List, NamedTuple
 
-from spanprof.time_breakdown import recorded_breakdown, times_name
 from spanprof.answers import Answers
 from spanprof.diagnosis.output import diagnosis_of
 from spanprof.recording import folder_of, open_recording
@@ -16,6 +15,7 @@ from spanprof.report.true_times import true_times_beside
 from spanprof.report.units import Units
 from spanprof.source import Sources
 from spanprof.source_lines import OF_A_STATEMENT, line_of, stretches
+from spanprof.time_breakdown import recorded_breakdown, times_name
 
 COLOURS = len(BARS)
 

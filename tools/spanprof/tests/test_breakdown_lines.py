@@ -1,10 +1,10 @@
 import json
 import unittest
 
-from spanprof.time_breakdown import TimeBreakdown, Blocked, Row, Rows
 from spanprof.breakdown_lines import as_json, breakdown_lines, lines_of, proved_sums
 from spanprof.durations import lasting
 from spanprof.tests.proofs import with_a_proved_program
+from spanprof.time_breakdown import TimeBreakdown, Blocked, Row, Rows
 
 MS = 10 ** 6
 setUpModule = with_a_proved_program

@@ -4,9 +4,9 @@ import unittest
 from collections import Counter
 
 from spanprof import folders
-from spanprof.tests.columns import segments_of
 from spanprof.marks import LONGEST_KNOWN, Marks, statements
 from spanprof.program_text import Statement, is_programs, text_lines, where
+from spanprof.tests.columns import segments_of
 from spanprof.whatif.tests.made_up import ROW, SORT, changed, read
 
 LOOP = "taskgroup {  # the loop at a.c:5\n task {  # turns of the loop at a.c:5\n  work 1\n }\n work 2\n}\nwork 3\n"

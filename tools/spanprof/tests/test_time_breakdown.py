@@ -3,13 +3,13 @@ import tempfile
 import unittest
 from unittest import mock
 
-from spanprof.time_breakdown import TimeBreakdown, Blocked, recorded_breakdown, breakdown_of, divide_busy, times_name
 from spanprof.breakdown_program import NoBreakdown
 from spanprof.client import HOW
 from spanprof.head import Lock
 from spanprof.record.tests.made_up import Answers, Head
 from spanprof.remarks import remark_of
 from spanprof.tests.columns import code_of
+from spanprof.time_breakdown import TimeBreakdown, Blocked, recorded_breakdown, breakdown_of, divide_busy, times_name
 
 SUMS = "threads 2\nelapsed 14\nbusy 11\ndelayed 7\nstarved 8\noutside 2\n"
 ROWS = "segment,thread,ready,begin,end\n0,0,0,0,5\n1,0,5,6,9\n2,0,5,9,11\n3,1,11,12,13\n"

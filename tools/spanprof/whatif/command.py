@@ -8,18 +8,18 @@ import tempfile
 from spanprof import client
 from spanprof.command import Console, check_files, count, end_with
 from spanprof.errors import Fault
+from spanprof.marks import statements
 from spanprof.predict.predictions import changed_told
 from spanprof.recording import text_of
-from spanprof.marks import statements
 from spanprof.text_file import TextFile
 from spanprof.version import Version
 from spanprof.whatif.creating import costs_for
 from spanprof.whatif.listing import listing
 from spanprof.whatif.numbers import numbers_of
+from spanprof.whatif.output import as_json, lines, notes
 from spanprof.whatif.requests import Request, applied, changes
 from spanprof.whatif.statements import as_statements
 from spanprof.whatif.survey import survey
-from spanprof.whatif.output import as_json, lines, notes
 from spanprof.whatif.texts import Text, version_of, write
 
 DESCRIPTION = """Changes a recorded program text as one might change the program, and compares work, span, and the

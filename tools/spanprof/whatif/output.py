@@ -1,9 +1,9 @@
 """What is told of a text and its changed text, in lines and as JSON."""
 import json
 
-from spanprof.validity import speaks_of, why_not_of_more_threads
 from spanprof.head import grouped
 from spanprof.proof import proved
+from spanprof.validity import speaks_of, why_not_of_more_threads
 
 RIGHT = (("drop-wait drop-depend drop-name in-for-inout read-only",
           "whether the program stays right without it is for you to judge: no text says what its tasks read and write"),

@@ -36,6 +36,7 @@ void hand_on(void (*wait)(Turn, ...), const Turn *turn, std::index_sequence<Loop
 ompt_wait_id_t name_of_order() { return reinterpret_cast<ompt_wait_id_t>(&this_here.counts) | 1; }
 }  // namespace
 
+// As a lock, whose wait counts as no code: the thread holds it while no other turn is in such a part.
 ENTRY void GOMP_ordered_start() {
   ENTER(GOMP_ordered_start);
   here();

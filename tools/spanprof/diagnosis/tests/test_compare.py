@@ -1,8 +1,8 @@
 import unittest
 
-from spanprof.diagnosis.lock_times import Held
 from spanprof.diagnosis.compare import as_json, compared, is_slower, lines, matched_by, spread_of
 from spanprof.diagnosis.diagnose import diagnose
+from spanprof.diagnosis.lock_times import Held
 from spanprof.diagnosis.names import Names
 from spanprof.diagnosis.output import Output
 from spanprof.diagnosis.tests.worked import MS, facts, place

@@ -6,7 +6,6 @@ from collections import Counter
 from types import SimpleNamespace
 from unittest import mock
 
-from spanprof.time_breakdown import TimeBreakdown, Row, Rows
 from spanprof.diagnosis import facts as module
 from spanprof.diagnosis.calls import RUNTIME, Sampled, calls_of
 from spanprof.diagnosis.diagnose import diagnose
@@ -21,6 +20,7 @@ from spanprof.errors import Fault
 from spanprof.head import read_head
 from spanprof.recording import open_recording
 from spanprof.regions import Program, Region, program_of
+from spanprof.time_breakdown import TimeBreakdown, Row, Rows
 
 HEAD = """# recorded: {"program": "image", "threads": 2, "clock": "wall", "unit": "us"}
 # whole program: {"regions": 1}

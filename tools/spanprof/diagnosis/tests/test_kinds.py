@@ -4,7 +4,7 @@ import os
 import unittest
 
 from spanprof.diagnosis.calls import RUNTIME, Sampled
-from spanprof.diagnosis.causes import BY_KIND, TABLE
+from spanprof.diagnosis.causes import BY_KIND, NAMES, TABLE
 from spanprof.diagnosis.diagnose import diagnose
 from spanprof.diagnosis.facts import Region
 from spanprof.diagnosis.library_locks import set_library_locks
@@ -272,6 +272,9 @@ class Table(unittest.TestCase):
     def test_each_kind_has_a_test(self):
         for cause in TABLE:
             self.assertTrue(hasattr(Kinds, "test_" + cause.kind), cause.kind)
+
+    def test_each_kind_has_a_short_name(self):
+        self.assertEqual({cause.kind for cause in TABLE} - set(NAMES), {"efficient"})
 
     def test_each_kind_is_in_the_manual(self):
         with open(MANUAL, encoding="utf-8") as file:

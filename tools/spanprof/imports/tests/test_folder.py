@@ -4,7 +4,6 @@ import pathlib
 import unittest
 from unittest import mock
 
-from spanprof.time_breakdown import breakdown_of
 from spanprof.errors import Fault
 from spanprof.head import head_of
 from spanprof.imports.folder import write
@@ -13,6 +12,7 @@ from spanprof.predict.predictions import text_of
 from spanprof.predict.recorded import recorded
 from spanprof.recording import document, open_recording
 from spanprof.tests.in_folder import InFolder
+from spanprof.time_breakdown import breakdown_of
 
 TASKS = [Task("a.o", "", 100, 5100), Task("b.o", "", 100, 4100), Task("link", "", 5100, 6100, before=[0, 1])]
 

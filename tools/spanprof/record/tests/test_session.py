@@ -8,11 +8,11 @@ from unittest import mock
 
 from spanprof.errors import Fault
 from spanprof.record import command, session
-from spanprof.record.runs import record_often
+from spanprof.record.messages import Messages
 from spanprof.record.run import Ended
+from spanprof.record.runs import record_often
 from spanprof.record.runtime import Chosen
 from spanprof.record.session import Recorded
-from spanprof.record.messages import Messages
 from spanprof.recording import Recording, open_recording
 from spanprof.tests.in_folder import InFolder
 from spanprof.tests.recordings import TEXT, recording, write

@@ -11,9 +11,9 @@ from spanprof.answers import take_runs
 from spanprof.client import HOW
 from spanprof.errors import Fault
 from spanprof.record import summaries
+from spanprof.record.messages import Messages
 from spanprof.record.session import Recorded
 from spanprof.record.tests.made_up import Answers, Head
-from spanprof.record.messages import Messages
 from spanprof.remarks import remark_of
 from spanprof.tests.in_folder import InFolder
 from spanprof.tests.recordings import TEXT, recording

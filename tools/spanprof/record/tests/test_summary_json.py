@@ -3,10 +3,10 @@ import os
 import tempfile
 import unittest
 
-from spanprof.time_breakdown import TimeBreakdown, Row, Rows
 from spanprof.errors import Fault
 from spanprof.record.summary_json import run_json, summary_json, write_json
 from spanprof.record.tests.made_up import Answers
+from spanprof.time_breakdown import TimeBreakdown, Row, Rows
 
 
 def account():

@@ -3,11 +3,11 @@ import json
 import re
 from functools import cached_property
 
-from spanprof.time_breakdown import breakdown_of
 from spanprof.head import read_head
+from spanprof.program_text import has_loops
 from spanprof.recording import document, open_recording
 from spanprof.segment_table import read_code
-from spanprof.program_text import has_loops
+from spanprof.time_breakdown import breakdown_of
 
 ROWS_OF_A_CURVE = 64
 

@@ -2,8 +2,8 @@
 import unittest
 
 from spanprof.conformance.generate.constructs import constructs
-from spanprof.conformance.generate.random_programs import RECIPES, SHAPES, random_program, seeds_in_turn
 from spanprof.conformance.generate.program import C_KINDS, Task, nodes, segment_count
+from spanprof.conformance.generate.random_programs import RECIPES, SHAPES, random_program, seeds_in_turn
 from spanprof.conformance.generate.text_reader import read_program
 from spanprof.conformance.generate.text_writer import text_of
 
