@@ -45,6 +45,7 @@ MOST_SHRUNK, SHRINK_RUNS, SHRINK_TRIES, SHRINK_SECONDS = 8, 20, 300, 60  # of sm
 
 def command_run(options, folder):
     """Runs directed, self-checking and random programs, and shrinks those that fail."""
+    CONSOLE.say(f"{options.cc}: first what all programs share is built")
     bench = open_bench(options, folder)
     plan = plan_of(options, bench)
     what = tested(options, bench, plan.settings)

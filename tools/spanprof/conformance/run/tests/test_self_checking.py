@@ -5,7 +5,7 @@ from types import SimpleNamespace
 
 from spanprof.conformance.run import self_checking
 from spanprof.conformance.judge.cases import Case
-from spanprof.conformance.judge.expected import Expectations
+from spanprof.conformance.judge.expected import Expectations, read_line
 from spanprof.conformance.judge.verdicts import Verdict
 from spanprof.conformance.run.launch import Conditions
 from spanprof.conformance.run.toolchain import BuildFailed
@@ -81,6 +81,12 @@ class Tries(unittest.TestCase):
         conditions = Conditions(2, 8, 1, 0, 1)
         tally = self_checking.try_case(bench(script("while :; do :; done")), self.CASE, [conditions])[0]
         self.assertEqual([failure.verdict for failure in tally.failures], [Verdict("hung", "busy")])
+
+    def test_what_is_known_takes_no_more_time(self):
+        known = bench(script("echo 'turns: 12 was seen, 11 is right'; exit 1"))
+        known.expectations = Expectations("libgomp.so.1", [read_line("family=gomp program=cancel_loop : some.c")])
+        tallies = self_checking.try_case(known, self.CASE, [CONDITIONS, CONDITIONS])
+        self.assertEqual([dict(tally.expected) for tally in tallies], [{"some.c": self_checking.RUNS}])
 
     def test_a_program_that_has_ended_does_not_sleep(self):
         with subprocess.Popen(["true"]) as process:
