@@ -41,7 +41,7 @@ def numbers_of_threads(word):
 
 def parser():
     out = argparse.ArgumentParser(prog="spanprof-record", description=DESCRIPTION, epilog=AFTER, allow_abbrev=False,
-                 usage="spanprof-record [options] [--] PROGRAM [ARGUMENT ..]")
+                                  usage="spanprof-record [options] [--] PROGRAM [ARGUMENT ..]")
     add = out.add_argument
     add("--out", metavar="NAME", help="write the folder NAME.spanprof (default: the program's name); MPI processes "
         "write NAME.rank0.spanprof and so on, child processes NAME.child1.spanprof")
