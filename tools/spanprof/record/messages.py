@@ -82,7 +82,7 @@ class Messages:
     def without(self, texts):
         """All but that these were written."""
         return Messages(self.loaded, [one for one in self.things
-                                  if not (one["message"] == "text" and one["file"] in texts)])
+                                      if not (one["message"] == "text" and one["file"] in texts)])
 
     def news(self, out, texts=(), remarks=()):
         """What the summary would not show, without the path of the files; two conversions may tell the same."""

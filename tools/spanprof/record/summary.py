@@ -11,8 +11,8 @@ from spanprof.report.figures import rounded_down, rounded_up
 from spanprof.report.places import places
 from spanprof.report.units import Units
 from spanprof.validity import (OTHERWISE, against_parallelism, against_span, gain_may_be_less, gain_may_be_more,
-                             is_divided, is_of_one_thread, is_partial, least_end, lock_binds, pieces_words,
-                             share_covered, tasks_made, tenths, why_not_of_more_threads)
+                               is_divided, is_of_one_thread, is_partial, least_end, lock_binds, pieces_words,
+                               share_covered, tasks_made, tenths, why_not_of_more_threads)
 
 THREADS = (2, 4, 8, 16)
 MOST_PLACES = 3

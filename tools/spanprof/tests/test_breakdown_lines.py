@@ -13,7 +13,7 @@ setUpModule = with_a_proved_program
 def account(**told):
     """4 x 68 ms: a task of 128 ms ran beside others that were ready, and then alone."""
     made = TimeBreakdown(**dict(dict(threads=4, elapsed=68 * MS, busy=128 * MS, delayed=112 * MS, starved=24 * MS,
-                               outside=8 * MS), **told))
+                                     outside=8 * MS), **told))
     made.idle = ({"task at a.c:3": 84 * MS, "task at a.c:5": 28 * MS}, {"the beginning": 24 * MS})
     return made
 

@@ -131,7 +131,7 @@ class Program(Sums):
         """The account of the run beside the text, asked anew."""
         text = self.answer("show") if has_loops(self.text) else self.text
         return breakdown_of(read_head(self.text), self.line("work", "span"), self.timed,
-                          list(read_code(text.split("\n"), "the text").places))
+                            list(read_code(text.split("\n"), "the text").places))
 
     def account(self, what, number=None):
         if number is None:
