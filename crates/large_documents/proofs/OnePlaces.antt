@@ -1,5 +1,5 @@
 -- Of the places of segments something is told, and no two things.
-use Rattle.std.proofs.Common.{◌≡◌, ◌≢◌, ◌∙◌, ◌⊎◌, ℕ, List, Option, Some, None, ap, [], inl, inr, length}
+use Rattle.std.proofs.Common.{◌≡◌, ◌∙◌, ℕ, List, Option, Some, None, ap, [], inl, inr, length}
 use Rattle.std.proofs.Common.{refl, subst, sym, codes}
 use Rattle.std.proofs.lemmas.Bool.{cases_eq}
 use Rattle.dispatch_core.proofs.SomeGraph.{IsWhole}
@@ -14,7 +14,7 @@ use Rattle.spanprof_command.proofs.SomeReport.{some_slacks}
 use Rattle.spanprof_command.specs.Certificates.{refused_as}
 use Rattle.spanprof_command.specs.Report.{Report}
 use Rattle.spanprof_command.specs.Slacks.{AreAnalysed}
-use Rattle.large_documents.specs.PlaceReports.{RefusesPlaces, SaysOfPlaces, TakesPlaces, TellsFault}
+use Rattle.large_documents.specs.PlaceReports.{SaysOfPlaces, TakesPlaces, TellsFault}
 use Rattle.large_documents.specs.PlaceReports.{places_of}
 use Rattle.large_documents.specs.Places.{IsPlacesFault, places_in}
 use Rattle.large_documents.specs.declared.places.PlacesFault.{PlacesFault}

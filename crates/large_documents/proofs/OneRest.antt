@@ -1,5 +1,5 @@
 -- Of a document something is told, and no two things.
-use Rattle.std.proofs.Common.{◌≡◌, ℕ, List, Some}
+use Rattle.std.proofs.Common.{ℕ, List, Some}
 use Rattle.command_words.specs.declared.large.DocumentRequest.{DocumentRequest}
 use Rattle.command_words.specs.declared.large.DocumentRequest.TheVariants.{Account, Check}
 use Rattle.command_words.specs.declared.large.DocumentRequest.TheVariants.{Places, Replay, WhatIf}

@@ -1,5 +1,5 @@
 -- How the sums of each place grow with each segment.
-use Rattle.std.proofs.Common.{◌≡◌, ◌≢◌, ◌+◌, ◌<◌, ◌≤◌, ◌∙◌, ◌++◌, ◌^◌, ℕ, zero, suc, List, [], ◌∷◌}
+use Rattle.std.proofs.Common.{◌≡◌, ◌+◌, ◌<◌, ◌≤◌, ◌∙◌, ◌++◌, ℕ, zero, suc, List, [], ◌∷◌}
 use Rattle.std.proofs.Common.{Bool, true, false, Option, Some, None, ap, sym, refl, arith, length, take}
 use Rattle.std.proofs.Common.{get_or, set, inl, inr, replicate, sum, map, filter, add-one}
 use Rattle.std.proofs.Common.{min, not, sum_by, cond}

@@ -1,10 +1,10 @@
 -- What is told of the places of a program's segments that stand behind it.
-use Rattle.std.specs.Prelude.{ℕ, ◌≡◌, ◌⊎◌, List, length, Some, codes}
+use Rattle.std.specs.Prelude.{ℕ, ◌≡◌, ◌⊎◌, List, length, codes}
 use Rattle.dispatch_core.specs.RecordedGraph.{RecordedGraph}
 use Rattle.span_analysis.specs.Findings.{Findings, IsAnalysis}
 use Rattle.task_segments.specs.Table.{Table}
 use Rattle.spanprof_command.specs.Certificates.{refused_as}
-use Rattle.spanprof_command.specs.Report.{Report, out_of_memory, table_report}
+use Rattle.spanprof_command.specs.Report.{Report, table_report}
 use Rattle.spanprof_command.specs.Slacks.{AreAnalysed}
 use Rattle.large_documents.specs.Places.{ArePlaces, IsPlacesFault, place_count, places_header, row_of}
 use Rattle.large_documents.specs.Places.{sums_at}

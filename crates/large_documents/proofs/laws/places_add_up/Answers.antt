@@ -1,4 +1,4 @@
-use Rattle.std.proofs.Common.{◌<◌, ◌∙◌, ℕ, sym, subst}
+use Rattle.std.proofs.Common.{◌<◌, ℕ, sym, subst}
 use Rattle.large_documents.proofs.PlaceParts.{add_up}
 use Rattle.large_documents.proofs.laws.places_add_up.Goals as goal
 

@@ -1,4 +1,4 @@
-use Rattle.std.proofs.Common.{ap, arith, length, set, slice_index_or, subst, take, List, ℕ}
+use Rattle.std.proofs.Common.{ap, arith, length, set, slice_index_or, subst, List, ℕ}
 use Rattle.std.proofs.lemmas.List.{take_all}
 use Rattle.large_documents.proofs.PlaceGrowth.{few_on_path, member_inside, more_path, nth_member}
 use Rattle.large_documents.proofs.PlaceGrowth.{path_so_far, place_inside}

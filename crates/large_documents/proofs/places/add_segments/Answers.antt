@@ -1,4 +1,4 @@
-use Rattle.std.proofs.Common.{◌∙◌, [], ap, arith, length, set, slice_index_or, subst, take, List, ℕ}
+use Rattle.std.proofs.Common.{◌∙◌, [], ap, arith, length, set, slice_index_or, subst, List, ℕ}
 use Rattle.std.proofs.lemmas.List.{take_all}
 use Rattle.std.proofs.lemmas.List.FromFn.{length-range_with_len}
 use Rattle.large_documents.proofs.PlaceGrowth.{all_work, few_so_far, more_segments, nth_segment}

@@ -1,4 +1,4 @@
-use Rattle.std.proofs.Common.{◌∙◌, ◌≡◌, ℕ, List, ap, arith, inl, inr, length, subst, sym}
+use Rattle.std.proofs.Common.{◌∙◌, ℕ, List, ap, arith, inl, inr, length, subst, sym}
 use Rattle.std.proofs.lemmas.Result.{IfOk-weaker}
 use Rattle.large_documents.proofs.Members.{same_count}
 use Rattle.large_documents.specs.Places.{ArePlaces, IsPlacesFault}

@@ -1,6 +1,5 @@
-use Rattle.std.proofs.Common.{◌∙◌, ◌≡◌, ◌<◌, ◌≤◌, ℕ, List, ap, arith, length, subst, sum, sym}
+use Rattle.std.proofs.Common.{◌∙◌, ◌<◌, ℕ, List, ap, arith, length, subst, sum, sym}
 use Rattle.dispatch_core.specs.RecordedGraph.{Precedes}
-use Rattle.program_text.specs.declared.limits.TheConstants.{MOST_WORK}
 use Rattle.csv_table.specs.Tables.{numbered_table}
 use Rattle.large_documents.proofs.PlaceRows.{path_work, table_of_sums}
 use Rattle.large_documents.specs.PlaceSteps.{ArePlaceSums}
