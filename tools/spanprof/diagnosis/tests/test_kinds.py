@@ -214,7 +214,8 @@ class Kinds(unittest.TestCase):
         found.locks = []
         self.assertEqual([one.kind for one in in_code_losses(found) if one.time], ["small_tasks"])
         own = place(OWN + " at image.c:20", OF_THREADS, pieces=4000, tasks=0)
-        found = facts([own], calls=Sampled({own.name: took[TASKS]}, {}), regions=[Region("image.c:20", 4, MS, times=1000)])
+        found = facts([own], calls=Sampled({own.name: took[TASKS]}, {}),
+                      regions=[Region("image.c:20", 4, MS, times=1000)])
         self.assertEqual([(one.kind, one.time // MS) for one in in_code_losses(found) if one.time],
                          [("small_regions", 30)])
 
