@@ -62,7 +62,7 @@ std::vector<std::pair<Function, Found>> longest_of(const std::map<Function, Foun
   return out;
 }
 
-// Of a function; an atomic operation is none without the contention, as a rule.
+// Of a function; an atomic operation goes as a whole where nothing is shared.
 void set_beyond(const Found &function, const Stacks &stacks, const std::vector<bool> &atomic,
                 std::vector<Contended> &all) {
   std::vector<Interrupted> some, others;

@@ -40,7 +40,7 @@ def allocating(facts):
         lines, ran = (found.get(place.name, {}) for found in (facts.calls.allocated, facts.calls.ran))
         sampled, allocated = sum(ran.values()), sum(lines.values())
         code = max(0, place.cost - facts.asleep_by.get(place.name, 0))
-        for line, time in lines.items() if sampled else ():
+        for line, time in lines.items() if sampled and allocated else ():
             share = time * (allocated + around_freeing(ran, functions)) / (allocated * sampled)
             out[ALLOCATION + line.partition(" ")[0]] += int(code * share)
     return out

@@ -254,8 +254,8 @@ def set_starting(facts):
 
 
 def set_waiting(facts):
-    """Threads that wait for locks of OpenMP are sampled as code is: as much in the runtime as samples are more than
-    code is none of it."""
+    """Threads that wait for locks of OpenMP are sampled as code is: what samples in the runtime are more than code is
+    none of it."""
     for name, ran in facts.calls.ran.items():
         code = facts.places[name].cost - facts.asleep_by.get(name, 0) if name in facts.places else 0
         waited = min(facts.at_locks, 1000 * sum(ran.values()) - code) // 1000

@@ -22,7 +22,8 @@ def attributes(kind, number):
 def perf_event_open(asked):
     """A file, or less than 0."""
     number = CALLS.get(platform.machine())
-    return ctypes.CDLL(None).syscall(ctypes.c_long(number), asked, 0, -1, -1, CLOSED_ON_EXEC) if number else -1
+    flags = ctypes.c_ulong(CLOSED_ON_EXEC)
+    return ctypes.CDLL(None).syscall(ctypes.c_long(number), asked, 0, -1, -1, flags) if number else -1
 
 
 def scaled(words):
