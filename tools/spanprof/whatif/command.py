@@ -58,8 +58,8 @@ def parse(words):
     add("--least", type=count(0, 10 ** 12), metavar="COST",
         help="neither split code that costs less nor make it a task (default: where a part would cost less than its "
         "creation)")
-    add("-o", "--output", metavar="CHANGED.tasks", help="write the changed text to this file; - is standard output, and the numbers go "
-        "to standard error then")
+    add("-o", "--output", metavar="CHANGED.tasks",
+        help="write the changed text to this file; - is standard output, and the numbers go to standard error then")
     add("--places", action="store_true", help="list the places and depend items that can be changed")
     add("--json", action="store_true", help="print JSON")
     add("--version", action=Version)
