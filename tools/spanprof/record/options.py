@@ -11,9 +11,9 @@ from spanprof.version import Version
 
 DESCRIPTION = """Records a run of an OpenMP program, and prints on standard error what costs it time and what to change
 first."""
-AFTER = """Everything after -- is the program and its arguments. The exit status is the program's, even if its page cannot
-be written; 2 for wrong arguments, 3 if --fail-above was exceeded, 125 if nothing was recorded, 126 if the program cannot
-be run, 127 if it does not exist. The program still reads OMP_* variables."""
+AFTER = """Everything after -- is the program and its arguments. The exit status is the program's, even if its page
+cannot be written; 2 for wrong arguments, 3 if --fail-above was exceeded, 125 if nothing was recorded, 126 if the
+program cannot be run, 127 if it does not exist. The program still reads OMP_* variables."""
 MOST_RUNS = 99
 RUNS_OF_A_SCALE = 5
 MOST_THREADS = 1024
