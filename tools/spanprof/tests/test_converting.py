@@ -44,7 +44,7 @@ class Converters(InFolder):
     def test_texts_come_into_the_folder(self):
         folder = recording(self.folder)
         told = self.into(folder, 'echo new > $2.tasks; echo off > $2.off\n'
-                                 'echo "{\\"told\\": \\"text\\", \\"file\\": \\"$2.tasks\\"}"')
+                                 'echo "{\\"message\\": \\"text\\", \\"file\\": \\"$2.tasks\\"}"')
         self.assertEqual(told, [{"message": "text", "file": os.path.join(folder, "program.tasks")}])
         self.assertEqual(sorted(os.listdir(folder)), ["log", "off", "program.tasks", "recording.json"])
 
@@ -57,7 +57,7 @@ class Converters(InFolder):
         self.assertTrue(open_recording(folder).text)
 
     def test_a_line_that_is_cut(self):
-        told = self.convert("printf '{\"told\": \"te'; kill -9 $$")
+        told = self.convert("printf '{\"message\": \"te'; kill -9 $$")
         self.assertEqual([one["message"] for one in told], ["fault"])
 
 
