@@ -35,12 +35,12 @@ FILE *nameless_file(const std::string &beside) {
 }  // namespace
 
 Stretches::Stretches(const std::string &beside) : file(nameless_file(beside)) {
-  if (!file) give_up("cannot be written beside the texts");
+  if (!file) give_up("cannot be written next to the texts");
   setvbuf(file.get(), nullptr, _IOFBF, buffered);
 }
 
 void Stretches::write(const void *bytes, std::size_t count) {
-  if (fwrite_unlocked(bytes, 1, count, file.get()) != count) give_up("cannot be written beside the texts");
+  if (fwrite_unlocked(bytes, 1, count, file.get()) != count) give_up("cannot be written next to the texts");
 }
 
 void Stretches::read(void *bytes, std::size_t count) {
@@ -97,7 +97,7 @@ void Stretches::get_task(Task &t, const std::vector<Task *> &all) {
 }
 
 void Stretches::each(const std::function<void(Region &, std::size_t, const std::vector<Task *> &)> &take) {
-  if (fseek(file.get(), 0, SEEK_SET)) give_up("cannot be written beside the texts");
+  if (fseek(file.get(), 0, SEEK_SET)) give_up("cannot be written next to the texts");
   for (std::size_t number = 0; number < counts.size(); number++) {
     Region stretch;
     std::vector<Task *> all;

@@ -57,7 +57,7 @@ class Converters(InFolder):
         self.assertTrue(open_recording(folder).text)
 
     def test_a_line_that_is_cut(self):
-        told = self.convert("printf '{\"told\": \"te'; kill -9 $$")
+        told = self.convert("printf '{\"message\": \"te'; kill -9 $$")
         self.assertEqual([one["message"] for one in told], ["fault"])
 
 
