@@ -5,6 +5,7 @@ import unittest
 import unittest.mock
 
 import build
+import operators
 import own_tests
 import sources
 import table
@@ -75,6 +76,46 @@ class Building(unittest.TestCase):
         with tempfile.TemporaryDirectory() as folder:
             with self.assertRaisesRegex(sources.NoSource, "sh -c .* fails: bad luck"):
                 sources.run(["sh", "-c", "echo bad luck; exit 1"], folder, pathlib.Path(folder) / "log")
+
+
+class Operators(unittest.TestCase):
+    SOURCE = """void
+GOMP_taskwait (void)
+{
+  struct gomp_task *task = 0;
+  if (task == NULL)
+    return;
+  task->waits = true;
+  gomp_mutex_lock (&lock);
+  again:
+}
+""".split("\n")
+
+    def test_each_operator(self):
+        seen = {change.operator: change.new for change in operators.changes_of(self.SOURCE) if change.number in (4, 6)}
+        self.assertEqual(seen, {"negate": ("  if (!(task == NULL))",), "drop": ("  ;",),
+                                "swap": ("  task->waits = false;",),
+                                "move": ("  gomp_mutex_lock (&lock);", "  task->waits = true;")})
+
+    def test_declarations_labels_and_code_for_devices_stay(self):
+        self.assertEqual({change.number for change in operators.changes_of(self.SOURCE)}, {4, 6, 7})
+        other = [line.replace("GOMP_taskwait", "GOMP_target_ext") for line in self.SOURCE]
+        self.assertEqual(list(operators.changes_of(other)), [])
+
+    def test_few_of_a_function(self):
+        changes = [("task.c", change) for change in operators.changes_of(self.SOURCE)]
+        self.assertEqual(len(list(operators.chosen(changes, 1, 9))), operators.MOST_OF_FUNCTION)
+        self.assertEqual(len(list(operators.chosen(changes, 1, 1))), 1)
+
+    def test_a_patch_can_be_read(self):
+        with tempfile.TemporaryDirectory() as folder:
+            tree, patches = pathlib.Path(folder), pathlib.Path(folder) / "patches"
+            for name in operators.FILES:
+                (tree / "libgomp" / name).parent.mkdir(parents=True, exist_ok=True)
+                (tree / "libgomp" / name).write_text("\n".join(self.SOURCE))
+            operators.main([folder, str(patches), "--count", "2"])
+            self.assertEqual(len(mutants_of("gomp", folder=patches)), 2)
+            self.assertIn("+++ b/libgomp/", next(patches.iterdir()).read_text())
 
 
 class Tables(unittest.TestCase):

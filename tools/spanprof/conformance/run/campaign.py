@@ -117,7 +117,9 @@ def tried(bench, cases, plan, jobs, seconds=math.inf, count=0):
                         else bench.try_case(case, [conditions])[0], bench.sure_hangs)
     for number, (case, tallies) in enumerate(slow, 1):
         say(f"a hang that may only have been slow is tried again: {number} of {len(slow)}, {case.name}")
-        yield case, tries.settled(case, tallies)
+        settled = tries.settled(case, tallies)
+        progress.add_failures(settled)
+        yield case, settled
 
 
 def run_cases(bench, cases, plan, jobs, seconds=math.inf):

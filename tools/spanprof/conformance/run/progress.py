@@ -28,11 +28,14 @@ class Progress:
 
     def add(self, tallies):
         self.done += 1
+        self.add_failures(tallies)
+        self.show(self.done == self.cases)
+
+    def add_failures(self, tallies):
         failures = [failure for tally in tallies for failure in tally.failures]
         self.failed += bool(failures)
         for failure in failures:
             self.report(failure)
-        self.show(self.done == self.cases)
 
     def tick(self):
         """No case has ended, perhaps for long."""
