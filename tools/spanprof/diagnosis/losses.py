@@ -81,9 +81,16 @@ def at_serial(facts):
 
 
 def mostly_small(facts):
-    """Whether the code of an average task is so short that creating it costs much, and tasks so many that it counts."""
-    is_short = facts.tasks > MANY * facts.threads and 0 < average_task(facts) < SMALL
-    return is_short and facts.tasks * A_TASK > MUCH * facts.elapsed
+    """Whether the code of an average task is so short that creating it costs much, and deferred tasks so many that it
+    counts: others cost little more than a call."""
+    tasks = deferred(facts)
+    is_short = tasks > MANY * facts.threads and 0 < average_task(facts) < SMALL
+    return is_short and tasks * A_TASK > MUCH * facts.elapsed
+
+
+def deferred(facts):
+    """How many tasks are."""
+    return facts.tasks - sum(place.undeferred for place in facts.places.values())
 
 
 def average_task(facts):
@@ -165,7 +172,8 @@ def kind_without_place(facts):
     if keeps_waiting(facts) or mostly_small(facts):
         return fine_kind(facts)
     place = heaviest(facts)
-    return "undeferred" if place and 2 * place.undeferred > place.tasks > 0 else ""
+    is_cut = place and 2 * place.undeferred > place.tasks > 0
+    return "undeferred" if is_cut and deferred(facts) <= MANY * facts.threads else ""
 
 
 def begins_often(facts, place):

@@ -102,6 +102,14 @@ class Kinds(unittest.TestCase):
     def test_undeferred(self):
         self.assertEqual(self.first(starved_at(place(TASKS, undeferred=8))), "undeferred")
 
+    def test_undeferred_tasks_are_not_too_small(self):
+        cut = small(undeferred=3980)        # from the first levels on
+        self.assertEqual(self.first(facts([cut], starved=200 * MS)), "undeferred")
+        self.assertEqual(self.first(starved_at(cut)), "undeferred")
+        cut.undeferred = 3600               # late enough for 400 that threads can share
+        self.assertNotIn(self.first(facts([cut], starved=200 * MS)), ("undeferred", "small_tasks"))
+        self.assertNotIn(self.first(facts([cut], starved=10 * MS)), ("undeferred", "small_tasks"))
+
     def test_loop_schedule(self):
         turns = place("turns of the loop at image.c:9", SHARE, uneven=200 * MS)
         self.assertEqual(self.first(delayed_at(turns)), "loop_schedule")
