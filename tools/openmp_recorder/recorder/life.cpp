@@ -69,8 +69,7 @@ void say_unseen(uint32_t what) {
   if (life->options.quiet) return;
   if (what & log_form::unseen_detach) notice("gcc's detach is not seen by LLVM's runtime, and the program may crash");
   if (what & log_form::unseen_target)
-    notice(
-        "gcc's target is run by gcc's own runtime: with nowait or depend the program's results may be wrong");
+    notice("gcc's target is run by gcc's own runtime: with nowait or depend the program's results may be wrong");
   if (what & log_form::unseen_runtime) notice("a second libgomp in the process is not recorded");
 }
 
