@@ -180,7 +180,7 @@ TEST(an_untied_task_is_left_where_another_thread_takes_it_up) {
                 .read();
   Region &region = only_region(run);
   EXPECT(text_of(region), "task {\n  work 10\n}\n");
-  EXPECT(events_of(region), "start 0 0\nfinish 0 0\nstart 1 1\nfinish 1 1\nstart 0 2\nfinish 0 2\n");
+  EXPECT(events_of(region), "start 0 0\nfinish 0 0\nstart 0 2\nfinish 0 2\nstart 1 1\nfinish 1 1\n");
   EXPECT(region.remarks->empty(), true);
 }
 
