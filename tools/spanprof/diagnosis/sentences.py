@@ -55,7 +55,9 @@ def words_of_items(names, place):
     """What the tasks of a place hold to write, and how many of them."""
     shared = most_shared(place)
     if holds_neighbours(place) and not is_in_a_row(place):
-        return {"item": "inout: " + names.of_neighbours(place)[0], "many": "neighbours"}
+        return {"item": "inout: " + names.read_only(place)[0], "many": "neighbours"}
+    if place.read_at and not is_in_a_row(place):
+        return {"item": "inout: " + names.read_only(place)[0], "many": "all"}
     count = max(place.items[shared], place.again) if shared else 0
     return {"item": names.item(place, shared) if shared else "",
             "many": "all" if count == place.tasks else grouped(count)}
@@ -299,7 +301,7 @@ def change_sentence(facts, names, step):
         item = names.item(holder(facts, place), ("inout", place))
         found["item"] = item.partition(": ")[2]
     if kind == "read-only":
-        found["item"] = "in: " + ", ".join(names.of_neighbours(facts.places[step.place]))
+        found["item"] = "in: " + ", ".join(names.read_only(facts.places[step.place]))
     found["waits"] = waits(names, [one.word for one in step.change.requests])
     return TRIED["outside" if kind == "defer" and not facts.tasks_in_regions else kind].format(**found)
 
