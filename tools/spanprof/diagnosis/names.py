@@ -100,6 +100,13 @@ class Names:
     def __init__(self, facts, sources):
         self.facts, self.sources = facts, sources
 
+    def body(self, name, function):
+        """The first and the last line of a function in a file; 0 where it is not found."""
+        lines = self.lines_of(name)
+        begin = self.function_begin(name, function, len(lines))
+        opened = next((here for here in range(begin, len(lines) + 1) if "{" in lines[here - 1]), 0) if begin else 0
+        return (begin, block_end(lines, opened + 1)) if opened else (0, 0)
+
     def lines_of(self, name):
         return self.sources.lines_of(name) if self.sources else []
 

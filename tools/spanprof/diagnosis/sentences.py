@@ -12,7 +12,7 @@ from spanprof.diagnosis.losses import (A_TASK, MANY, average_task, has_many_faul
 from spanprof.diagnosis.own_code import interpreted_share, is_interpreter, words_of_interpreter
 from spanprof.diagnosis.places import AFTER_REGION, SERIAL, SHARE
 from spanprof.diagnosis.plan import holder
-from spanprof.diagnosis.sleeps import words_of_sleep
+from spanprof.diagnosis.sleeps import place_of_sleep, sleeper, words_of_sleep
 from spanprof.durations import lasting
 from spanprof.head import grouped
 from spanprof.source_lines import line_of
@@ -248,7 +248,8 @@ def words(facts, names, name):
     """What a sentence may have, of a place, a wait, a lock or a region."""
     place = facts.places.get(name)
     out = dict(words_of_run(facts), where=names.place(name), at=names.at(name), item="",
-               in_what=words_of_sleep(facts, name, names.place(name)), tasks="", many="", largest="", average="",
+               sleeper=sleeper(names, name), sleeps_at=place_of_sleep(names, name),
+               in_what=words_of_sleep(facts, name, sleeper(names, name)), tasks="", many="", largest="", average="",
                contended="", chunks="", a_chunk="", of_turns="",
                alone=words_of_interpreter(facts) if is_interpreter(name) else "the others wait",
                suspect=words_of_suspect(facts, names),
