@@ -100,6 +100,13 @@ class Names:
     def __init__(self, facts, sources):
         self.facts, self.sources = facts, sources
 
+    def body(self, name, function):
+        """The first and the last line of a function in a file; 0 where it is not found."""
+        lines = self.lines_of(name)
+        begin = self.function_begin(name, function, len(lines))
+        opened = next((here for here in range(begin, len(lines) + 1) if "{" in lines[here - 1]), 0) if begin else 0
+        return (begin, block_end(lines, opened + 1)) if opened else (0, 0)
+
     def lines_of(self, name):
         return self.sources.lines_of(name) if self.sources else []
 
@@ -306,9 +313,9 @@ class Names:
         written, index = directive.get(kind, [])[::-1 if self.facts.is_of_gcc else 1], place.positions.get(item)
         return "%s: %s" % (written[index] if index is not None and index < len(written) else (kind, UNNAMED))
 
-    def of_neighbours(self, place):
-        """What tasks hold of their neighbours to write, as the source spells it."""
+    def read_only(self, place):
+        """What tasks hold to write, and may only read, as the source spells it."""
         written = items_in(self.directive(place.name, place.at)).get("inout", [])
         last = len(written) - 1
-        at = sorted(last - one if self.facts.is_of_gcc else one for one in place.moving_at)
+        at = sorted(last - one if self.facts.is_of_gcc else one for one in place.read_at)
         return [written[one][1] for one in at if 0 <= one <= last] or [UNNAMED]

@@ -19,6 +19,7 @@ OWN = named("task", OF_A_THREAD)    # the name of a thread's own code, in a text
 ALONE = 0.05        # of the largest piece of a phase: where the others together have less, one thread runs it
 ABOUT = 0.25        # of a turn, by which those of one length differ
 A_START = 50000     # nanoseconds: a thread starts a region's code in less, or goes on after it
+LEAST_HOLDERS = 3   # tasks that hold an item to write
 AROUND_REGIONS = (OWN, AFTER_REGION)
 
 
@@ -73,6 +74,20 @@ class Place:
     def last_end(self):
         """The construct that ends most of its code; empty where none does."""
         return max(self.ends, key=lambda name: self.ends[name], default="")
+
+    @property
+    def read_at(self):
+        """Positions of what its tasks hold to write, and may only read: of neighbours, or what several tasks have at the
+        same one, while they have more names at another."""
+        if self.moving_at:
+            return self.moving_at
+        names, tasks = Counter(), Counter()
+        for item, count in self.items.items():
+            if item[0] == "inout":
+                names[self.positions.get(item, 0)] += 1
+                tasks[self.positions.get(item, 0)] += count
+        most = max(names.values(), default=0)
+        return {at for at, number in names.items() if 1 < number < most and LEAST_HOLDERS * number <= tasks[at]}
 
     @property
     def has_several(self):

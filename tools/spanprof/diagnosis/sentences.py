@@ -12,7 +12,7 @@ from spanprof.diagnosis.losses import (A_TASK, MANY, average_task, has_many_faul
 from spanprof.diagnosis.own_code import interpreted_share, is_interpreter, words_of_interpreter
 from spanprof.diagnosis.places import AFTER_REGION, SERIAL, SHARE
 from spanprof.diagnosis.plan import holder
-from spanprof.diagnosis.sleeps import words_of_sleep
+from spanprof.diagnosis.sleeps import place_of_sleep, sleeper, words_of_sleep
 from spanprof.durations import lasting
 from spanprof.head import grouped
 from spanprof.program_text import SECTION, where
@@ -55,7 +55,9 @@ def words_of_items(names, place):
     """What the tasks of a place hold to write, and how many of them."""
     shared = most_shared(place)
     if holds_neighbours(place) and not is_in_a_row(place):
-        return {"item": "inout: " + names.of_neighbours(place)[0], "many": "neighbours"}
+        return {"item": "inout: " + names.read_only(place)[0], "many": "neighbours"}
+    if place.read_at and not is_in_a_row(place):
+        return {"item": "inout: " + names.read_only(place)[0], "many": "all"}
     count = max(place.items[shared], place.again) if shared else 0
     return {"item": names.item(place, shared) if shared else "",
             "many": "all" if count == place.tasks else grouped(count)}
@@ -246,7 +248,8 @@ def words(facts, names, name):
     """What a sentence may have, of a place, a wait, a lock or a region."""
     place = facts.places.get(name)
     out = dict(words_of_run(facts), where=names.place(name), at=names.at(name), item="",
-               in_what=words_of_sleep(facts, name, names.place(name)), tasks="", many="", largest="", average="",
+               sleeper=sleeper(names, name), sleeps_at=place_of_sleep(names, name),
+               in_what=words_of_sleep(facts, name, sleeper(names, name)), tasks="", many="", largest="", average="",
                contended="", chunks="", a_chunk="", of_turns="",
                alone=words_of_interpreter(facts) if is_interpreter(name) else "the others wait",
                suspect=words_of_suspect(facts, names),
@@ -299,7 +302,7 @@ def change_sentence(facts, names, step):
         item = names.item(holder(facts, place), ("inout", place))
         found["item"] = item.partition(": ")[2]
     if kind == "read-only":
-        found["item"] = "in: " + ", ".join(names.of_neighbours(facts.places[step.place]))
+        found["item"] = "in: " + ", ".join(names.read_only(facts.places[step.place]))
     found["waits"] = waits(names, [one.word for one in step.change.requests])
     return TRIED["outside" if kind == "defer" and not facts.tasks_in_regions else kind].format(**found)
 

@@ -40,6 +40,12 @@ class Candidates(unittest.TestCase):
         one.moving.update({("inout", "a1"), ("inout", "a2")})
         self.assertEqual(list(module.readers(facts([one])))[-1], single("read-only", TASKS))
 
+    def test_items_that_take_turns_beside_those_of_each_task(self):
+        one = place(TASKS)
+        one.items.update({("inout", "a0"): 4, ("inout", "a1"): 4, **{("inout", "b%d" % i): 1 for i in range(8)}})
+        one.positions.update((item, int(item[1][0] == "b")) for item in one.items)
+        self.assertEqual(list(module.readers(facts([one])))[-1], single("read-only", TASKS))
+
     def test_serial_code_of_one_function_is_divided_together(self):
         places = [place(name, SERIAL, tasks=0) for name in ("after a", "after b", "after c")]
         ran = {name: {("main", function, "sin@libm.so.6"): 90000} for name, function in

@@ -289,6 +289,15 @@ class Sentences(unittest.TestCase):
             step = Step(kind, TASKS if option == "in-for-inout" else change.place, 2, 1, 1, 1, 1.0, change)
             self.assertEqual(change_sentence(run, Names(run, SOURCES), step), told)
 
+    def test_what_takes_turns_is_told_of_all_tasks(self):
+        run = found()
+        one = run.places[TASKS]
+        one.items = Counter({("inout", "a%d" % number): 4 for number in range(2)})
+        one.items.update({("inout", "b%d" % number): 1 for number in range(8)})
+        one.positions = {item: int(item[1][0] == "b") for item in one.items}
+        self.assertRegex(lost_sentence(run, Names(run, SOURCES), Loss("dependence", TASKS, 9)),
+                         r"are serial: all have depend\(inout: tab\[f\(0, 1\)\]\)$")
+
     def test_tasks_outside_of_regions_want_one(self):
         run, step = found(tasks_in_regions=False), Step("undeferred", TASKS, 2, 1, 1, 1, 1.0, single("defer", TASKS))
         self.assertEqual(change_sentence(run, Names(run, SOURCES), step),
