@@ -10,6 +10,7 @@ from spanprof.diagnosis.calls import A_SAMPLE, RUNTIME, in_system, shares
 from spanprof.diagnosis.causes import BUSY, BY_KIND, SECOND
 from spanprof.diagnosis.own_code import of_interpreter, serial_places
 from spanprof.diagnosis.places import A_START, AROUND_REGIONS, OF_THREADS, OWN, SERIAL, SHARE
+from spanprof.marks import CREATING
 from spanprof.program_text import BEGINNING, TURNS, where
 
 MAPPING = ("mmap", "munmap", "mremap", "madvise", "brk", "sbrk")
@@ -378,6 +379,19 @@ def maps_memory(facts):
         for calls, time in ran.items():
             found[in_system(calls) in MAPPING] += time * bool(in_system(calls))
     return found[True] > found[False]
+
+
+def copying_at(facts):
+    """The line of tasks at whose creation as much as most of the system's time is spent, and not in the runtime: it
+    copies what they have of their own. Empty where there is none."""
+    found = Counter()
+    for name, lines in facts.calls.at.items():
+        place = facts.places.get(name)
+        if place and name.startswith("after " + CREATING):
+            in_runtime = sum(time for calls, time in facts.calls.ran.get(name, {}).items() if calls[-1] == RUNTIME)
+            found[place.at] += max(0, lines.get(place.at, 0) - in_runtime)
+    line = max(found, key=found.get, default="")
+    return line if 2 * 1000 * found[line] > system_time(facts) else ""
 
 
 def begun(facts):

@@ -6,9 +6,9 @@ from spanprof.diagnosis.allocation import allocating, parallel_code
 from spanprof.diagnosis.calls import NO_NAME, OFFSET, ONE_AT_A_TIME, SHARES, innermost, together
 from spanprof.diagnosis.causes import BY_KIND, CHEAPER, ESTIMATED, NAMES, SECOND
 from spanprof.diagnosis.facts import Region
-from spanprof.diagnosis.losses import (A_TASK, MANY, average_task, has_many_faults, holds_neighbours, is_bandwidth,
-                                       is_in_a_row, is_maker, losses, maps_memory, missing_threads, most_shared,
-                                       useful_time)
+from spanprof.diagnosis.losses import (A_TASK, MANY, average_task, copying_at, has_many_faults, holds_neighbours,
+                                       is_bandwidth, is_in_a_row, is_maker, losses, maps_memory, missing_threads,
+                                       most_shared, useful_time)
 from spanprof.diagnosis.own_code import interpreted_share, is_interpreter, words_of_interpreter
 from spanprof.diagnosis.places import AFTER_REGION, SERIAL, SHARE
 from spanprof.diagnosis.plan import holder
@@ -105,22 +105,24 @@ def words_of_division(facts, name, place):
     return "few iterations, or uneven ones" if may_be_few(place) else "its work is divided unevenly"
 
 
-def words_of_kernel(facts, usage):
+def words_of_kernel(facts, names, usage):
     """Page faults only where they are most of it."""
     if has_many_faults(facts) or maps_memory(facts):
+        copying, reuse = copying_at(facts), "reuse memory: no large malloc, mmap or free in each task"
+        smaller = "smaller firstprivate data at %s: a pointer, or shared" % names.at("task at " + copying)
         return {"kernel": "%s page faults" % grouped(usage.get("minor_faults") or 0) if has_many_faults(facts) else
-                "mapping memory", "less_kernel": "reuse memory: no large malloc, mmap or free in each task"}
+                "mapping memory", "less_kernel": smaller if copying else reuse}
     return {"kernel": "system calls", "less_kernel": "fewer system calls, each for more: larger buffers"}
 
 
-def words_of_run(facts):
+def words_of_run(facts, names):
     usage = facts.usage or {}
     used = (usage.get("user_ns") or 0) + (usage.get("system_ns") or 0)
     return {"threads": facts.most_threads, "processors": facts.processors, "usable": facts.usable,
             "all_tasks": grouped(facts.tasks), "average_task": lasting(average_task(facts)),
             "code": "%.0f" % min(100, 100 * facts.code / useful_time(facts, losses(facts))),
             "time": "the rest" if facts.taken else "the time",
-            **words_of_kernel(facts, usage),
+            **words_of_kernel(facts, names, usage),
             "allocating": "%.0f" % (100 * sum(allocating(facts).values()) / max(parallel_code(facts), 1)),
             "system": "%.0f" % (100 * (usage.get("system_ns") or 0) / used if used else 0)}
 
@@ -247,7 +249,7 @@ def instead(names, place, name):
 def words(facts, names, name):
     """What a sentence may have, of a place, a wait, a lock or a region."""
     place = facts.places.get(name)
-    out = dict(words_of_run(facts), where=names.place(name), at=names.at(name), item="",
+    out = dict(words_of_run(facts, names), where=names.place(name), at=names.at(name), item="",
                sleeper=sleeper(names, name), sleeps_at=place_of_sleep(names, name),
                in_what=words_of_sleep(facts, name, sleeper(names, name)), tasks="", many="", largest="", average="",
                contended="", chunks="", a_chunk="", of_turns="",

@@ -2,7 +2,7 @@ import unittest
 from collections import Counter
 from types import SimpleNamespace
 
-from spanprof.diagnosis.calls import Sampled
+from spanprof.diagnosis.calls import RUNTIME, Sampled
 from spanprof.diagnosis.causes import TABLE
 from spanprof.diagnosis.changes import single
 from spanprof.diagnosis.diagnose import Diagnosis, diagnose
@@ -131,6 +131,17 @@ class Sentences(unittest.TestCase):
         run.calls = Sampled({TASKS: {("main", "tone", "munmap@libc.so.6"): 9000, ("main", "read@libc.so.6"): 5000}}, {})
         self.assertEqual(lost_sentence(run, Names(run, SOURCES), Loss("system", TASKS, 1)),
                          "85 % of the processor time is the kernel's: mapping memory" + at)
+
+    def test_page_faults_in_the_copies_of_data_that_tasks_have(self):
+        after, reuse = "after creating a task at image.c:9", "reuse memory: no large malloc, mmap or free in each task"
+        own, runtime = {("main", "tone"): 300000}, {("main", RUNTIME): 300000}
+        run = found(usage={"user_ns": 60 * MS, "system_ns": 340 * MS, "minor_faults": 90000})
+        run.places[after] = Place(after, TASK, "image.c:9", cost=300 * MS, pieces=8)
+        for line, ran, told in ((9, own, "smaller firstprivate data at image.c:9: a pointer, or shared"),
+                                (9, runtime, reuse), (8, own, reuse)):
+            run.calls = Sampled({after: ran}, {}, at={after: {"image.c:%d" % line: 300000}})
+            step = Step("system", TASKS, 2, 1, 1, 1)
+            self.assertEqual(change_sentence(run, Names(run, SOURCES), step), told)
 
     def test_nothing_is_to_be_done_about_an_efficient_program(self):
         run = found()
