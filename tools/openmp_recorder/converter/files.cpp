@@ -38,9 +38,9 @@ bool write_file(const std::string &name,
   return file.end();
 }
 
-NamelessFile::NamelessFile(const std::string &beside) : file(nameless_file(beside)) {
+NamelessFile::NamelessFile(const std::string &beside) : buffer(buffered), file(nameless_file(beside)) {
   if (!file) give_up("cannot be written beside the texts");
-  setvbuf(file.get(), nullptr, _IOFBF, buffered);
+  setvbuf(file.get(), buffer.data(), _IOFBF, buffer.size());
 }
 
 void NamelessFile::write(const void *bytes, std::size_t count) {

@@ -7,6 +7,7 @@
 #include <memory>
 #include <string>
 #include <string_view>
+#include <vector>
 
 bool write_file(const std::string &name, const std::string &text);
 bool write_file(const std::string &name,
@@ -25,6 +26,7 @@ class NamelessFile {
   struct Close {
     void operator()(FILE *open) const { fclose(open); }
   };
+  std::vector<char> buffer;
   std::unique_ptr<FILE, Close> file;
 };
 

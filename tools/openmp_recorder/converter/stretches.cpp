@@ -15,9 +15,7 @@ static_assert(sizeof(Stored) == 16, "a program has millions");
 
 struct StoredEvent {
   int64_t at;
-  uint32_t task, segment;
-  uint16_t worker;
-  bool start;
+  uint32_t task, segment, worker, start;
 };
 }  // namespace
 
@@ -85,7 +83,8 @@ void Stretches::get_events(EventList &events, std::size_t count, const std::vect
   for (std::size_t i = 0; i < count; i++) {
     StoredEvent stored;
     file.read(&stored, sizeof stored);
-    events.push_back({all[stored.task], stored.at, stored.segment, stored.worker, stored.start});
+    auto worker = static_cast<uint16_t>(stored.worker);
+    events.push_back({all[stored.task], stored.at, stored.segment, worker, stored.start != 0});
   }
 }
 
