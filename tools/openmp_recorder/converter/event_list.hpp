@@ -1,4 +1,5 @@
-// Events of segments in the order in which they came, in blocks: none is copied when more come.
+// Events of segments in the order in which they came, in blocks: none is copied when more come. They keep their numbers
+// where the first ones are forgotten.
 #pragma once
 #include <cstddef>
 #include <cstdint>
@@ -33,14 +34,23 @@ class EventList {
     std::size_t at;
   };
 
-  std::size_t size() const { return blocks.empty() ? 0 : (blocks.size() - 1) * of_a_block + blocks.back().size(); }
-  bool empty() const { return blocks.empty(); }
-  Event &operator[](std::size_t at) { return blocks[at >> bits][at % of_a_block]; }
-  const Event &operator[](std::size_t at) const { return blocks[at >> bits][at % of_a_block]; }
+  std::size_t size() const {
+    return blocks.empty() ? first : (gone + blocks.size() - 1) * of_a_block + blocks.back().size();
+  }
+  bool empty() const { return first == size(); }
+  Event &operator[](std::size_t at) { return blocks[(at >> bits) - gone][at % of_a_block]; }
+  const Event &operator[](std::size_t at) const { return blocks[(at >> bits) - gone][at % of_a_block]; }
   const Event &back() const { return blocks.back().back(); }
-  Place<EventList, Event> begin() { return {this, 0}; }
+  std::size_t forgotten() const { return first; }
+  void forget(std::size_t end) {  // those before it
+    auto whole_blocks = (end >> bits) - gone;
+    blocks.erase(blocks.begin(), blocks.begin() + static_cast<std::ptrdiff_t>(whole_blocks));
+    gone += whole_blocks;
+    first = end;
+  }
+  Place<EventList, Event> begin() { return {this, first}; }
   Place<EventList, Event> end() { return {this, size()}; }
-  Place<const EventList, const Event> begin() const { return {this, 0}; }
+  Place<const EventList, const Event> begin() const { return {this, first}; }
   Place<const EventList, const Event> end() const { return {this, size()}; }
 
   void push_back(const Event &event) {
@@ -50,6 +60,7 @@ class EventList {
 
  private:
   std::vector<std::vector<Event>> blocks;  // none of them empty; all but the last are full
+  std::size_t gone = 0, first = 0;  // blocks before them; the first event that is not forgotten
 
   void add_block() {
     bool is_first = blocks.empty();  // many regions have few

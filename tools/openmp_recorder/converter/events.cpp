@@ -1,7 +1,6 @@
 #include "events.hpp"
 
 #include <algorithm>
-#include <map>
 
 #include "piece.hpp"
 
@@ -37,35 +36,59 @@ void put_row(Piece &piece, uint64_t segment, const SegmentTime &time) {
 }
 }  // namespace
 
-Events event_lines(const Region &region) {
-  Events out;
-  out.times.resize(region.opened);
-  std::map<unsigned, unsigned> workers;
-  size_t finished = 0;
-  for (auto &event : region.events) {
+void Events::take(const Region &region, const Region &part, uint32_t begin, uint32_t end) {
+  put_away(begin - first);
+  first = begin;
+  times.assign(end - begin, {});
+  for (auto &event : part.events) {
     uint32_t number = number_of(event, region);
     if (number == none) continue;
-    unsigned worker = workers.emplace(event.worker, workers.size()).first->second;
-    SegmentTime &time = out.times[number];
+    unsigned worker = numbers.emplace(event.worker, numbers.size()).first->second;
+    SegmentTime &time = times[number - first];
     time.worker = worker;
     (event.start ? time.begin : time.end) = event.at - region.time.begin;
     if (event.start) continue;
-    finished += event.task->pieces > 1 ? divide_among_pieces(*event.task, number, out.times) : 1;
+    finished += event.task->pieces > 1 ? divide_among_pieces(*event.task, number - first, times) : 1;
   }
-  out.workers = workers.size();
-  out.whole = finished == out.times.size();
-  return out;
 }
 
-void print_times(const Region &region, const Events &events, const Taker &taker) {
-  int64_t last = region.time.end - region.time.begin;
-  for (const SegmentTime &time : events.times) last = std::max(last, time.end);
-  size_t threads = std::max<size_t>(region.threads, events.workers);
+// So many of the part before; the next one begins with its last segment.
+void Events::put_away(uint32_t count) {
+  if (!count) return;
+  if (!file) file = std::make_unique<NamelessFile>(beside);
+  for (uint32_t s = 0; s < count; s++) last = std::max(last, times[s].end);
+  put_rows(count, [&](std::string_view rows) {
+    file->write(rows.data(), rows.size());
+    in_file += rows.size();
+  });
+}
+
+void Events::put_rows(size_t count, const Taker &taker) {
   Piece piece;
-  piece.put("times " + std::to_string(threads) + " 0 " + std::to_string(last) + "\n");
-  for (size_t s = 0; s < events.times.size(); s++) {
-    put_row(piece, s, events.times[s]);
+  for (size_t s = 0; s < count; s++) {
+    put_row(piece, first + s, times[s]);
     if (piece.size() >= longest_piece) taker(piece.words()), piece.clear();
   }
   taker(piece.words());
+}
+
+void Events::tell(const Region &region, const Taker &taker) {
+  int64_t end = std::max(last, region.time.end - region.time.begin);
+  for (const SegmentTime &time : times) end = std::max(end, time.end);
+  size_t threads = std::max<size_t>(region.threads, workers());
+  taker("times " + std::to_string(threads) + " 0 " + std::to_string(end) + "\n");
+  if (file) file->begin_again();
+  std::string bytes;
+  for (size_t left = in_file; left; left -= bytes.size()) {
+    bytes.resize(std::min(left, longest_piece));
+    file->read(bytes.data(), bytes.size());
+    taker(bytes);
+  }
+  put_rows(times.size(), taker);
+}
+
+Events event_lines(const Region &region) {
+  Events out;
+  out.take(region, region, 0, region.opened);
+  return out;
 }

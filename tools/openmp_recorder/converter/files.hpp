@@ -4,12 +4,31 @@
 #include <cstdint>
 #include <cstdio>
 #include <functional>
+#include <memory>
 #include <string>
 #include <string_view>
+#include <vector>
 
 bool write_file(const std::string &name, const std::string &text);
 bool write_file(const std::string &name,
                 const std::function<void(const std::function<void(std::string_view)> &)> &tell);
+
+// A file without a name beside the others, for what does not fit the memory.
+class NamelessFile {
+ public:
+  explicit NamelessFile(const std::string &beside);  // the first name of a file
+  void write(const void *bytes, std::size_t count);
+  void read(void *bytes, std::size_t count);
+  void skip(std::size_t count);
+  void begin_again();
+
+ private:
+  struct Close {
+    void operator()(FILE *open) const { fclose(open); }
+  };
+  std::vector<char> buffer;
+  std::unique_ptr<FILE, Close> file;
+};
 
 // A file that is written piece by piece.
 class NewFile {

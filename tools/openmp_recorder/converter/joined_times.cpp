@@ -11,6 +11,7 @@ void renumber(Event &event, const std::vector<unsigned> &left_out) {
 }  // namespace
 
 void JoinedTimes::apply(OffTimes &off) const {
+  if (left_out.empty()) return;
   for (OffTime &one : off.all) {
     if (auto first = firsts.find(one.task); first != firsts.end()) one.task = first->second, one.segment = 0;
     auto part = left_out.find(one.task);
@@ -21,9 +22,10 @@ void JoinedTimes::apply(OffTimes &off) const {
 }
 
 void JoinedTimes::apply(EventList &events) const {
-  std::unordered_map<const Task *, int64_t> ends;
+  if (left_out.empty()) return;
+  std::unordered_map<const Task *, int64_t> ends;  // of those that are one with others before them
   for (const Event &event : events)
-    if (!event.start) ends[event.task] = event.at;
+    if (!event.start && firsts.count(event.task)) ends[event.task] = event.at;
   for (Event &event : events) {
     auto last = lasts.find(event.task);
     if (last != lasts.end() && !event.start) event.at = ends[last->second];

@@ -8,12 +8,18 @@
 
 class JoinedTimes {
  public:
-  void join(const Task &first, const Task &last) { lasts[&first] = &last, firsts[&last] = &first; }
-  void leave_out(const Task &part, unsigned segment) { left_out[&part].push_back(segment); }  // in ascending order
+  explicit JoinedTimes(bool of_a_timed_text) : timed(of_a_timed_text) {}
+  void join(const Task &first, const Task &last) {
+    if (timed) lasts[&first] = &last, firsts[&last] = &first;
+  }
+  void leave_out(const Task &part, unsigned segment) {  // in ascending order
+    if (timed) left_out[&part].push_back(segment);
+  }
   void apply(EventList &events) const;
   void apply(OffTimes &off) const;
 
  private:
+  bool timed;
   std::unordered_map<const Task *, const Task *> lasts, firsts;
   std::unordered_map<const Task *, std::vector<unsigned>> left_out;  // segments, numbered as they were
 };

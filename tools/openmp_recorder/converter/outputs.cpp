@@ -35,7 +35,7 @@ class Reporter {
   void write_regions(const Run &run, const WholeTime &time, const std::string &name);
   std::vector<Region *> chosen(const Run &run, std::vector<Region *> regions);
   void write_locks(const std::vector<Records *> &threads, const std::string &name);
-  void write_off(const WholeProgram &whole, const Stacks &stacks, const std::string &name);
+  void write_off(WholeProgram &whole, const Stacks &stacks, const std::string &name);
 
  private:
   const Options &options;
@@ -44,11 +44,13 @@ class Reporter {
 
   Size measure(Region &region);
   std::string head(Region &region, int64_t work);
-  void report_remarks(const Region &region, const std::string &name);
-  void write_times(Region &region, const std::string &name, const std::string &head, Style style, Object &line);
+  void tell_remarks(const Region &region, const std::string &name);
+  void write_times(Region &region, Events &events, const std::string &name, const std::string &head, Style style,
+                   Object &line);
   bool write_text(Region &region, const std::string &file, const std::string &head, const Style &style,
-                  SegmentTable *table, const std::function<void(const Taker &)> &behind);
-  bool write_whole(Region &region, const std::string &name, const std::string &head, const Style &style);
+                  SegmentTable *table, const PartTaker &behind_part, const std::function<void(const Taker &)> &behind);
+  bool write_whole(Region &region, const std::string &name, const std::string &head, const Style &style,
+                   const PartTaker &behind_part);
   Object &put_size(Object &line, const std::string &file, const Size &size, int64_t work);
 };
 
@@ -56,7 +58,7 @@ class Reporter {
 Size measure_before(Region &region, const Options &options, RootEnds &ends) {
   Size size;
   Stretches &before = *region.before;
-  each_stretch(region, [&](Region &stretch) {
+  each_stretch(region, false, [&](Region &stretch) {
     add_up(stretch);
     region.work += stretch.root->total;
     span_of(stretch, before.ends);
@@ -100,37 +102,39 @@ void Reporter::report_remarks(const Region &region, const std::string &name) {
 }
 
 // Those of a region stand behind its text once more, and those of the whole program alone.
-void Reporter::write_times(Region &region, const std::string &name, const std::string &head, Style style,
-                           Object &line) {
+void Reporter::write_times(Region &region, Events &events, const std::string &name, const std::string &head,
+                           Style style, Object &line) {
   if (!options.times) return;
-  Events events = event_lines(region);
-  if (!region.has_events || !events.whole) {
+  if (!region.has_events || !events.are_whole()) {
     line.put("no times", region.has_events ? "unfinished" : "whole");
     return;
   }
   std::string file = name + (recording.whole ? ".times" : ".timed");
   style.numbered = false;
-  auto times = [&](const Taker &taker) { print_times(region, events, taker); };
+  auto times = [&](const Taker &taker) { events.tell(region, taker); };
   auto behind = [&](const Taker &taker) { taker("---\n"), times(taker); };
-  if (recording.whole ? write_file(file, times) : write_text(region, file, head, style, nullptr, behind))
+  if (recording.whole ? write_file(file, times) : write_text(region, file, head, style, nullptr, nullptr, behind))
     line.put("times", file);
 }
 
 bool Reporter::write_text(Region &region, const std::string &file, const std::string &head, const Style &style,
-                          SegmentTable *table, const std::function<void(const Taker &)> &behind) {
+                          SegmentTable *table, const PartTaker &behind_part,
+                          const std::function<void(const Taker &)> &behind) {
   return write_file(file, [&](const Taker &taker) {
     taker(head);
-    print_program(region, style, places, taker, table);
+    tell_program(region, style, places, taker, table, behind_part);
     if (behind) behind(taker);
   });
 }
 
 // Of the whole program, with the table of its segments where that has room for all.
-bool Reporter::write_whole(Region &region, const std::string &name, const std::string &head, const Style &style) {
+bool Reporter::write_whole(Region &region, const std::string &name, const std::string &head, const Style &style,
+                           const PartTaker &behind_part) {
   std::string file = name + ".segments";
   NewFile out(file);
   SegmentTable table([&](std::string_view piece) { out.put(piece); });
-  bool is_text = write_text(region, name + ".tasks", head, style, &table, nullptr), has_room = table.finish();
+  bool is_text = write_text(region, name + ".tasks", head, style, &table, behind_part, nullptr);
+  bool has_room = table.finish();
   bool is_table = out.end();
   if (!has_room) remove(file.c_str());
   return is_text && is_table;
@@ -152,12 +156,17 @@ void Reporter::write(Region &region, const std::string &name) {
   int64_t work = work_in_units(region, options.unit);
   std::string words = head(region, work);
   Style style{options.unit, size.tasks > most_tasks, region.has_events};
-  if (!(recording.whole ? write_whole(region, name, words, style)
-                        : write_text(region, file, words, style, nullptr, nullptr)))
+  Events events(name);
+  auto take_part = [&](const Region &part, uint32_t first, uint32_t end) {
+    if (region.has_events) events.take(region, part, first, end);
+    if (recording.whole) static_cast<WholeProgram &>(region).off.number(region);
+  };
+  if (!(recording.whole ? write_whole(region, name, words, style, take_part)
+                        : write_text(region, file, words, style, nullptr, take_part, nullptr)))
     return;
-  report_remarks(region, name);
-  Message line("text");
-  write_times(region, name, words, style, put_size(line, file, size, work));
+  tell_remarks(region, name);
+  Line line("text");
+  write_times(region, events, name, words, style, put_size(line, file, size, work));
 }
 
 void Reporter::report_outside(const Occurrences &outside) {
@@ -195,7 +204,7 @@ void Reporter::write_locks(const std::vector<Records *> &threads, const std::str
 }
 
 // How segments were off the processor, and what they ran by samples.
-void Reporter::write_off(const WholeProgram &whole, const Stacks &stacks, const std::string &name) {
+void Reporter::write_off(WholeProgram &whole, const Stacks &stacks, const std::string &name) {
   write_file(name + ".off", off_lines(whole, whole.off));
   if (!options.lines || stacks.all().empty()) return;
   write_file(name + ".calls", sampled_lines(whole, whole.off, stacks, places));

@@ -167,8 +167,8 @@ void leave_out_joined(Task &part, JoinedTimes &times) {
 }
 
 // The chunks' tasks become pieces.
-JoinedTimes write(const Rows &rows, int64_t least) {
-  JoinedTimes times;
+JoinedTimes write(const Rows &rows, int64_t least, bool timed) {
+  JoinedTimes times(timed);
   std::set<Task *> parts;
   rows.each([&](const Row &row) {
     Task &part = *row[0]->task->parent;
@@ -251,19 +251,22 @@ void choose_pieces(WholeProgram &whole, int64_t unit) {
   if (!least) least = INT64_MAX;
   bool moves_span = chooser.longer(least) > span / share_that_moves_little;
   chooser.remark(least, moves_span);
-  JoinedTimes joined = write(Rows(whole.chunk_list, released_chunks(whole)), least);
+  JoinedTimes joined = write(Rows(whole.chunk_list, let_go(whole)), least, whole.has_events);
   joined.apply(whole.events);
   joined.apply(whole.off);
   add_up(whole);
   whole.least_piece = least;
 }
 
-void put_pieces(const WholeProgram &whole, size_t stretch, const std::vector<Task *> &tasks) {
+void put_pieces(WholeProgram &whole, size_t stretch, const std::vector<Task *> &tasks, EventList &events) {
   const std::vector<size_t> &ends = whole.before->chunks;
   std::vector<Chunk> own;
   for (size_t i = stretch ? ends[stretch - 1] : 0; i < ends[stretch]; i++) {
     own.push_back(whole.chunk_list[i]);
     if (own.back().is_task) own.back().task = tasks[own.back().at];
   }
-  if (!own.empty()) write(Rows(own, 0), whole.least_piece);
+  if (own.empty()) return;
+  JoinedTimes joined = write(Rows(own, 0), whole.least_piece, !events.empty());
+  joined.apply(events);
+  joined.apply(whole.off);
 }

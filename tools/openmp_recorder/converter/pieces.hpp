@@ -12,5 +12,5 @@ void choose_pieces(WholeProgram &whole, int64_t unit);
 // Of chunks from one to before another, whose tasks are added up.
 void measure_chunks(WholeProgram &whole, size_t first, size_t end);
 void put_finest_pieces(WholeProgram &whole, size_t first, size_t end);  // one for each turn
-// As chosen, in a stretch that was let go; its tasks by their numbers.
-void put_pieces(const WholeProgram &whole, size_t stretch, const std::vector<Task *> &tasks);
+// As chosen, in a stretch that was let go; its tasks by their numbers, and its events.
+void put_pieces(WholeProgram &whole, size_t stretch, const std::vector<Task *> &tasks, EventList &events);

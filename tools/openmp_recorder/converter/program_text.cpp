@@ -30,7 +30,7 @@ class Writer {
  public:
   Writer(Region &of, const Style &chosen, const Places &known, const Taker &to, SegmentTable *segments)
       : region(of), style(chosen), places(known), taker(to), table(segments) {}
-  void tell();
+  void tell(const PartTaker &behind);
 
  private:
   Region &region;
@@ -253,7 +253,10 @@ void Writer::leave() {
   open(maker);
 }
 
+// The root's first segment is its last one of the part before.
 void Writer::part(Region &part) {
+  region.numbers.clear();
+  if (opened) opened--;
   enter(*part.root, 0);
   while (!inside.empty()) {
     Place &p = inside.back();
@@ -262,13 +265,15 @@ void Writer::part(Region &part) {
   }
 }
 
-void Writer::tell() {
-  region.numbers.clear();
+void Writer::tell(const PartTaker &behind) {
   line(0, "omptasks 1");
-  each_part(region, [&](Region &one) {
-    if (&one != &region) add_up(one), size_of(one);
-    part(one);
-  });
+  auto one = [&](Region &that) {
+    uint32_t first = opened - (opened > 0);
+    part(that);
+    if (behind) behind(that, first, opened);
+  };
+  each_stretch(region, style.numbered, [&](Region &stretch) { add_up(stretch), size_of(stretch), one(stretch); });
+  one(region);
   region.opened = opened;
   taker(piece.words());
 }
@@ -292,8 +297,9 @@ int64_t work_in_units(const Region &region, int64_t unit) {
   return work;
 }
 
-void print_program(Region &region, const Style &style, const Places &places, const Taker &taker, SegmentTable *table) {
-  Writer(region, style, places, taker, table).tell();
+void tell_program(Region &region, const Style &style, const Places &places, const Taker &taker, SegmentTable *table,
+                  const PartTaker &behind) {
+  Writer(region, style, places, taker, table).tell(behind);
 }
 
 std::vector<const void *> codes_of(const Region &region) {

@@ -138,7 +138,7 @@ class Reader {
 
   // release_beginning.cpp: that of the beginning of the whole program, up to a region that has ended
   struct Placed {  // a region in the root; what there was until its end, of what is there
-    size_t blocks, steps, chunks, loops, regions;
+    size_t blocks, steps, chunks, loops, regions, events;
   };
   std::deque<Placed> placed;
   std::vector<Region *> begun;  // regions, in their order
@@ -151,6 +151,7 @@ class Reader {
   void release_beginning();
   void release_until(const Placed &end);
   void take_steps(Task &root, size_t count);
+  void take_events(Region &stretch, size_t end);
   void end_stretch(Region &stretch, const Placed &end);
   void forget_loops(const Placed &end);
   void take_from_placed(const Placed &gone);

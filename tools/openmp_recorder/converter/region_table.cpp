@@ -40,7 +40,9 @@ void print_regions(const Run &run, const WholeTime &time, const Places &places, 
   std::vector<const Region *> regions;
   for (auto &[number, region] : run.regions)
     if (region->of_program) regions.push_back(region.get());
-  std::stable_sort(regions.begin(), regions.end(), [](auto *a, auto *b) { return a->time.begin < b->time.begin; });
+  auto is_before = [](auto *a, auto *b) { return a->time.begin < b->time.begin; };
+  if (!std::is_sorted(regions.begin(), regions.end(), is_before))
+    std::stable_sort(regions.begin(), regions.end(), is_before);
   Piece piece;
   piece.put("number,text,begin_ns,end_ns,threads,asked,tasks,loops,code_ns,inside,place\n0,0,0," +
             std::to_string(time.end - time.start) + ",1,0,0,0," + std::to_string(time.outside) + ",0,\n");

@@ -28,7 +28,7 @@ void Reader::note_placed() {
   if (!may_release || groups) return;
   seen_steps = root.steps.size();
   placed.push_back({run.whole->tasks.begin_block(), root.steps.size(), run.whole->chunk_list.size(),
-                    run.whole->loop_list.size(), begun.size()});
+                    run.whole->loop_list.size(), begun.size(), run.whole->events.size()});
 }
 
 // No record that follows is of a task that was made until then. What has ended stays so.
@@ -41,11 +41,14 @@ bool Reader::is_ended_until(const Placed &end) {
   return blocks_ended >= end.blocks;
 }
 
-void Reader::release_beginning() {
-  if (!may_release || run.whole->has_events || run.whole->tasks.size() <= room) return;
-  size_t count = 0;
-  while (count < placed.size() && is_ended_until(placed[count])) count++;
-  if (count) release_until(placed[count - 1]);
+void Reader::let_go_beginning() {
+  const Task &root = *run.whole->root;
+  if (!may_let_go || run.whole->tasks.size() <= room) return;
+  size_t over = 0;
+  while (over < placed.size() && is_over_until(placed[over])) over++;
+  // In a damaged log the root may have gone on before a region was over.
+  bool has_gone_on = over && run.whole->has_events && root.running && root.started < placed[over - 1].events;
+  if (over && !has_gone_on) let_go_until(placed[over - 1]);
 }
 
 void Reader::release_until(const Placed &found) {
@@ -54,13 +57,17 @@ void Reader::release_until(const Placed &found) {
   Region stretch;
   stretch.tasks = run.whole->tasks.take(1, end.blocks);
   stretch.has_auxiliary = run.whole->has_auxiliary;
+  stretch.has_events = run.whole->has_events;
+  for (Task &t : stretch.tasks) t.is_let_go = true;
   forget(stretch.tasks);
   stretch.root = &stretch.tasks.emplace_front();
   stretch.root->part = true;
   take_steps(*stretch.root, end.steps);
   for (size_t i = loops_gone; i < end.loops; i++) take_waits_off(run.whole->loop_list[i]);
+  take_events(stretch, end.events);
   end_stretch(stretch, end);
   run.whole->before->put(stretch);
+  run.whole->off.let_go(run.whole->before->count() - 1, *run.whole->root, *stretch.root);
   for (size_t i = chunks_gone; i < end.chunks; i++)
     if (Chunk &chunk = run.whole->chunk_list[i]; chunk.is_task) chunk.at = chunk.task->first_number;
   take_from_placed(end);
@@ -83,6 +90,24 @@ void Reader::take_steps(Task &root, size_t count) {
   whole.children -= root.children;
   whole.segment -= root.segment;
   whole.steps = std::move(rest);
+}
+
+// Up to the end, and what was told of its tasks later. Segments of the program's root are numbered from the stretch's
+// last one on, which is the first of what comes next.
+void Reader::take_events(Region &stretch, size_t end) {
+  if (!stretch.has_events) return;
+  Task *root = run.whole->root;
+  EventList &events = run.whole->events;
+  for (size_t i = events.forgotten(); i < events.size(); i++) {
+    Event &event = events[i];
+    bool is_of_root = event.task == root;
+    if (is_of_root && i >= end) event.segment -= stretch.root->segment;
+    if (is_of_root ? i >= end : !event.task->is_let_go) continue;
+    stretch.events.push_back({is_of_root ? stretch.root : event.task, event.at, event.segment, event.worker, event.start,
+                              event.taken_back});
+    event.task = root, event.taken_back = true;
+  }
+  events.forget(end);
 }
 
 // What is summed up at the end of all that is read.

@@ -1,12 +1,5 @@
 #include "stretches.hpp"
 
-#include <stdlib.h>
-#include <unistd.h>
-
-#include <cerrno>
-#include <cstring>
-#include <stdexcept>
-
 #include "pieces.hpp"
 #include "place_region.hpp"
 #include "program_text.hpp"
@@ -19,43 +12,32 @@ struct Stored {
   uint32_t steps, items;
 };
 static_assert(sizeof(Stored) == 16, "a program has millions");
-constexpr std::size_t buffered = 1 << 18;
 
-FILE *nameless_file(const std::string &beside) {
-  std::string name = beside + ".XXXXXX";
-  int file = mkstemp(name.data());
-  if (file < 0) return nullptr;
-  unlink(name.c_str());
-  return fdopen(file, "w+");
-}
-
-[[noreturn]] void give_up(const char *what) {
-  throw std::runtime_error(std::string("what does not fit the memory ") + what + ": " + std::strerror(errno));
-}
+struct StoredEvent {
+  int64_t at;
+  uint32_t task, segment, worker, start;
+};
 }  // namespace
-
-Stretches::Stretches(const std::string &beside) : file(nameless_file(beside)) {
-  if (!file) give_up("cannot be written next to the texts");
-  setvbuf(file.get(), nullptr, _IOFBF, buffered);
-}
-
-void Stretches::write(const void *bytes, std::size_t count) {
-  if (fwrite_unlocked(bytes, 1, count, file.get()) != count) give_up("cannot be written next to the texts");
-}
-
-void Stretches::read(void *bytes, std::size_t count) {
-  if (fread_unlocked(bytes, 1, count, file.get()) != count) give_up("cannot be read again");
-}
 
 void Stretches::put_task(const Task &t) {
   Stored stored{reinterpret_cast<uint64_t>(t.code), t.part,         t.undeferred,  t.of_loop, t.pieces != 0,
                 static_cast<uint64_t>(t.origin),    t.steps.size(), t.items.size()};
-  write(&stored, sizeof stored);
+  file.write(&stored, sizeof stored);
   for (Step step : t.steps) {
     if (step.kind == Kind::Create) step = Step::number(step.child()->first_number);
-    write(&step, sizeof step);
+    file.write(&step, sizeof step);
   }
-  if (!t.items.empty()) write(t.items.begin(), t.items.size() * sizeof(Item));
+  if (!t.items.empty()) file.write(t.items.begin(), t.items.size() * sizeof(Item));
+}
+
+// Of segments that will have a number.
+void Stretches::put_events(const EventList &events) {
+  for (const Event &event : events) {
+    if (event.taken_back || event.task->first_number == none) continue;
+    StoredEvent stored{event.at, event.task->first_number, event.segment, event.worker, event.start};
+    file.write(&stored, sizeof stored);
+    counts.back().events++;
+  }
 }
 
 void Stretches::put(Region &stretch) {
@@ -63,14 +45,15 @@ void Stretches::put(Region &stretch) {
   auto is_there = [&](const Task &t) { return t.parent || &t == stretch.root; };
   for (Task &t : stretch.tasks)
     if (is_there(t)) t.first_number = count++;
-  counts.push_back(count);
+  counts.push_back({count, 0});
   for (const Task &t : stretch.tasks)
     if (is_there(t)) put_task(t);
+  put_events(stretch.events);
 }
 
 void Stretches::get_task(Task &t, const std::vector<Task *> &all) {
   Stored stored;
-  read(&stored, sizeof stored);
+  file.read(&stored, sizeof stored);
   t.code = reinterpret_cast<const void *>(uint64_t{stored.code});
   t.part = stored.part;
   t.undeferred = stored.undeferred;
@@ -80,7 +63,7 @@ void Stretches::get_task(Task &t, const std::vector<Task *> &all) {
   t.steps.reserve(stored.steps);
   for (uint32_t i = 0; i < stored.steps; i++) {
     Step step = Step::work(0);
-    read(&step, sizeof step);
+    file.read(&step, sizeof step);
     if (step.kind == Kind::Create) {
       Task *child = all[step.number()];
       child->parent = &t;
@@ -91,18 +74,29 @@ void Stretches::get_task(Task &t, const std::vector<Task *> &all) {
   t.items.reserve(stored.items);
   for (uint32_t i = 0; i < stored.items; i++) {
     Item item{};
-    read(&item, sizeof item);
+    file.read(&item, sizeof item);
     t.items.push_back(item);
   }
 }
 
-void Stretches::each(const std::function<void(Region &, std::size_t, const std::vector<Task *> &)> &take) {
-  if (fseek(file.get(), 0, SEEK_SET)) give_up("cannot be written next to the texts");
+void Stretches::get_events(EventList &events, std::size_t count, const std::vector<Task *> &all) {
+  for (std::size_t i = 0; i < count; i++) {
+    StoredEvent stored;
+    file.read(&stored, sizeof stored);
+    auto worker = static_cast<uint16_t>(stored.worker);
+    events.push_back({all[stored.task], stored.at, stored.segment, worker, stored.start != 0});
+  }
+}
+
+void Stretches::each(bool timed, const std::function<void(Region &, std::size_t, const std::vector<Task *> &)> &take) {
+  file.begin_again();
   for (std::size_t number = 0; number < counts.size(); number++) {
     Region stretch;
     std::vector<Task *> all;
-    for (uint32_t i = 0; i < counts[number]; i++) all.push_back(&stretch.tasks.emplace_back());
+    for (uint32_t i = 0; i < counts[number].tasks; i++) all.push_back(&stretch.tasks.emplace_back());
     for (Task *t : all) get_task(*t, all);
+    if (timed) get_events(stretch.events, counts[number].events, all);
+    else file.skip(counts[number].events * sizeof(StoredEvent));
     stretch.root = all.front();
     take(stretch, number, all);
   }
@@ -114,15 +108,12 @@ void Stretches::take_sums(const Region &stretch, int64_t unit) {
   constructs.add(stretch);
 }
 
-void each_stretch(Region &region, const std::function<void(Region &)> &take) {
+void each_stretch(Region &region, bool timed, const std::function<void(Region &)> &take) {
   if (!region.before) return;
-  region.before->each([&](Region &stretch, std::size_t number, const std::vector<Task *> &tasks) {
-    put_pieces(static_cast<const WholeProgram &>(region), number, tasks);
+  auto &whole = static_cast<WholeProgram &>(region);
+  whole.before->each(timed, [&](Region &stretch, std::size_t number, const std::vector<Task *> &tasks) {
+    if (timed) whole.off.take_back(number, tasks);
+    put_pieces(whole, number, tasks, stretch.events);
     take(stretch);
   });
-}
-
-void each_part(Region &region, const std::function<void(Region &)> &take) {
-  each_stretch(region, take);
-  take(region);
 }

@@ -1,13 +1,12 @@
 // What was released of the whole program: its text up to regions that have ended, stretch by stretch, in a file without
 // a name beside the texts. A stretch is a program of its own, whose root has the root's steps of it.
 #pragma once
-#include <cstdio>
 #include <functional>
-#include <memory>
 #include <set>
 #include <string>
 #include <vector>
 
+#include "files.hpp"
 #include "head.hpp"
 #include "lines.hpp"
 #include "run.hpp"
@@ -15,10 +14,11 @@
 
 class Stretches {
  public:
-  explicit Stretches(const std::string &beside);  // the first name of a file
+  explicit Stretches(const std::string &beside) : file(beside) {}
   void put(Region &stretch);  // what its tasks have; numbers them, for chunks of loops that are among them
-  // Reads all again, one at a time, with the number of each and its tasks by their numbers.
-  void each(const std::function<void(Region &, std::size_t, const std::vector<Task *> &)> &take);
+  std::size_t count() const { return counts.size(); }
+  // Reads all again, one at a time, with the number of each and its tasks by their numbers; with events if asked for.
+  void each(bool timed, const std::function<void(Region &, std::size_t, const std::vector<Task *> &)> &take);
 
   // A thread that the program made met a region, which stands before all else: the log is to be read again, and held.
   bool are_in_vain = false;
@@ -38,17 +38,18 @@ class Stretches {
   Constructs constructs;
 
  private:
-  struct Close {
-    void operator()(FILE *open) const { fclose(open); }
+  struct Count {
+    uint32_t tasks;
+    std::size_t events;
   };
-  std::unique_ptr<FILE, Close> file;
-  std::vector<uint32_t> counts;  // of the tasks of each
-  void write(const void *bytes, std::size_t count);
-  void read(void *bytes, std::size_t count);
+  NamelessFile file;
+  std::vector<Count> counts;  // of each
   void put_task(const Task &t);
+  void put_events(const EventList &events);
   void get_task(Task &t, const std::vector<Task *> &all);
+  void get_events(EventList &events, std::size_t count, const std::vector<Task *> &all);
 };
 
-// What was let go of a region, in the order of the text, with its pieces of loops; it is not added up.
-void each_stretch(Region &region, const std::function<void(Region &)> &take);
-void each_part(Region &region, const std::function<void(Region &)> &take);  // and the region behind it
+// What was let go of a region, in the order of the text, with its pieces of loops; it is not added up. `timed`: with the
+// times of its tasks.
+void each_stretch(Region &region, bool timed, const std::function<void(Region &)> &take);

@@ -9,6 +9,10 @@
 #include "runtime_ways.hpp"
 #include "stretches.hpp"
 
+namespace {
+constexpr uint64_t most_room = 1 << 16;
+}  // namespace
+
 Reader::Reader(const HowToRead &chosen) : how(chosen) {
   if (!how.whole) return;
   run.whole = std::make_unique<WholeProgram>();
@@ -16,8 +20,8 @@ Reader::Reader(const HowToRead &chosen) : how(chosen) {
   run.whole->root = fresh(run.whole.get());
   run.whole->root->part = true;
   run.whole->tasks.begin_block();
-  room = how.most_held;
-  may_release = room != UINT64_MAX;
+  room = std::min(how.most_held, most_room);
+  may_let_go = how.most_held != UINT64_MAX;
 }
 
 void Reader::begin_root() {

@@ -118,10 +118,23 @@ std::string text_of(Region &region, const Style &style) {
   return words.substr(words.find('\n') + 1);
 }
 
-std::string told_times(const Region &region, const Events &events) {
+std::string told_times(const Region &region, Events events) {
   std::string out;
-  print_times(region, events, [&](std::string_view piece) { out += piece; });
+  events.tell(region, [&](std::string_view piece) { out += piece; });
   return out;
+}
+
+std::string times_of(Region &region) {
+  if (!region.has_events) return {};
+  auto &whole = static_cast<WholeProgram &>(region);
+  Events events("/tmp/spanprof_times");
+  auto take_part = [&](const Region &part, uint32_t first, uint32_t end) {
+    events.take(region, part, first, end);
+    whole.off.number(region);
+  };
+  tell_program(region, {}, Places(), [](std::string_view) {}, nullptr, take_part);
+  EXPECT(events.are_whole(), true);
+  return told_times(region, std::move(events)) + off_lines(region, whole.off);
 }
 
 std::string events_of(Region &region) {

@@ -43,13 +43,15 @@ Sums sums_of(Region &region) {
   RootEnds ends;
   LocationEnds locations;
   Size size;
-  each_part(region, [&](Region &part) {
+  auto add = [&](Region &part) {
     add_up(part);
     Size own = size_of(part);
     span_of(part, locations);
     ends.add(*part.root);
     size.add(own);
-  });
+  };
+  each_stretch(region, false, add);
+  add(region);
   return {ends.span(), size.total, size.segments, size.tasks};
 }
 
@@ -70,6 +72,23 @@ TEST(what_is_over_is_let_go_with_its_text) {
   EXPECT(few.whole->tasks.size() < all.whole->tasks.size() / 2, true);
   EXPECT(few.whole->before->tasks + few.whole->before->chunks.back() > 10, true);
   expect_same(few, all);
+}
+
+TEST(times_of_what_is_let_go_are_those_of_what_is_held) {
+  Program made(2);
+  for (uint32_t region : {1, 2, 3, 4}) {
+    uint32_t implicit = 100 * region - 99, task = 100 * region;
+    if (region > 1) begin_region(made, region, implicit);
+    made.after(10).create(0, implicit, task).run(1, implicit + 1, task, 1000).passed(1, 900, 400, true);
+    loop(made.after(100 * us).passed(0, 90 * us, 10 * us, true), 0, 5, {{2, 4 * us}, {1, 300}, {2, 500}}, region);
+    close_region(made.after(7), region, implicit);
+    made.after(50 * us).passed(0, 50 * us, 20 * us, true);
+  }
+  Run few = std::move(made.let_go());
+  EXPECT(few.whole->before->count() > 1, true);
+  std::string times = times_of(*few.whole);
+  EXPECT(times, times_of(*made.whole().whole));
+  EXPECT(times.find("\n0 ") != std::string::npos, true);
 }
 
 TEST(sums_of_what_is_let_go_are_those_of_what_is_held) {
@@ -94,8 +113,8 @@ TEST(sums_of_what_is_let_go_are_those_of_what_is_held) {
 
 TEST(places_of_what_is_let_go_stand_in_the_head) {
   Program made = three_regions();
-  Run &few = made.released();
-  each_stretch(*few.whole, [&](Region &stretch) {
+  Run &few = made.let_go();
+  each_stretch(*few.whole, false, [&](Region &stretch) {
     add_up(stretch);
     size_of(stretch);
     few.whole->before->take_sums(stretch, 1);

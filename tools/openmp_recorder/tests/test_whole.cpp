@@ -40,7 +40,7 @@ TEST(what_makes_the_parts_of_a_region_takes_no_time) {
   end_region(made.after(4), 2);
   made.after(7);
   EXPECT(made.times(), "0 0 0 100\n1 0 100 104\n2 0 100 100\n3 1 100 104\n4 0 100 100\n5 0 104 111\n");
-  EXPECT(event_lines(*made.found.whole).whole, true);
+  EXPECT(event_lines(*made.found.whole).are_whole(), true);
 }
 
 TEST(a_later_phase_begins_where_its_first_part_does) {
@@ -87,8 +87,8 @@ TEST(pieces_have_their_times_in_a_text_of_any_size_too) {
   Events few = event_lines((made.times(), *made.found.whole));
   print_program(*made.found.whole, {1, true, true}, Places(), [](std::string_view) {});
   Events many = event_lines(*made.found.whole);
-  EXPECT(many.whole, true);
-  EXPECT(told_times(*made.found.whole, many), told_times(*made.found.whole, few));
+  EXPECT(many.are_whole(), true);
+  EXPECT(told_times(*made.found.whole, std::move(many)), told_times(*made.found.whole, std::move(few)));
 }
 
 TEST(time_off_the_processor_is_told_by_segment) {

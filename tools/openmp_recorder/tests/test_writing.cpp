@@ -110,9 +110,9 @@ TEST(times_of_segments_are_since_the_region_began) {
   Region &region = only_region(run);
   text_of(region);
   Events events = event_lines(region);
-  EXPECT(told_times(region, events), "times 2 0 3999\n0 0 0 1499\n1 1 1499 3999\n2 0 1499 1499\n");
-  EXPECT(events.whole, true);
-  EXPECT(events.workers, 2u);
+  EXPECT(events.are_whole(), true);
+  EXPECT(events.workers(), 2u);
+  EXPECT(told_times(region, std::move(events)), "times 2 0 3999\n0 0 0 1499\n1 1 1499 3999\n2 0 1499 1499\n");
 }
 
 // LLVM 14 may tell of a thread's last code after the region's end.
@@ -132,7 +132,7 @@ TEST(a_run_that_is_not_whole_says_so) {
   Run run = Made().create(0, 1, 2).barrier(0, 1).read();
   Region &region = only_region(run);
   text_of(region);
-  EXPECT(event_lines(region).whole, false);
+  EXPECT(event_lines(region).are_whole(), false);
 }
 
 TEST(the_head_tells_the_functions_of_places) {

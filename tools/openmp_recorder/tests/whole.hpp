@@ -25,8 +25,8 @@ class Program : public Made {
     return found;
   }
   // Of records of which nothing runs by itself later than the last.
-  Run &released() {
-    HowToRead how{UINT64_MAX, true, began, now(), nullptr, false, began, now(), 0, {}, nullptr, "/tmp/spanprof_let_go"};
+  Run &let_go() {
+    HowToRead how{UINT64_MAX, true, began, now(), nullptr, true, began, now(), 0, {}, nullptr, "/tmp/spanprof_let_go"};
     found = read({}, how);
     if (found.whole->before && found.whole->before->are_in_vain) {
       how.most_held = UINT64_MAX;
@@ -36,9 +36,10 @@ class Program : public Made {
     size_of(*found.whole);
     return found;
   }
-  std::string text() {  // the same where what is over was let go
-    std::string few = text_of(*released().whole), all = text_of(*whole().whole);
+  std::string text() {  // the same where what is over was let go, with its times
+    std::string few = text_of(*let_go().whole), few_times = times_of(*found.whole), all = text_of(*whole().whole);
     EXPECT(few, all);
+    EXPECT(few_times, times_of(*found.whole));
     return all;
   }
   std::string times() {  // of the text, below the line of all of them
