@@ -44,7 +44,7 @@ class Reporter {
 
   Size measure(Region &region);
   std::string head(Region &region, int64_t work);
-  void tell_remarks(const Region &region, const std::string &name);
+  void report_remarks(const Region &region, const std::string &name);
   void write_times(Region &region, Events &events, const std::string &name, const std::string &head, Style style,
                    Object &line);
   bool write_text(Region &region, const std::string &file, const std::string &head, const Style &style,
@@ -122,7 +122,7 @@ bool Reporter::write_text(Region &region, const std::string &file, const std::st
                           const std::function<void(const Taker &)> &behind) {
   return write_file(file, [&](const Taker &taker) {
     taker(head);
-    tell_program(region, style, places, taker, table, behind_part);
+    print_program(region, style, places, taker, table, behind_part);
     if (behind) behind(taker);
   });
 }
@@ -164,8 +164,8 @@ void Reporter::write(Region &region, const std::string &name) {
   if (!(recording.whole ? write_whole(region, name, words, style, take_part)
                         : write_text(region, file, words, style, nullptr, take_part, nullptr)))
     return;
-  tell_remarks(region, name);
-  Line line("text");
+  report_remarks(region, name);
+  Message line("text");
   write_times(region, events, name, words, style, put_size(line, file, size, work));
 }
 

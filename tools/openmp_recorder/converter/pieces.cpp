@@ -251,7 +251,7 @@ void choose_pieces(WholeProgram &whole, int64_t unit) {
   if (!least) least = INT64_MAX;
   bool moves_span = chooser.longer(least) > span / share_that_moves_little;
   chooser.remark(least, moves_span);
-  JoinedTimes joined = write(Rows(whole.chunk_list, let_go(whole)), least, whole.has_events);
+  JoinedTimes joined = write(Rows(whole.chunk_list, released_chunks(whole)), least, whole.has_events);
   joined.apply(whole.events);
   joined.apply(whole.off);
   add_up(whole);

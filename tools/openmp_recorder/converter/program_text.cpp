@@ -297,8 +297,8 @@ int64_t work_in_units(const Region &region, int64_t unit) {
   return work;
 }
 
-void tell_program(Region &region, const Style &style, const Places &places, const Taker &taker, SegmentTable *table,
-                  const PartTaker &behind) {
+void print_program(Region &region, const Style &style, const Places &places, const Taker &taker, SegmentTable *table,
+                   const PartTaker &behind) {
   Writer(region, style, places, taker, table).tell(behind);
 }
 

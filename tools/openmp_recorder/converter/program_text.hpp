@@ -23,5 +23,5 @@ int64_t work_in_units(const Region &region, int64_t unit);  // as the text has i
 // Of a part of the text that is written, with the numbers of its first segment and behind its last.
 using PartTaker = std::function<void(const Region &part, uint32_t first, uint32_t end)>;
 // Piece by piece, and the table of its segments where one is wanted.
-void tell_program(Region &region, const Style &style, const Places &places, const Taker &taker,
-                  SegmentTable *table = nullptr, const PartTaker &behind = nullptr);
+void print_program(Region &region, const Style &style, const Places &places, const Taker &taker,
+                   SegmentTable *table = nullptr, const PartTaker &behind = nullptr);

@@ -41,14 +41,14 @@ bool Reader::is_ended_until(const Placed &end) {
   return blocks_ended >= end.blocks;
 }
 
-void Reader::let_go_beginning() {
+void Reader::release_beginning() {
   const Task &root = *run.whole->root;
-  if (!may_let_go || run.whole->tasks.size() <= room) return;
+  if (!may_release || run.whole->tasks.size() <= room) return;
   size_t over = 0;
-  while (over < placed.size() && is_over_until(placed[over])) over++;
+  while (over < placed.size() && is_ended_until(placed[over])) over++;
   // In a damaged log the root may have gone on before a region was over.
   bool has_gone_on = over && run.whole->has_events && root.running && root.started < placed[over - 1].events;
-  if (over && !has_gone_on) let_go_until(placed[over - 1]);
+  if (over && !has_gone_on) release_until(placed[over - 1]);
 }
 
 void Reader::release_until(const Placed &found) {
@@ -103,8 +103,8 @@ void Reader::take_events(Region &stretch, size_t end) {
     bool is_of_root = event.task == root;
     if (is_of_root && i >= end) event.segment -= stretch.root->segment;
     if (is_of_root ? i >= end : !event.task->is_let_go) continue;
-    stretch.events.push_back({is_of_root ? stretch.root : event.task, event.at, event.segment, event.worker, event.start,
-                              event.taken_back});
+    stretch.events.push_back(
+        {is_of_root ? stretch.root : event.task, event.at, event.segment, event.worker, event.start, event.taken_back});
     event.task = root, event.taken_back = true;
   }
   events.forget(end);

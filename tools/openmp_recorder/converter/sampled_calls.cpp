@@ -205,7 +205,7 @@ std::string named_calls(const Calls &calls, const Places &places) {
 
 std::string sampled_lines(const Region &region, OffTimes &times, const Stacks &stacks, Places &places) {
   std::vector<Named> names = all_named(stacks, places);
-  std::vector<const void *> contended = all_contended(stacks, places);
+  std::vector<Contended> contended = all_contended(stacks, places);
   times.number(region);
   std::map<uint64_t, Sum> found;
   for (const OffTime &one : times.all) {
@@ -215,13 +215,13 @@ std::string sampled_lines(const Region &region, OffTimes &times, const Stacks &s
     if (one.number == none) continue;
     auto &by_calls = found[one.number].by_calls;
     by_calls[{one.asleep ? slept : ran, named.calls}] += one.stands_for;
-    const void *shared = one.sample ? contended[one.sample - 1] : nullptr;
+    Contended shared = one.sample ? contended[one.sample - 1] : Contended{};
     if (!one.asleep && !named.own.at.empty()) by_calls[{at, named.own.at}] += one.stands_for;
     if (!one.asleep && named.allocates)
       by_calls[{allocated, named.own.at + " " + named.own.function}] += one.stands_for;
-    bool is_systems = !library_of_system(shared, places).empty();
-    if (shared && !is_systems && !places.at(shared).empty())
-      by_calls[{shares, places.at(shared)}] += one.stands_for;
+    auto beyond = static_cast<uint64_t>(shared.beyond * one.stands_for);
+    if (beyond && library_of_system(shared.place, places).empty() && !places.at(shared.place).empty())
+      by_calls[{shares, places.at(shared.place)}] += beyond;
   }
   std::string out;
   for (auto &[number, sum] : found)

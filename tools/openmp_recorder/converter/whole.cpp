@@ -21,7 +21,7 @@ Reader::Reader(const HowToRead &chosen) : how(chosen) {
   run.whole->root->part = true;
   run.whole->tasks.begin_block();
   room = std::min(how.most_held, most_room);
-  may_let_go = how.most_held != UINT64_MAX;
+  may_release = how.most_held != UINT64_MAX;
 }
 
 void Reader::begin_root() {

@@ -84,7 +84,7 @@ TEST(times_of_what_is_let_go_are_those_of_what_is_held) {
     close_region(made.after(7), region, implicit);
     made.after(50 * us).passed(0, 50 * us, 20 * us, true);
   }
-  Run few = std::move(made.let_go());
+  Run few = std::move(made.released());
   EXPECT(few.whole->before->count() > 1, true);
   std::string times = times_of(*few.whole);
   EXPECT(times, times_of(*made.whole().whole));
@@ -113,7 +113,7 @@ TEST(sums_of_what_is_let_go_are_those_of_what_is_held) {
 
 TEST(places_of_what_is_let_go_stand_in_the_head) {
   Program made = three_regions();
-  Run &few = made.let_go();
+  Run &few = made.released();
   each_stretch(*few.whole, false, [&](Region &stretch) {
     add_up(stretch);
     size_of(stretch);

@@ -25,7 +25,7 @@ class Program : public Made {
     return found;
   }
   // Of records of which nothing runs by itself later than the last.
-  Run &let_go() {
+  Run &released() {
     HowToRead how{UINT64_MAX, true, began, now(), nullptr, true, began, now(), 0, {}, nullptr, "/tmp/spanprof_let_go"};
     found = read({}, how);
     if (found.whole->before && found.whole->before->are_in_vain) {
@@ -37,7 +37,7 @@ class Program : public Made {
     return found;
   }
   std::string text() {  // the same where what is over was let go, with its times
-    std::string few = text_of(*let_go().whole), few_times = times_of(*found.whole), all = text_of(*whole().whole);
+    std::string few = text_of(*released().whole), few_times = times_of(*found.whole), all = text_of(*whole().whole);
     EXPECT(few, all);
     EXPECT(few_times, times_of(*found.whole));
     return all;
