@@ -39,12 +39,12 @@ bool write_file(const std::string &name,
 }
 
 NamelessFile::NamelessFile(const std::string &beside) : buffer(buffered), file(nameless_file(beside)) {
-  if (!file) give_up("cannot be written beside the texts");
+  if (!file) give_up("cannot be written next to the texts");
   setvbuf(file.get(), buffer.data(), _IOFBF, buffer.size());
 }
 
 void NamelessFile::write(const void *bytes, std::size_t count) {
-  if (fwrite_unlocked(bytes, 1, count, file.get()) != count) give_up("cannot be written beside the texts");
+  if (fwrite_unlocked(bytes, 1, count, file.get()) != count) give_up("cannot be written next to the texts");
 }
 
 void NamelessFile::read(void *bytes, std::size_t count) {
@@ -56,7 +56,7 @@ void NamelessFile::skip(std::size_t count) {
 }
 
 void NamelessFile::begin_again() {
-  if (fseek(file.get(), 0, SEEK_SET)) give_up("cannot be written beside the texts");
+  if (fseek(file.get(), 0, SEEK_SET)) give_up("cannot be written next to the texts");
 }
 
 NewFile::NewFile(const std::string &called) : name(called), file(fopen(unfinished(name).c_str(), "w")), good(file) {}
