@@ -147,6 +147,7 @@ class Reader {
   bool is_over_until(const Placed &end);
   void let_go_beginning();
   void let_go_until(const Placed &end);
+  void take_from_later(size_t first);
   void take_steps(Task &root, size_t count);
   void take_events(Region &stretch, size_t end);
   void end_stretch(Region &stretch, const Placed &end);

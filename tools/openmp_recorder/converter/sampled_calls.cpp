@@ -212,8 +212,7 @@ std::string sampled_lines(const Region &region, OffTimes &times, const Stacks &s
     if (!one.asleep && named.allocates)
       by_calls[{allocated, named.own.at + " " + named.own.function}] += one.stands_for;
     bool is_systems = !library_of_system(shared, places).empty();
-    if (shared && !is_systems && !places.at(shared).empty())
-      by_calls[{shares, places.at(shared)}] += one.stands_for;
+    if (shared && !is_systems && !places.at(shared).empty()) by_calls[{shares, places.at(shared)}] += one.stands_for;
   }
   std::string out;
   for (auto &[number, sum] : found)

@@ -132,7 +132,8 @@ std::string times_of(Region &region) {
     events.take(region, part, first, end);
     whole.off.number(region);
   };
-  tell_program(region, {}, Places(), [](std::string_view) {}, nullptr, take_part);
+  tell_program(
+      region, {}, Places(), [](std::string_view) {}, nullptr, take_part);
   EXPECT(events.are_whole(), true);
   return told_times(region, std::move(events)) + off_lines(region, whole.off);
 }
