@@ -150,6 +150,7 @@ class Reader {
   bool is_ended_until(const Placed &end);
   void release_beginning();
   void release_until(const Placed &end);
+  void take_from_later(size_t first);
   void take_steps(Task &root, size_t count);
   void take_events(Region &stretch, size_t end);
   void end_stretch(Region &stretch, const Placed &end);

@@ -51,6 +51,22 @@ void Reader::release_beginning() {
   if (over && !has_gone_on) release_until(placed[over - 1]);
 }
 
+// In a damaged log a later region may have tasks that are let go.
+void Reader::take_from_later(size_t first) {
+  auto is_gone = [](const Part &part) { return part.task->is_let_go; };
+  for (size_t i = first; i < begun.size(); i++) {
+    Region &region = *begun[i];
+    region.parts.erase(std::remove_if(region.parts.begin(), region.parts.end(), is_gone), region.parts.end());
+    if (!region.left_in_groups.empty()) {
+      std::vector<Part> &left = region.left_in_groups.made();
+      left.erase(std::remove_if(left.begin(), left.end(), is_gone), left.end());
+    }
+    if (region.owner && region.owner->is_let_go) region.owner = run.whole->root;
+  }
+  for (auto &[number, own] : implicit)
+    if (own.chunk && own.chunk->is_let_go) own.chunk = nullptr;
+}
+
 void Reader::release_until(const Placed &found) {
   const Placed end = found;
   if (!run.whole->before) run.whole->before = std::make_shared<Stretches>(how.beside);
@@ -59,6 +75,7 @@ void Reader::release_until(const Placed &found) {
   stretch.has_auxiliary = run.whole->has_auxiliary;
   stretch.has_events = run.whole->has_events;
   for (Task &t : stretch.tasks) t.is_let_go = true;
+  take_from_later(end.regions);
   forget(stretch.tasks);
   stretch.root = &stretch.tasks.emplace_front();
   stretch.root->part = true;
@@ -124,6 +141,7 @@ void Reader::end_stretch(Region &stretch, const Placed &end) {
     whole.before->beside.add(beside_each_other(begun[i]->parts));
     count_parts(whole, *begun[i]);
     begun[i]->parts = std::vector<Part>();
+    begun[i]->let_go = true;
   }
   measure_chunks(whole, chunks_gone, end.chunks);
   put_finest_pieces(whole, chunks_gone, end.chunks);
