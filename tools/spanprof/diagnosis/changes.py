@@ -77,7 +77,7 @@ def readers(facts):
             found[shared[1]] = max(found.get(shared[1], 0), place.items[shared])
     for name in sorted(found, key=lambda name: -found[name])[:MOST]:
         yield single("in-for-inout", name)
-    found = [place for place in facts.places.values() if holds_neighbours(place) or not place.moving and place.read_at]
+    found = [place for place in facts.places.values() if holds_neighbours(place) or place.shared_at]
     for place in sorted(found, key=lambda place: -place.cost)[:MOST]:
         yield single("read-only", place.name)
 

@@ -77,10 +77,15 @@ class Place:
 
     @property
     def read_at(self):
-        """Positions of what its tasks hold to write, and may only read: of neighbours, or where several tasks have the
-        same, while they have more names at another position."""
-        if self.moving_at:
-            return self.moving_at
+        """Positions of what its tasks hold to write, and may only read."""
+        return self.moving_at or self.shared_at
+
+    @property
+    def shared_at(self):
+        """Of these, where several tasks have the same name, while they have more names at another position; none where
+        items are of neighbours."""
+        if self.moving:
+            return set()
         names, tasks = Counter(), Counter()
         for item, count in self.items.items():
             if item[0] == "inout":

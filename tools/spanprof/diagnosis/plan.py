@@ -92,7 +92,7 @@ def likely(facts, seen, change):
         return LIKELY[change.kind] if 2 * place.items[most_shared(place)] >= place.tasks else FEW_HOLD
     if change.kind == "drop-depend" and is_in_a_row(facts.places[facts.key(change.place)]):
         return IN_A_ROW
-    if change.kind == "split" and facts.places[facts.key(change.place)].read_at:
+    if change.kind == "split" and facts.places[facts.key(change.place)].shared_at:
         return SHARED
     return AT_THE_ENDS if is_at_an_end(facts, change.place) else LIKELY[change.kind]
 

@@ -56,7 +56,7 @@ def words_of_items(names, place):
     shared = most_shared(place)
     if holds_neighbours(place) and not is_in_a_row(place):
         return {"item": "inout: " + names.read_only(place)[0], "many": "neighbours"}
-    if place.read_at and not is_in_a_row(place):
+    if place.shared_at and not is_in_a_row(place):
         return {"item": "inout: " + names.read_only(place)[0], "many": "all"}
     count = max(place.items[shared], place.again) if shared else 0
     return {"item": names.item(place, shared) if shared else "",

@@ -36,14 +36,15 @@ class Places(unittest.TestCase):
         self.assertEqual((found.moving, found.moving_at), ({("inout", "b"), ("inout", "c")}, {0, 1}))
 
     def test_items_that_several_tasks_have_while_each_has_one_of_its_own(self):
-        def read_at(*items):
+        def shared_at(*items):
             lines = "".join("task depend(inout: %s) {  # a.c:3\nwork 1\n}\n" % one for one in items)
-            return program("omptasks 1\n" + lines).places["task at a.c:3"].read_at
+            return program("omptasks 1\n" + lines).places["task at a.c:3"].shared_at
         frames = ["%s%d" % ("ab"[number // 4], number) for number in range(8)]
-        self.assertEqual(read_at(*("%s, x%s" % (name[0], name) for name in frames)), {0})
-        self.assertEqual(read_at(*("x%s, %s" % (name, name[0]) for name in frames)), {1})
-        self.assertEqual(read_at(*(name[0] for name in frames)), set())
-        self.assertEqual(read_at(*("%s, x%s" % (name[0], name[0]) for name in frames)), set())
+        self.assertEqual(shared_at(*("%s, x%s" % (name[0], name) for name in frames)), {0})
+        self.assertEqual(shared_at(*("x%s, %s" % (name, name[0]) for name in frames)), {1})
+        self.assertEqual(shared_at(*(name[0] for name in frames)), set())
+        self.assertEqual(shared_at(*("%s, x%s" % (name[0], name[0]) for name in frames)), set())
+        self.assertEqual(shared_at(*("%s, x%s" % (name[0], name) for name in frames), "z, a"), set())
 
     def test_threads_code_has_its_region(self):
         lines = ["omptasks 1\n"]
