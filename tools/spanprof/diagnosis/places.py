@@ -77,8 +77,8 @@ class Place:
 
     @property
     def read_at(self):
-        """Positions of what its tasks hold to write, and may only read: of neighbours, or what several tasks have at the
-        same one, while they have more names at another."""
+        """Positions of what its tasks hold to write, and may only read: of neighbours, or what several tasks have at
+        the same one, while they have more names at another."""
         if self.moving_at:
             return self.moving_at
         names, tasks = Counter(), Counter()
