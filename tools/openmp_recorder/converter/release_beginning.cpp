@@ -141,7 +141,7 @@ void Reader::end_stretch(Region &stretch, const Placed &end) {
     whole.before->beside.add(beside_each_other(begun[i]->parts));
     count_parts(whole, *begun[i]);
     begun[i]->parts = std::vector<Part>();
-    begun[i]->let_go = true;
+    begun[i]->is_released = true;
   }
   measure_chunks(whole, chunks_gone, end.chunks);
   put_finest_pieces(whole, chunks_gone, end.chunks);
