@@ -40,6 +40,11 @@ passes() {
     answer "$@" > "$answers/$count" &
 }
 
+# these PATTERN WORD..: the words, or where changes are asked for the changed files of the pattern.
+these() {
+    if [ -z "$changed" ]; then echo "${@:2}"; else grep -E "$1" <<< "$changed" | sort -u | xargs -r ls -d 2> /dev/null; fi
+}
+
 # installed WORD..: the words pass, or the command is missing, whose package has its name.
 installed() {
     if command -v "$1" > /dev/null; then passes "$1" "$@"; else passes "$1" echo "skipped: it is missing (package $1)"; fi
@@ -58,9 +63,12 @@ passes no_symbolic_links no_symbolic_links
 concerns "$python"
 passes style.py python3 -B checks/sources/style.py
 passes imports.py python3 -B checks/sources/imports.py
-installed pyflakes3 tools checks bench examples
-# E402 is an import below sys.path, and style.py looks at long lines.
-installed pycodestyle --ignore=E126,E402,E501,W291,W503,W504 tools checks bench examples
+read -rd '' -a files < <(these '\.py$' tools checks bench examples)
+if [ ${#files[@]} -gt 0 ]; then
+    installed pyflakes3 "${files[@]}"
+    # E402 is an import below sys.path, and style.py looks at long lines.
+    installed pycodestyle --ignore=E126,E402,E501,W291,W503,W504 "${files[@]}"
+fi
 # What nothing but tests uses, apart from names that Python, argparse or a table of methods calls, and of programs that
 # are kept for what was measured.
 installed vulture --exclude '*/tests/*,*test_*.py' tools checks bench examples \
@@ -91,8 +99,8 @@ done
 concerns '\.md$|^VERSION$|^bench/|^docs/|^crates|^checks/sources/'
 for script in version sentences retired_words links speed_numbers; do passes "$script.py" python3 -B "checks/sources/$script.py"; done
 concerns '\.sh$|^demo$|^\.ci/'
-# shellcheck disable=SC2046
-installed shellcheck -S warning demo .ci/run $(git ls-files '*.sh')
+read -rd '' -a files < <(these '\.sh$|^demo$|^\.ci/run$' demo .ci/run "$(git ls-files '*.sh')")
+[ ${#files[@]} -eq 0 ] || installed shellcheck -S warning "${files[@]}"
 concerns '^tools/openmp_recorder/'
 passes cpp_format.sh checks/sources/cpp_format.sh
 for test in checks/*/test_*.py checks/sources/waiting/test_*.py checks/agree/large_recordings/test_*.py bench/test_*.py \

@@ -80,7 +80,7 @@ one 600 reference.py checks/agree/reference.py
 timed 1800 openmp_cases.sh checks/recorders/openmp_cases.sh
 timed 900 record.sh checks/recorders/record.sh
 timed 900 recorded_accounts.sh checks/recorders/recorded_accounts.sh
-timed 900 killed_runs.sh checks/recorders/killed_runs.sh
+one 900 killed_runs.sh checks/recorders/killed_runs.sh
 timed 1200 demo.sh checks/programs/demo.sh
 one 600 not_verified.sh checks/programs/not_verified.sh
 one 600 release.sh checks/programs/release.sh

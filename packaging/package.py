@@ -15,7 +15,7 @@ class Spanprof(MakefilePackage):
     depends_on("c", type="build")
     depends_on("cxx", type="build")
     depends_on("rust@1.63:", type="build")
-    depends_on("llvm@14: +clang +openmp", type=("build", "run"))
+    depends_on("llvm@14: +clang", type=("build", "run"))
     depends_on("binutils", type="run")
     depends_on("python@3.9:", type=("build", "run"))
 

@@ -9,9 +9,12 @@ src=$(cd "$(dirname "$0")" && pwd)/src
 out=${1:-${src%/src}/out}
 mkdir -p "$out"
 [ -z "$(find "$src" -name '*.rs' -newer "$out/libspanprof.so" 2> /dev/null || echo missing)" ] && exit 0
-rustc -O --edition 2021 --crate-type rlib --crate-name reference --out-dir "$out" "$src/lib.rs"
+compile() { rustc -O -C strip=debuginfo --edition 2021 --out-dir "$out" "$@"; }
+with_reference=(--extern reference="$out/libreference.rlib")
+compile --crate-type rlib --crate-name reference "$src/lib.rs"
 for name in spanprof spanprof_large; do
-    rustc -O --edition 2021 --extern reference="$out/libreference.rlib" -o "$out/$name" "$src/bin/$name.rs"
+    compile "${with_reference[@]}" "$src/bin/$name.rs"
 done
-rustc -O --edition 2021 --extern reference="$out/libreference.rlib" --crate-type cdylib --crate-type staticlib \
-    --crate-name spanprof -C link-arg=-Wl,-soname,libspanprof.so.0 --out-dir "$out" "$src/c/lib.rs"
+compile "${with_reference[@]}" --crate-type cdylib --crate-type staticlib --crate-name spanprof \
+    -C link-arg=-Wl,-soname,libspanprof.so.0 "$src/c/lib.rs"
+strip --strip-debug "$out/libspanprof.a"

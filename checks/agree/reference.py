@@ -38,7 +38,8 @@ WORDS = (
     "curve --upto 4294967296", "run --workers 002", "whatif", "whatif --", "whatif 1", "whatif 1=", "whatif =1",
     "whatif 1=2=3", "whatif 1=2 1", "whatif -- 1=2 0=3", "whatif 1=18446744073709551616", "whatif -1=2",
     "whatif --listed", "whatif --listed 1=2", "whatif 1=2 --listed", "whatif --listed --listed", "account --row",
-    "account --rows --path", "account --rows=1", "account -- --rows", "graph --rows", "replay 1", "check --", "x")
+    "account --rows --path", "account --rows=1", "account -- --rows", "graph --rows", "replay 1", "check --", "places",
+    "places 1", "x")
 BYTES = b"\0\n #09aek}{[]+-:,)(\xff"
 WORKED = "omptasks 1\nwork 5 task { work 3 } work 2 taskwait work 1\n"
 
@@ -131,6 +132,10 @@ def compare_text(small, large, text, seed):
     changes = "".join(f"{rng.randrange(segments + 1)}={rng.choice((0, 5, 10 ** 15))}\n" for _ in range(4))
     for rest in ("---\n" + changes, "---\r\n\n 0=1 \n", "---\n0=1 1=2", "---\n0=x", ""):
         large.compare("whatif --listed", text + rest)
+    places = " ".join(str(rng.randrange(segments)) for _ in range(segments))
+    for rest in (f"---\n{places}", f"---\r\n{places.replace(' ', chr(10))}\n\n", f"---\n{places} 0", "---\n0 x",
+                 f"---\n{segments}", "---\n" + "0 " * segments, ""):
+        large.compare("places", text + rest)
 
 
 def compare_account(large, document):
@@ -165,6 +170,8 @@ def compare_large(large, tasks=20_000):
         for words in ("span", "--upto 64", "slack", "greedy --threads 64", "graph", "curve --upto 3"):
             large.compare(words, text)
         compare_account(large, random_runs.as_a_run(text.decode(), large.compare("greedy --threads 3", text), 3))
+        segments = random_programs.segments_told(large.compare("span", text).split("\n", 1)[1])
+        large.compare("places", text + b"---\n" + b"".join(b"%d\n" % (s * s % 77) for s in range(segments)))
         certificate = large.compare("certify", text)
         large.compare("check", certificate)
         large.compare("check", random_programs.with_another_number(certificate, random.Random(name)))

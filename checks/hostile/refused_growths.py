@@ -182,6 +182,7 @@ def large(refuser, program):
     account(refuser, program)
     replay(refuser, program)
     listed(refuser, program)
+    places(refuser, program)
     check_any_size(refuser, program)
 
 
@@ -190,6 +191,13 @@ def listed(refuser, program):
     for text in (f"{WORKED}---\n2=4\n\n1=5\n", WORKED, "omptasks 1\ntask {", f"{WORKED}---\n2=4 1=5\n",
                  f"{WORKED}---\n2=4\n4=1\n", f"{WORKED}---\n2={10 ** 15 + 1}\n", f"{WORKED}---\n2={10 ** 15}\n"):
         command(refuser, program, ["whatif", "--listed"], text)
+
+
+def places(refuser, program):
+    """Places: some that are told, and every kind of refusal."""
+    for text in (f"{WORKED}---\n0 1 0 0\n", WORKED, "omptasks 1\ntask {", f"{WORKED}---\n0 1 0 4\n",
+                 f"{WORKED}---\n0 1 0\n"):
+        command(refuser, program, ["places"], text)
 
 
 def check_any_size(refuser, program):

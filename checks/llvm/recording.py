@@ -16,7 +16,7 @@ from versions import asked
 TOP = os.path.dirname(os.path.dirname(os.path.dirname(os.path.abspath(__file__))))
 sys.path.append(os.path.join(TOP, "tools"))
 from spanprof.converting import convert, converter, has_failed  # noqa: E402
-from spanprof.record.told import in_words  # noqa: E402
+from spanprof.record.messages import in_words  # noqa: E402
 
 RECORDER = os.path.abspath(os.environ.get("RECORDER", os.path.join(TOP, "tools/openmp_recorder/librecorder.so")))
 ENDING = ".spanprof"

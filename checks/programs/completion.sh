@@ -52,6 +52,7 @@ spanprof_large greedy --|--threads
 spanprof_large account --r|--rows
 spanprof_large whatif --|--listed
 spanprof_large rep|replay
+spanprof_large pl|places
 spanprof_large cer|certify
 spanprof-record --uni|--unit
 spanprof-record --clock c|cpu
@@ -73,7 +74,7 @@ LINES
 
 every=$(in_bash 'spanprof ')
 for command in record report whatif predict path graph convert import test span show slack greedy curve certify check \
-    run replay bounds account; do
+    run replay bounds account places; do
     [[ " $every " = *" $command "* ]] || { echo "  bash: no $command"; wrong=$((wrong + 1)); }
 done
 for name in record report path whatif import; do

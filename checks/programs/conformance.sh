@@ -27,11 +27,11 @@ fail() { echo "  $1"; wrong=$((wrong + 1)); }
 
 test_runtime() { # COMPILER TASKS [FLAGS] of the compiler
     local kept=$folder/kept-${1//\//_}
-    ../spanprof-conformance run --cc "$1 ${3:-}" --tasks "$2" --threads 2,4 --programs 10 --runs 2 \
+    ../spanprof-conformance run --cc "$1 ${3:-}" --tasks "$2" --threads 2,4 --programs 10 --runs 2 --seconds 7200 \
         --timeout 60 --keep "$kept" --settings free,pinned,bound,active,passive \
         > "$folder/run.txt" || fail "$1: a run is not accepted"
     cat "$folder/run.txt"
-    ../spanprof-conformance run --cc "$1 ${3:-}" --tasks "$2" --threads 2,4 --programs 10 --runs 2 \
+    ../spanprof-conformance run --cc "$1 ${3:-}" --tasks "$2" --threads 2,4 --programs 10 --runs 2 --seconds 7200 \
         --timeout 60 --keep "$kept" --settings priorities,sleepy,perturbed,stacks,unlogged,orphaned,nested \
         > "$folder/settings.txt" ||
         fail "$1: a run in another setting is not accepted"
@@ -97,7 +97,7 @@ test_alone || fail "the one file of a program"
 test_asleep || fail "a run in which all threads sleep does not hang soon"
 [ -n "$short" ] || ../../checks/programs/conformance_resumed.py || fail "a campaign does not go on"
 if [ -n "$short" ]; then
-    ../spanprof-conformance run --cc gcc --tasks tied --threads 2,4 --programs 3 --runs 1 --timeout 60 \
+    ../spanprof-conformance run --cc gcc --tasks tied --threads 2,4 --programs 3 --runs 1 --timeout 60 --seconds 3600 \
         --keep "$folder/kept" --settings free > "$folder/run.txt" || fail "a run is not accepted"
 else
     test_runtime gcc tied,untied,mixed

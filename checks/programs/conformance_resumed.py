@@ -12,7 +12,8 @@ import time
 
 TESTER = pathlib.Path(__file__).resolve().parents[2] / "tools" / "spanprof-conformance"
 PROGRAMS = 40
-WORDS = f"run --cc gcc --tasks tied --threads 2 --runs 1 --programs {PROGRAMS} --match taskwait_child".split()
+WORDS = ["run", "--cc", "gcc", "--programs", str(PROGRAMS),
+         *"--tasks tied --threads 2 --runs 1 --seconds 3600 --match taskwait_child".split()]
 PATIENCE = 120  # seconds until a program has been tried
 
 

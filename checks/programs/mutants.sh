@@ -20,8 +20,8 @@ jobs=${JOBS:-4}
 [ -f "$folder/mutants.json" ] ||
     checks/programs/mutants/build.py "$family" "$folder" --jobs "$jobs" ${ARCHIVE:+--archive "$ARCHIVE"}
 wrong=0
-tools/spanprof-conformance mutants --cc "$compiler" --built "$folder" --jobs "$jobs" --threads 1,2,4,16 --runs 4 \
-    --programs 20 --tasks "$tasks" --timeout 3 --keep "$folder/programs" \
+tools/spanprof-conformance mutants --cc "$compiler" --built "$folder" --jobs "$jobs" --threads 1,2,4,16 \
+    --tasks "$tasks" --timeout 3 --keep "$folder/programs" \
     --report "$folder/seen.json" "$@" || wrong=$?
 own=()
 if [ "$family" = gomp ]; then

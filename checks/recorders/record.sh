@@ -294,11 +294,11 @@ words='./static is linked statically, and no recorder can be loaded into it; lin
 expect_error 125 "$words" spanprof-record -- ./static
 words="./inside has gcc's runtime (libgomp) inside; link it with the shared library, or compile it with clang"
 expect_error 125 "$words" spanprof-record -- ./inside
-words='nothing is recorded: no OpenMP runtime loaded the recorder: did the program meet a construct of OpenMP?'
+words='nothing is recorded: the program met no construct of OpenMP'
 expect_error 125 "$words" spanprof-record --out never -- ./llvm never
 expect_error 125 '--out no/x: there is no folder no' spanprof-record --out no/x -- ./llvm
 expect_error 125 '--runtime none: no such file' spanprof-record --runtime none -- ./llvm
-expect "wrong words" 125 spanprof-record --all --unit hours -- ./llvm
+expect "wrong words" 2 spanprof-record --all --unit hours -- ./llvm
 expect_word "wrong words" 'a unit is ns, us, ms, or nanoseconds up to 1000000000'
 SPANPROF=/none expect "no spanprof" 125 spanprof-record --all -- ./llvm
 expect_word "no spanprof" '/none: No such file or directory'

@@ -17,12 +17,7 @@ reads() {
 }
 
 syntax=("-fsyntax-only" "-Qunused-arguments" "-fopenmp" "${llvm_flags[@]}")
-folder=$(mktemp -d)
-trap 'rm -rf "$folder"' EXIT
-for report in tools/conformance/found/*.md; do
-    sed -n '/^```c$/,/^```$/p' "$report" | sed '1d;$d' > "$folder/$(basename "$report" .md).c"
-done
-for file in "$folder"/*.c tools/conformance/mutants/*.c examples/openmp/*.c bench/recording/*.c \
+for file in tools/conformance/found/*.c tools/conformance/mutants/*.c examples/openmp/*.c bench/recording/*.c \
     checks/hostile/*.c; do
     reads "clang-$llvm" "${syntax[@]}" -Itools/conformance/harness "$file"
 done

@@ -38,14 +38,14 @@ def causes(source):
 
 def events(source):
     """The events of a log, as C++ names them in small letters, by their enumeration."""
-    cases = source.partition("enum class Told")[2].partition("};")[0]
-    return {"told::" + case.lower() for case in re.findall(r"^  (\w+)", cases, re.M)} - {"told::nothing"}
+    cases = source.partition("enum class RecordKind")[2].partition("};")[0]
+    return {"recordkind::" + case.lower() for case in re.findall(r"^  (\w+)", cases, re.M)} - {"recordkind::nothing"}
 
 
 def named(words, text):
     """Those of the words that a text names, by themselves or in a name of the code, and that are no plain English."""
     small = text.lower()
-    return {word for word in words - PLAIN_ENGLISH if re.search(r"(?<![a-z])" + word, small)}
+    return {word for word in words - PLAIN_ENGLISH if word in small and re.search(r"(?<![a-z])" + word, small)}
 
 
 def listed(page, heading):
@@ -92,11 +92,11 @@ def main(arguments):
     marks = statements(files["crates/program_text/specs/Words.antt"])
     code = {path: text for path, text in files.items() if not NO_CODE.search(path)}
     kinds = causes(files["tools/spanprof/diagnosis/causes.py"])
-    told = events(files["tools/openmp_recorder/shared/told.hpp"])
+    records = events(files["tools/openmp_recorder/shared/record_kind.hpp"])
     asked = [("command", "To add a command", files, words, len(words - PLAIN_ENGLISH) - 1),
              ("statement", "To add a statement or a clause of the text", code, marks, 2),
              ("cause", "To add a cause of the diagnosis", files, kinds, len(kinds) - 1),
-             ("event", "To add an event of the log", code, told, len(told) * 3 // 4)]
+             ("event", "To add an event of the log", code, records, len(records) * 3 // 4)]
     if arguments == ["--all"]:
         for what, _, texts, among, least in asked:
             print(*(f"{what}: {path}" for path in texts if len(named(among, texts[path])) >= least), sep="\n")

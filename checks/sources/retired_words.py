@@ -1,5 +1,5 @@
 #!/usr/bin/env python3
-"""Finds retired words in what users read: documents, man pages, and the strings that the tools print.
+"""Finds retired words in what users read: documents, man pages, and the strings that the tools print, C++ too.
 
     checks/sources/retired_words.py [FILE ..]     all of them if none is named; status 1 where one has a retired word
 Code in documents and arguments in man pages are left out: outputs and names that the specification fixes stay. The
@@ -23,16 +23,25 @@ RETIRED = [(re.compile(pattern, re.IGNORECASE), instead) for pattern, instead in
     (r"\bstarved?\b", "idle"),
     (r"\bgreedy runs?\b", "greedy schedule"),
     (r"\bspeed-ups?\b", "speedup"),
-    (r"\bremark(s|ed)?\b", "warning"),
+    (r"(?<!# )\bremark(s|ed)?\b", "warning"),
     (r"\bthe gate\b|\ba gate\b", "CI, proof check"),
     (r"\bturns of (a|all|its) \w*loops?\b|\bloops?'s? turns\b", "iterations"),
     (r"\bwhat waits? for what\b|\bwhat has to wait for what\b", "dependences"),
     (r"\bmidst\b|\bwithout a word\b|\bfrom scratch\b", "plain words"),
     (r"\bhandled? to the outside\b", "capability"),
+    (r"\bheld up\b", "blocked, delayed"),
+    (r"\b(a|the|first|second|no) leads?\b", "diagnosis"),
+    (r"\bfold(s|ed|ing)? (tasks|regions|texts?)\b|\b(tasks|regions|texts?) (is|are) folded\b", "coarsen"),
+    (r"\bforge[ds]?\b", "tamper with"),
+    (r"\bno sooner\b", "lower bound"),
+    (r"\bbelieved lines\b", "definitions to read"),
+    (r"\bcannot stand (here|there)\b", "unexpected"),
+    (r"(?<!tasks )\bthere r[au]n\b", "the subject first"),
 )]
 DOCUMENTS = ("README.md", "CONTRIBUTING.md", "docs/*.md", "checks/**/README.md", "bench/README.md", "tools/README.md",
              "tools/**/README.md", "examples/**/README.md")
 MACRO = re.compile(r"^\.(TH|SH|SS|TP|PP|nf|fi|RS|RE|IP|EX|EE|in|ad|hy|\\\").*$", re.M)
+STRING = re.compile(r'"((?:[^"\\]|\\.)* (?:[^"\\]|\\.)* (?:[^"\\]|\\.)*)"')
 FIXED = re.compile(r"^\.(B|BI|BR|IR|I|RI|RB|IB)\s.*$|\\fB.*?\\f[RP]|\\fI.*?\\f[RP]", re.M)
 
 
@@ -67,9 +76,15 @@ def of_program(source):
                 yield node.lineno, re.sub(r"`[^`]*`", "", node.value)
 
 
+def of_cpp(source):
+    """The same of the strings of a C++ program, without its comments."""
+    for number, line in enumerate(source.splitlines(), 1):
+        yield number, " ".join(STRING.findall(re.sub(r"(^|\s)//.*", "", line)))
+
+
 def lines_of(path):
     text = path.read_text(encoding="utf-8")
-    read = {".md": of_document, ".py": of_program}.get(path.suffix, of_manual)
+    read = {".md": of_document, ".py": of_program, ".cpp": of_cpp, ".hpp": of_cpp}.get(path.suffix, of_manual)
     return read(text)
 
 
@@ -89,6 +104,7 @@ def read_by_users():
     found = {path for pattern in DOCUMENTS for path in TOP.glob(pattern) if "out" not in path.parts}
     found |= set((TOP / "tools" / "man").glob("*.[13]"))
     found |= set(filter(is_program_of_users, (TOP / "tools" / "spanprof").rglob("*.py")))
+    found |= set(filter(is_program_of_users, (TOP / "tools" / "openmp_recorder").rglob("*.[ch]pp")))
     return sorted(found)
 
 

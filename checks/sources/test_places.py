@@ -45,8 +45,8 @@ class Places(unittest.TestCase):
         self.assertEqual(commands(PROGRAM), {"span", "greedy", "whatif"})
         self.assertEqual(statements(WORDS), {"work", "taskwait", "taskgroup"})
         self.assertEqual(causes('Cause("lock", 0.1)\nCause("small_tasks", 0.1)'), {"small_tasks"})
-        self.assertEqual(events("enum class Told : uint8_t {\n  Nothing,  // none\n  LockGot,\n  Cancel\n};\n  Other"),
-                         {"told::lockgot", "told::cancel"})
+        self.assertEqual(events("enum class RecordKind : uint8_t {\n  Nothing,  // none\n  LockGot,\n  Cancel\n};\n"),
+                         {"recordkind::lockgot", "recordkind::cancel"})
 
     def test_what_a_text_names(self):
         words = {"span", "greedy", "whatif", "curve"}

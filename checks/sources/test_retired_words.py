@@ -4,7 +4,7 @@ import sys
 import unittest
 
 sys.path.insert(0, str(pathlib.Path(__file__).resolve().parent))
-from retired_words import faults, of_document, of_manual, of_program, read_by_users
+from retired_words import faults, of_cpp, of_document, of_manual, of_program, read_by_users
 
 
 def words(lines):
@@ -34,9 +34,13 @@ class Texts(unittest.TestCase):
         source = '"""What is told."""\nNAME = "told"\nprint("it is told here")\nprint("see `told` of this")\n'
         self.assertEqual(words(of_program(source)), [(3, "told")])
 
+    def test_strings_of_cpp(self):
+        source = '// it is told here\nsay("it is told \\"here");  // and told\nput("told");\n'
+        self.assertEqual(words(of_cpp(source)), [(2, "told")])
+
     def test_readers_files_without_tests(self):
         names = {path.name for path in read_by_users()}
-        self.assertTrue({"README.md", "GLOSSARY.md", "spanprof.1", "summary.py"} <= names)
+        self.assertTrue({"README.md", "GLOSSARY.md", "spanprof.1", "summary.py", "convert.cpp"} <= names)
         self.assertNotIn("test_summary.py", names)
 
 

@@ -9,6 +9,7 @@ use crate::documents::Document;
 use crate::graph::Graph;
 use crate::limits::{Limits, ANY_SIZE, COMMANDS, MOST_THREADS, MOST_WORKERS};
 use crate::meter::Meter;
+use crate::places::places;
 use crate::program::Program;
 use crate::read::read;
 use crate::refusal::{refused, Refusal};
@@ -23,9 +24,9 @@ const SPANPROF: [&str; 10] = [
 ];
 
 /// The first one needs no name.
-const SPANPROF_LARGE: [&str; 13] = [
+const SPANPROF_LARGE: [&str; 14] = [
     " --upto P", "span", "bounds --upto P", "slack", "greedy --threads P", "curve --upto P",
-    "whatif SEG=COST [--listed]", "graph", "show", "certify", "account [--rows] [--path]", "replay", "check",
+    "whatif SEG=COST [--listed]", "graph", "show", "certify", "account [--rows] [--path]", "places", "replay", "check",
 ];
 
 const HELP: &str = include_str!("help.txt");
@@ -73,6 +74,7 @@ fn answer(name: &str, found: &Found, input: &[u8], limits: &Limits) -> Result<Ve
         "check" => check(&document, limits),
         "replay" => replay(&document, limits),
         "account" => account(&graph_of(&read(document.program, limits)?)?, &document, found.flag.as_deref()),
+        "places" => places(&graph_of(&read(document.program, limits)?)?, &document),
         "whatif" if found.flag.is_some() => what_if_listed(graph_of(&read(document.program, limits)?)?, &document),
         _ => answer_of(name, found, &read(input, limits)?),
     }

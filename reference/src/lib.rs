@@ -3,7 +3,8 @@
 //! with the proved programs.
 //!
 //! A text goes through these modules: `tokens`, `grammar` and `read` make a `program`, `cut` its segments,
-//! `siblings` and `graph` the kept edges. `reports`, `certificate`, `replay`, `changes` and `account` answer.
+//! `siblings` and `graph` the kept edges. `reports`, `certificate`, `replay`, `changes`, `account` and `places`
+//! answer.
 
 pub mod account;
 pub mod analysis;
@@ -20,6 +21,7 @@ pub mod growth;
 pub mod limits;
 pub mod memory;
 mod meter;
+mod places;
 pub mod program;
 pub mod read;
 pub mod refusal;

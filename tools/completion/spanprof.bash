@@ -41,7 +41,7 @@ _spanprof() {
         bounds) _spanprof_among "$current" --upto ;;
         spanprof | */spanprof | help)
             _spanprof_among "$current" record report whatif predict path graph convert import test \
-                span show slack greedy curve certify check run replay bounds account help ;;
+                span show slack greedy curve certify check run replay bounds account places help ;;
         --dot) _spanprof_files "$current" .tasks ;;
         greedy) _spanprof_among "$current" --threads ;;
         curve) _spanprof_among "$current" --upto ;;
@@ -54,8 +54,8 @@ _spanprof_large() {
     case $before in
         '<' | '>') _spanprof_files "$current" ;;
         spanprof_large | */spanprof_large)
-            _spanprof_among "$current" span bounds slack greedy curve whatif graph show certify account replay \
-                check --upto --help --version ;;
+            _spanprof_among "$current" span bounds slack greedy curve whatif graph show certify account places \
+                replay check --upto --help --version ;;
         account) _spanprof_among "$current" --rows --path ;;
         whatif) _spanprof_among "$current" --listed ;;
         greedy) _spanprof_among "$current" --threads ;;

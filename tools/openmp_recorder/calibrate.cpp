@@ -29,7 +29,7 @@ void spend(int64_t time) {
   }
 }
 
-void tell(const char *what, int64_t time) { std::printf("%s %lld\n", what, static_cast<long long>(time)); }
+void print_time(const char *what, int64_t time) { std::printf("%s %lld\n", what, static_cast<long long>(time)); }
 
 void tree(int below) {
   if (!below) return;
@@ -49,7 +49,7 @@ void trees(int threads, int turns) {
       tree(depth);
       taken[omp_get_thread_num()] = now() - begun;
     }
-    for (int64_t time : taken) tell("task", time / tasks_of_a_tree);
+    for (int64_t time : taken) print_time("task", time / tasks_of_a_tree);
   }
 }
 
@@ -82,10 +82,10 @@ void steals(int threads, int turns) {
       }
     }
     while (left) spend(0);
-    tell("wake_up", first - begun);
+    print_time("wake_up", first - begun);
   }
   for (const Thief &one : thieves)
-    for (int64_t time : one.between) tell("steal", time);
+    for (int64_t time : one.between) print_time("steal", time);
 }
 }  // namespace
 

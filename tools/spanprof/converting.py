@@ -54,7 +54,7 @@ def convert(program, log, out, variables):
         raise Fault("%s: %s" % (program, wrong.strerror)) from wrong
     told = [json.loads(line) for line in output_of(process, log).splitlines() if line.strip().endswith("}")]
     if process.returncode and not has_failed(told):
-        told.append({"told": "fault", "log": log, "what": why_it_died(process.returncode)})
+        told.append({"message": "fault", "log": log, "what": why_it_died(process.returncode)})
     return told
 
 
@@ -84,7 +84,7 @@ def at_the_end(process, meanwhile):
 
 
 def has_failed(told):
-    return any(one["told"] in FAILED for one in told)
+    return any(one["message"] in FAILED for one in told)
 
 
 def in_place(told, new, folder):

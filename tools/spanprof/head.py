@@ -5,10 +5,10 @@ from dataclasses import dataclass, field
 from itertools import takewhile
 from typing import Dict, List, Optional, Tuple
 
-from spanprof.account_words import lasting
+from spanprof.durations import lasting
 from spanprof.errors import DAMAGE
-from spanprof.remarks import Remark, read_remark, seen
-from spanprof.text import CALLED_FROM, where
+from spanprof.program_text import CALLED_FROM, where
+from spanprof.remarks import Remark, read_remark, occurrences
 
 NANOSECONDS = {"ns": 1, "us": 1000, "ms": 1000000}
 DIVISION = ("outside regions", "in other regions", "in serial code", "in loops", "in parts without tasks", "in tasks")
@@ -179,7 +179,7 @@ def read_divided(head, told):
     if words(told["what"]) == "code":
         head.beside, head.parts = number(told["beside"]), number(told.get("parts", 0))
     else:
-        head.divided.append("%s, %s" % (told["what"], seen(told)))
+        head.divided.append("%s, %s" % (told["what"], occurrences(told)))
 
 
 def read_chunks(head, told):

@@ -4,8 +4,8 @@ from array import array
 from itertools import chain, compress
 from typing import NamedTuple
 
-from spanprof.text import (BARRIER, BEGINNING, BLOCKS, DIVIDER, HEADER, OF_A_THREAD, Segment, Statement, construct,
-                           words_of)
+from spanprof.program_text import (BARRIER, BEGINNING, BLOCKS, DIVIDER, HEADER, OF_A_THREAD, Segment, Statement,
+                                   construct, words_of)
 from spanprof.text_file import TextFile, read_once
 
 CREATING = "creating a task"

@@ -68,7 +68,7 @@ def effect_of(work, span):
     return ", ".join("%s %s" % (number, DIRECTIONS[moved]) for number, moved in numbers if moved)
 
 
-def seen(told):
+def occurrences(told):
     """`3 times at file.c:10`."""
     times = "%d time%s" % (told["times"], "s" * (told["times"] != 1))
     return times + (" at " + told["at"] if "at" in told else ", first at " + told["first"] if "first" in told else "")
@@ -81,7 +81,7 @@ def remark_of(told):
     if not {work, span} <= {"", *DIRECTIONS}:
         raise ValueError("no direction")
     effect = ", ".join(filter(None, (effect_of(work, span), told.get("more", more))))
-    out = Remark(told.get("words", what) + (", " + seen(told) if "times" in told else "")
+    out = Remark(told.get("words", what) + (", " + occurrences(told) if "times" in told else "")
                  + (": " + effect if effect else ""))
     out.name, out.work, out.span = told["remark"], work, span
     return out

@@ -7,8 +7,8 @@ from typing import NamedTuple
 
 from spanprof.errors import Fault
 from spanprof.marks import CREATING, Marks, after_words, marks_of_file
+from spanprof.program_text import BARRIER, OF_A_THREAD, Segment, named, where
 from spanprof.segment_file import file_beside, read_into
-from spanprof.text import BARRIER, OF_A_THREAD, Segment, named, where
 from spanprof.text_file import read_once
 
 OF_REGIONS = (OF_A_THREAD, BARRIER)

@@ -6,7 +6,7 @@ import re
 from collections import Counter
 from typing import NamedTuple, Optional
 
-from spanprof.text import CALLED_FROM
+from spanprof.program_text import CALLED_FROM
 
 WHERE = re.compile(r"([^\s:/]+):(\d+)(?:,.*)?$")
 STRING = re.compile(r'"(?:\\.|[^"\\])*"|\'(?:\\.|[^\'\\])*\'|//.*|/\*.*?\*/')

@@ -7,7 +7,7 @@ from functools import lru_cache, wraps
 from itertools import chain, islice
 
 from spanprof.command import naming
-from spanprof.text import DIVIDER, has_loops
+from spanprof.program_text import DIVIDER, has_loops
 
 PIECE = 1 << 20         # bytes that are read at a time
 LINES_OF_A_HEAD = 1000

@@ -8,7 +8,7 @@ import unittest
 TOOLS = os.path.dirname(os.path.dirname(os.path.abspath(__file__)))
 TEXT = "omptasks 1\nwork 1\n"
 CASES = {  # by tool, words and the status with which they end it; {text} and {log} are there, {none} is not
-    "record": (("--nothing", 125), ("{none}", 127), ("{text}", 126)),
+    "record": (("--nothing", 2), ("/bin/true", 125), ("{none}", 127), ("{text}", 126)),
     "convert": (("--nothing", 2), ("{none}", 1), ("{text}", 1), ("--out {none}/x {log}", 1)),
     "report": (("--nothing", 2), ("{none}", 1), ("{log}", 1), ("{text} -o {text}", 1), ("{text} -o x --trace x", 2)),
     "predict": (("--nothing", 2), ("{none}", 1), ("{log}", 1)),

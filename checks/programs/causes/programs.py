@@ -6,7 +6,7 @@ from typing import NamedTuple, Tuple
 
 KINDS = ("serial", "too_few_tasks", "imbalance", "dependence", "wait", "small_tasks", "creation", "small_regions",
          "small_chunks", "undeferred", "loop_schedule", "lock", "exclusion", "memory", "allocation", "system", "sleep",
-         "too_few_threads", "too_many_threads", "machine", "efficient")
+         "too_few_threads", "too_many_threads", "affinity", "machine", "efficient")
 MARK = re.compile(r"// <- cause$")
 WITHOUT_A_PLACE = ("machine", "efficient")
 FIXED = ".fixed"

@@ -25,7 +25,7 @@ from timing import Times
 PATIENCE = 60       # seconds for the changes that are tried, so that a busy machine leaves none out
 HERE = os.path.dirname(os.path.abspath(__file__))
 sys.path.insert(0, os.path.join(os.path.dirname(os.path.dirname(os.path.dirname(HERE))), "tools"))
-from spanprof.diagnosis.tell import told_of         # noqa: E402
+from spanprof.diagnosis.output import output_of         # noqa: E402
 from spanprof.recording import open_recording       # noqa: E402
 
 
@@ -49,7 +49,7 @@ def measured(folder, name):
 
 def told_again(path, program):
     """What the diagnosis says of a recording of the program."""
-    return told_of(open_recording(path), [os.path.dirname(program.source)], PATIENCE)
+    return output_of(open_recording(path), [os.path.dirname(program.source)], PATIENCE)
 
 
 def judge(program, folder):

@@ -22,6 +22,7 @@ def options_of(words=None):
     add("family", choices=FAMILIES, help="gomp: gcc's runtime; kmp: LLVM's")
     add("folder", type=pathlib.Path, help="where the libraries go")
     add("names", nargs="*", help="these mutants alone")
+    add("--patches", type=pathlib.Path, help="other mutants, such as those of operators.py")
     add("--archive", default="", help="the source archive (the newest in /usr/src)")
     add("--jobs", type=int, default=2, help="how many are built side by side (2)")
     add("--flags", default="", help="more flags for the compiler, such as --coverage")
@@ -60,7 +61,7 @@ def built(options, mutants, trees):
 def main():
     options = options_of()
     try:
-        mutants = mutants_of(options.family, options.names)
+        mutants = mutants_of(options.family, options.names, options.patches)
         options.folder.mkdir(parents=True, exist_ok=True)
         options.folder = options.folder.resolve()
         with tempfile.TemporaryDirectory(prefix="mutants-") as folder:

@@ -34,9 +34,9 @@ def read_mutant(path):
     return Mutant(path.stem, *(fields[field] for field in FIELDS), path)
 
 
-def mutants_of(family, names=()):
-    """The mutants of a runtime, or those of these names, by rule and name."""
-    found = {path.stem: read_mutant(path) for path in (FOLDER / family).glob("*.patch")}
+def mutants_of(family, names=(), folder=None):
+    """The mutants of a runtime, or those of a folder, or of these names, by rule and name."""
+    found = {path.stem: read_mutant(path) for path in (folder or FOLDER / family).glob("*.patch")}
     unknown = sorted(set(names) - set(found))
     if unknown:
         raise NoMutant(f"no mutant {', '.join(unknown)} of {family}")

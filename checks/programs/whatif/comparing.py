@@ -2,7 +2,7 @@
 from itertools import zip_longest
 from typing import NamedTuple
 
-from spanprof.text import Statement
+from spanprof.program_text import Statement
 
 TOLERANCE = 0.05
 

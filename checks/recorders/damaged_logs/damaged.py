@@ -49,7 +49,7 @@ def convert(converter, log, way):
     except ValueError as wrong:
         raise Wrong("what it tells is no JSON: %s" % done.stdout[-300:]) from wrong
     if done.returncode not in (0, 1) or done.stderr or \
-            (done.returncode == 1) != any(one["told"] == "fault" for one in told):
+            (done.returncode == 1) != any(one["message"] == "fault" for one in told):
         raise Wrong("status %d of %s, and no fault: %s" % (done.returncode, way, done.stderr.decode(errors="replace")))
     return told
 
@@ -58,7 +58,7 @@ def judge(folder, told):
     """Raises where spanprof refuses a text."""
     for one in told:
         try:
-            if one["told"] == "text" and ".large." not in one["file"]:
+            if one["message"] == "text" and ".large." not in one["file"]:
                 client.read(os.path.join(folder, one["file"]))
         except Fault as fault:
             raise Wrong(str(fault)) from fault
@@ -69,7 +69,7 @@ def try_log(converter, log, folder):
     refused = 0
     for way in WAYS:
         told = convert(converter, log, way)
-        refused += any(one["told"] == "fault" for one in told)
+        refused += any(one["message"] == "fault" for one in told)
         judge(folder, told)
     return refused
 

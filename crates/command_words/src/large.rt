@@ -72,6 +72,8 @@ pub enum DocumentRequest {
     Check,
     /// The work and the span after the changes of costs that a list names, and the span before them.
     WhatIf,
+    /// The sums of each place, by the places of its segments.
+    Places,
 }
 
 /// What is asked of the times of a run.
@@ -179,6 +181,7 @@ fn large_request_named(
         )?))),
         "replay" => Ok(LargeRequest::OfDocument(DocumentRequest::Replay)),
         "check" => Ok(LargeRequest::OfDocument(DocumentRequest::Check)),
+        "places" => Ok(LargeRequest::OfDocument(DocumentRequest::Places)),
         _ => Err(WordsFault::WrongWords),
     }
 }

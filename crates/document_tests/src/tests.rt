@@ -2,6 +2,7 @@
 mod checks;
 mod lists;
 mod long;
+mod places;
 mod replays;
 mod rows;
 

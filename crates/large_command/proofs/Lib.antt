@@ -1,5 +1,4 @@
 mod Bounds
-mod GraphRows
 mod Lengths
 mod Lines
 mod OfDocuments

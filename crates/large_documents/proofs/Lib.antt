@@ -9,3 +9,9 @@ mod SomeFault
 mod ListSteps
 mod ListWords
 mod OneList
+mod PlaceCounts
+mod PlaceGrowth
+mod PlaceWords
+mod PlaceRows
+mod PlaceParts
+mod OnePlaces

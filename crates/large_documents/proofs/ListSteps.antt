@@ -1,6 +1,6 @@
 -- What is known of a list of changes that is read line by line.
 use Rattle.std.proofs.Common.{◌≡◌, ◌+◌, ◌<◌, ◌≤◌, ◌++◌, ◌∙◌, ℕ, List, [], ◌∷◌, length, Option, Some, None}
-use Rattle.std.proofs.Common.{◌-◌, ap, sym, refl, arith, drop, get_or, append_assoc, set, sum}
+use Rattle.std.proofs.Common.{ap, sym, refl, arith, drop, get_or, append_assoc, set, sum}
 use Rattle.std.specs.Prelude.{option_map}
 use Rattle.std.proofs.lemmas.List.{append-nil, drop_all, drop_more}
 use Rattle.std.proofs.lemmas.List.Sums.{get_or-le-sum_by, sum_by-set}

@@ -1,6 +1,6 @@
 -- Which times there are, and what is told of them.
 use Rattle.std.proofs.Common.{◌≡◌, ◌⊎◌, ◌-◌, ◌<◌, ℕ, zero, suc, List, length, arith, ap, sym, refl}
-use Rattle.std.proofs.Common.{subst, inl, map, ◌∙◌}
+use Rattle.std.proofs.Common.{◌∙◌}
 use Rattle.std.proofs.lemmas.List.{get_or_default, length-map}
 use Rattle.dispatch_core.specs.Graph.{IsGraphOf}
 use Rattle.dispatch_core.specs.RecordedGraph.{IsGraph, RecordedGraph}

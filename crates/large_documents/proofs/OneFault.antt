@@ -1,9 +1,9 @@
 -- Times have one fault, and those of a legal run within the limits have none.
-use Rattle.std.proofs.Common.{◌≡◌, ◌≢◌, ◌+◌, ◌<◌, ◌≤◌, ◌∙◌, ℕ, zero, suc, ap, sym, refl, subst, arith}
+use Rattle.std.proofs.Common.{◌≡◌, ◌≢◌, ◌<◌, ◌∙◌, ℕ, zero, suc, ap, sym, refl, subst, arith}
 use Rattle.std.proofs.Common.{inl, inr}
 use Rattle.std.proofs.lemmas.Bool.{cases_eq, cases_lt}
 use Rattle.task_segments.specs.Schedule.{at}
-use Rattle.time_accounts.specs.Faults.{AreMoments, BeginsBefore, HasEach, IsCounted, IsFirstOverlap}
+use Rattle.time_accounts.specs.Faults.{AreMoments, HasEach, IsCounted, IsFirstOverlap}
 use Rattle.time_accounts.specs.Faults.{IsFirstTooSoon, IsInRange, IsOverlap, IsRanged, IsThreadCount}
 use Rattle.time_accounts.specs.Faults.{IsTimesFault, IsUpTo}
 use Rattle.time_accounts.specs.TimedRun.{AreInOrder, IsTimedRun, TimedRun}

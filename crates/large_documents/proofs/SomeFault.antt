@@ -1,5 +1,5 @@
 -- Times of each segment are those of a legal run within the limits, or have a fault.
-use Rattle.std.proofs.Common.{◌≡◌, ◌≢◌, ◌+◌, ◌<◌, ◌≤◌, ◌⊎◌, ◌∙◌, ℕ, List, length, ap, sym, refl, subst}
+use Rattle.std.proofs.Common.{◌≡◌, ◌≢◌, ◌+◌, ◌<◌, ◌≤◌, ◌⊎◌, ◌∙◌, ℕ, List, length, sym, refl}
 use Rattle.std.proofs.Common.{arith, inl, inr, get_or}
 use Rattle.std.proofs.lemmas.Bool.{cases_eq, cases_lt}
 use Rattle.std.specs.List.{Contains}
@@ -11,12 +11,12 @@ use Rattle.greedy_sim.specs.declared.greedy.TheConstants.{MOST_THREADS}
 use Rattle.program_text.specs.declared.limits.TheConstants.{MOST_WORK}
 use Rattle.task_segments.specs.Schedule.{at}
 use Rattle.time_accounts.proofs.Checked.{timed_run}
-use Rattle.time_accounts.specs.Faults.{AreMoments, BeginsBefore, HasEach, IsCounted, IsFirstOverlap}
-use Rattle.time_accounts.specs.Faults.{IsFirstTooSoon, IsInRange, IsOverlap, IsRanged, IsThreadCount}
+use Rattle.time_accounts.specs.Faults.{AreMoments, BeginsBefore, HasEach, IsCounted}
+use Rattle.time_accounts.specs.Faults.{IsInRange, IsOverlap, IsRanged, IsThreadCount}
 use Rattle.time_accounts.specs.Faults.{IsTimesFault, IsUpTo}
 use Rattle.time_accounts.specs.TimedRun.{AreApart, AreInOrder, IsTimedRun, Runs, TimedRun}
 use Rattle.time_accounts.specs.declared.fault.TimesFault.{TimesFault}
-use Rattle.time_accounts.specs.declared.fault.TimesFault.TheVariants.{ThreadCount, Moments, Count}
+use Rattle.time_accounts.specs.declared.fault.TimesFault.TheVariants.{ThreadCount, Moments}
 use Rattle.time_accounts.specs.declared.fault.TimesFault.TheVariants.{NoThread, EndsEarly, OutOfTime}
 use Rattle.time_accounts.specs.declared.fault.TimesFault.TheVariants.{TooSoon, NotApart, OutOfMemory}
 

@@ -4,6 +4,10 @@ pub mod AccountReports
 pub mod ChangeLists
 pub mod Listing
 pub mod ListReports
+pub mod Places
+pub mod PlaceSteps
+pub mod PlaceReports
+pub mod PlaceLaws
 pub mod RestReports
 pub mod OneRest
 pub mod TimesOfEach

@@ -1,10 +1,7 @@
 -- The times of a run, as they stand in a document behind its program.
-use Rattle.std.specs.Prelude.{ℕ, ◌≡◌, ◌+◌, List, map, count_by}
-use Rattle.program_text.specs.Document.{lines_of, program_part}
+use Rattle.std.specs.Prelude.{ℕ, ◌+◌, List, map, count_by}
 use Rattle.program_text.specs.Tokens.{is_line_feed}
 use Rattle.time_accounts.specs.TimedRun.{TimedRun}
-use Rattle.time_text.specs.TimesTexts.{TellsTimes}
-use Rattle.time_text.specs.declared.line.RegionTimes.{RegionTimes}
 use Rattle.time_text.specs.declared.line.SegmentTimes.{SegmentTimes}
 
 -- the times of the segments, by number

@@ -1,9 +1,13 @@
 //! Laws of the definitions.
-ghost use Rattle.std.specs.Prelude.{ℕ, ◌≡◌, List};
+ghost use Rattle.std.specs.Prelude.{ℕ, ◌≡◌, ◌<◌, Contains, List, Some, length};
 ghost use Rattle.command_words.specs.declared.large.DocumentRequest.{DocumentRequest};
+ghost use Rattle.dispatch_core.specs.RecordedGraph.{IsGraph, RecordedGraph};
 ghost use Rattle.program_text.specs.Marks.{Mark};
+ghost use Rattle.span_analysis.specs.Findings.{Findings, IsAnalysis};
 ghost use Rattle.task_segments.specs.MarksTable.{IsReading};
 ghost use Rattle.large_documents.specs.OneRest.{HasOneReport, HasReport};
+ghost use Rattle.large_documents.specs.PlaceLaws.{AddUp, HasPlace, IsLeast};
+ghost use Rattle.large_documents.specs.Places.{least_of, segments_at};
 ghost use Rattle.large_documents.specs.declared.rest.TheConstants.{MOST_LARGE_EVENTS};
 
 /// The limit of a log of any size is this number.
@@ -17,4 +21,20 @@ pub fn one_report()
         → IsReading marks → HasOneReport asked program rest marks }
     ensures some { (asked : DocumentRequest) (program rest : List ℕ) (marks : List Mark)
         → IsReading marks → HasReport asked program rest marks }
+{}
+
+/// The sums of all places are those of the whole.
+pub fn places_add_up()
+    ensures { (graph : RecordedGraph) (found : Findings) (places : List ℕ) → IsGraph graph
+        → IsAnalysis graph found → length places ≡ length graph.costs
+        → AddUp graph.costs found places }
+{}
+
+/// Each segment counts at one place, and the slack that is told of a place is the least one.
+pub fn one_place()
+    ensures some { (places : List ℕ) (s : ℕ) → s < length places → HasPlace places s }
+    ensures one { (places : List ℕ) (p q s : ℕ) → Contains (segments_at places p) s
+        → Contains (segments_at places q) s → p ≡ q }
+    ensures least { (numbers : List ℕ) (least : ℕ) → least_of numbers ≡ Some least
+        → IsLeast numbers least }
 {}

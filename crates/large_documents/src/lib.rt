@@ -5,6 +5,7 @@ mod accounts;
 mod change_list;
 pub mod laws;
 mod listed;
+mod places;
 mod rest;
 mod run_tables;
 mod time_refusals;

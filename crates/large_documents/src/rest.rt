@@ -4,6 +4,7 @@ ghost use Rattle.large_documents.specs.RestReports.{SaysOfRest};
 
 use crate::accounts::tell_account;
 use crate::listed::tell_listed;
+use crate::places::tell_places;
 use command_words::large::DocumentRequest;
 use spanprof_command::{Report, tell_claim, tell_replay};
 use std::alloc::Global;
@@ -33,5 +34,6 @@ pub fn tell_rest(
         DocumentRequest::Replay => tell_replay(alloc, MOST_LARGE_EVENTS, Some(rest), table),
         DocumentRequest::Check => tell_claim(alloc, &table, rest),
         DocumentRequest::WhatIf => tell_listed(alloc, table, program, rest),
+        DocumentRequest::Places => tell_places(alloc, table, rest),
     }
 }

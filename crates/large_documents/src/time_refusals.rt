@@ -48,7 +48,8 @@ pub(crate) fn times_refused(alloc: Global, fault: TimesFault) -> Result<Report, 
     }
 }
 
-fn refused_as(alloc: Global, word: &str) -> Result<Report, AllocFault>
+/// What is wrong, in a word.
+pub(crate) fn refused_as(alloc: Global, word: &str) -> Result<Report, AllocFault>
     ensures { IfOk result (λ report. report ≡ refused_as word.now) }
 {
     let text = format!(in alloc; "error: {word}\n")?;

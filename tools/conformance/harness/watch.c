@@ -3,6 +3,7 @@
 #include "interrupts.h"
 #include <dirent.h>
 #include <pthread.h>
+#include <stdint.h>
 #include <stdio.h>
 #include <stdlib.h>
 #include <string.h>
@@ -10,7 +11,9 @@
 #include <unistd.h>
 
 enum { LONGEST = 10 };    /* times as long as nothing may happen */
+enum { PARTS = 10 };      /* of a second: all count where threads sleep or run, one where others have the processors */
 static const unsigned long long MOST_MEMORY = 2ull << 30;
+static const int64_t HALF_A_SECOND = 500000000;
 enum { LOOKS = 3, SOONER = 3 }; /* that all threads sleep through, in one of so many parts of the time, are enough */
 
 void next_run(struct watch *watch) {
@@ -46,6 +49,13 @@ static bool all_sleep(void) {
     return all;
 }
 
+/* In nanoseconds, of all threads. */
+static int64_t processor_time(void) {
+    struct timespec time = {0};
+    clock_gettime(CLOCK_PROCESS_CPUTIME_ID, &time);
+    return time.tv_sec * INT64_C(1000000000) + time.tv_nsec;
+}
+
 /* In bytes, as the kernel counts it; 0 where it does not tell. */
 static unsigned long long memory(void) {
     unsigned long long all, resident = 0;
@@ -65,8 +75,11 @@ static void *watching(void *handed) {
     struct watch *watch = handed;
     unsigned run = 0, happened = 0, quiet = 0, age = 0;
     bool asleep = true;
+    int64_t took = 0;
     for (;; age++) {
         nanosleep(&(struct timespec){1, 0}, NULL);
+        int64_t took_before = took;
+        took = processor_time();
         unsigned run_now = atomic_load(&watch->run), happened_now = sum_of_counts(watch->counts);
         bool at_work = atomic_load(&watch->at_work);
         if (run_now != run || !at_work) age = 0;
@@ -80,10 +93,11 @@ static void *watching(void *handed) {
             continue;
         }
         rest_from_interrupts(true);
-        asleep = all_sleep() && asleep;
-        quiet++;
-        bool surely = asleep && quiet >= LOOKS && quiet * SOONER >= watch->seconds;
-        if (surely || quiet >= watch->seconds || age >= LONGEST * watch->seconds) watch->hangs(asleep);
+        bool all = all_sleep();
+        asleep = all && asleep;
+        quiet += all || took - took_before >= HALF_A_SECOND ? PARTS : 1;
+        bool surely = asleep && quiet >= LOOKS * PARTS && quiet * SOONER >= watch->seconds * PARTS;
+        if (surely || quiet >= watch->seconds * PARTS || age >= LONGEST * watch->seconds) watch->hangs(asleep);
     }
     return NULL;
 }

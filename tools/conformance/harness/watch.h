@@ -1,5 +1,5 @@
-/* Sees that runs end. A run hangs where no segment begins or ends for so many seconds, or for a third of them while all
- * threads sleep, or where it goes on for ten times as long as that. It runs away where one begins again and again, or
+/* Sees that runs end. A run hangs where no segment begins or ends for so many seconds in which threads run, or for a
+ * third of them while all threads sleep, or where it goes on for ten times as long as that. It runs away where one begins again and again, or
  * where the process takes more than two gigabytes of memory. */
 #ifndef WATCH_H
 #define WATCH_H

@@ -1,5 +1,5 @@
 // A sibling fulfils the event of a detached task; taskwait waits until then.
-// openmp: 12.5.2 detach clause, 18.11 event routine
+// openmp: 12.5.2 detach clause, 18.11.1 omp_fulfill_event
 #include "expect.h"
 
 int main(void) {

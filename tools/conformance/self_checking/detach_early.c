@@ -1,5 +1,5 @@
 // The event of a detached task is fulfilled before the task begins, and in the task itself: it ends with its code.
-// openmp: 12.5.2 detach clause, 18.11 event routine
+// openmp: 12.5.2 detach clause, 18.11.1 omp_fulfill_event
 #include "expect.h"
 
 static long ended;

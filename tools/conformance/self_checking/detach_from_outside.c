@@ -1,5 +1,5 @@
 // A thread outside of the team fulfils the event of a detached task, behind which a dependent task goes on.
-// openmp: 12.5.2 detach clause, 18.11 event routine
+// openmp: 12.5.2 detach clause, 18.11.1 omp_fulfill_event
 #include <pthread.h>
 
 #include "expect.h"

@@ -1,5 +1,5 @@
 // A thread outside of the team fulfils the event of a detached task while the team waits for it at the region's end.
-// openmp: 12.5.2 detach clause, 18.11 event routine, 15.3.2 implicit barriers
+// openmp: 12.5.2 detach clause, 18.11.1 omp_fulfill_event, 15.3.2 implicit barriers
 #include <pthread.h>
 
 #include "expect.h"

@@ -1,5 +1,5 @@
 // An undeferred task with detach has run before its creator goes on; tasks that depend on it wait for its event.
-// openmp: 12.5.2 detach clause, 12.5 task construct (if clause), 18.11 event routine
+// openmp: 12.5.2 detach clause, 12.5 task construct (if clause), 18.11.1 omp_fulfill_event
 #include <pthread.h>
 
 #include "expect.h"

@@ -1,5 +1,5 @@
 // omp_in_final says whether a task is final or below a final one; its children are included and run at once.
-// openmp: 18.5.1 omp_in_final, 12.3 final clause
+// openmp: 18.5.3 omp_in_final, 12.3 final clause
 #include "expect.h"
 
 static void child_of(int is_final) {

@@ -1,5 +1,5 @@
 // The greatest priority is that of the environment, and tasks of any priority run once.
-// openmp: 18.5.2 omp_get_max_task_priority, 12.4 priority clause
+// openmp: 18.5.1 omp_get_max_task_priority, 12.4 priority clause
 // env: OMP_MAX_TASK_PRIORITY=7
 #include "expect.h"
 

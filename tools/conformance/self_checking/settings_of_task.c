@@ -1,5 +1,5 @@
 // What a task sets for itself (threads of its regions, schedule) its creator and its siblings do not see; children do.
-// openmp: 2.2 internal control variables, 2.3.2 how they relate to tasks
+// openmp: 2.4 how the per-data environment ICVs work
 #include "expect.h"
 
 static void look_from_child(int threads) {

@@ -1,5 +1,5 @@
 // A tied task stays on its thread, and so with its threadprivate variables, across waits and creations.
-// openmp: 12.9 task scheduling, 5.2 threadprivate directive
+// openmp: 12.10 task scheduling, 5.2 threadprivate directive
 #include "expect.h"
 
 static int mine;

@@ -6,7 +6,7 @@
 
 namespace {
 constexpr uint64_t most_placed = 65536;
-constexpr unsigned most_told = 3;  // callers
+constexpr unsigned most_named = 3;  // callers
 
 const void *marked(uint64_t number) { return reinterpret_cast<const void *>(log_form::place_of_path(number)); }
 
@@ -94,19 +94,19 @@ const void *CallPaths::place(uint64_t path, const void *maker) {
 }
 
 // Those of one place have the first frames outwards in their names in which they differ.
-void CallPaths::name(const std::vector<uint64_t> &alike, size_t frame, const std::string &words, unsigned told,
+void CallPaths::name(const std::vector<uint64_t> &alike, size_t frame, const std::string &words, unsigned named,
                      Places &places) const {
   std::map<uint32_t, std::vector<uint64_t>> by_caller;
   std::vector<uint64_t> ended;
   for (uint64_t one : alike) {
     const Numbers &path = placed[one].frames;
-    if (told == most_told || path.size() <= frame) ended.push_back(one);
+    if (named == most_named || path.size() <= frame) ended.push_back(one);
     else by_caller[path[frame]].push_back(one);
   }
   for (uint64_t one : ended) places.put(marked(one), words);
   bool differ = by_caller.size() + !ended.empty() > 1;
   for (auto &[caller, those] : by_caller)
-    name(those, frame + 1, differ ? words + words_of(frames[caller]) : words, told + differ, places);
+    name(those, frame + 1, differ ? words + words_of(frames[caller]) : words, named + differ, places);
 }
 
 void CallPaths::name_in(Places &places) const {

@@ -47,6 +47,6 @@ class CallPaths {
   void add_own(const Calls &calls, const Places &places);
   Numbers whole(const Own &path, const Placed *maker);
   uint64_t put(const void *creating, Numbers path);
-  void name(const std::vector<uint64_t> &alike, size_t frame, const std::string &name, unsigned told,
+  void name(const std::vector<uint64_t> &alike, size_t frame, const std::string &name, unsigned named,
             Places &places) const;
 };

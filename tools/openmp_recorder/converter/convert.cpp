@@ -12,8 +12,8 @@
 
 #include "log_reader.hpp"
 #include "options.hpp"
-#include "report.hpp"
-#include "tell.hpp"
+#include "outputs.hpp"
+#include "message.hpp"
 
 namespace {
 using log_form::Head;
@@ -59,9 +59,9 @@ const char *word_of(Stopped why) {
 // Where the log ends, if that is not where the program did.
 void tell_ending(const LogFolder &log, const Ending &ending) {
   int64_t recorded = std::max<int64_t>(0, ending.last - log.head.first.wall);
-  if (ending.full) Line("stopped").put("why", word_of(log.head.stopped)).put("recorded", recorded);
-  else if (log.is_running()) Line("running").put("recorded", recorded);
-  else if (ending.killed) Line("killed").put("recorded", recorded).put("inside", ending.wall != 0);
+  if (ending.full) Message("stopped").put("why", word_of(log.head.stopped)).put("recorded", recorded);
+  else if (log.is_running()) Message("running").put("recorded", recorded);
+  else if (ending.killed) Message("killed").put("recorded", recorded).put("inside", ending.wall != 0);
 }
 
 std::vector<Records *> threads_of(const LogFolder &log) {
@@ -117,7 +117,7 @@ void convert(const std::string &folder, const std::string &out) {
 int main(int count, char **words) {
   signal(SIGXFSZ, SIG_IGN);  // then writing fails, and that is told
   if (count != 3) {
-    Line("fault").put("what", "convert_log LOG OUT");
+    Message("fault").put("what", "convert_log LOG OUT");
     return 1;
   }
   std::string folder = words[1];
@@ -125,10 +125,10 @@ int main(int count, char **words) {
   try {
     convert(folder, words[2]);
   } catch (const std::bad_alloc &) {
-    Line("fault").put("log", folder).put("what", "out of memory, and what is not written yet is not written");
+    Message("fault").put("log", folder).put("what", "out of memory, and what is not written yet is not written");
     return 1;
   } catch (const std::exception &wrong) {
-    Line("fault").put("log", folder).put("what", wrong.what());
+    Message("fault").put("log", folder).put("what", wrong.what());
     return 1;
   }
   fflush(stdout);

@@ -7,7 +7,7 @@
 #include <cstring>
 #include <stdexcept>
 
-#include "tell.hpp"
+#include "message.hpp"
 
 namespace {
 constexpr std::size_t buffered = 1 << 18;
@@ -39,12 +39,12 @@ bool write_file(const std::string &name,
 }
 
 NamelessFile::NamelessFile(const std::string &beside) : buffer(buffered), file(nameless_file(beside)) {
-  if (!file) give_up("cannot be written beside the texts");
+  if (!file) give_up("cannot be written next to the texts");
   setvbuf(file.get(), buffer.data(), _IOFBF, buffer.size());
 }
 
 void NamelessFile::write(const void *bytes, std::size_t count) {
-  if (fwrite_unlocked(bytes, 1, count, file.get()) != count) give_up("cannot be written beside the texts");
+  if (fwrite_unlocked(bytes, 1, count, file.get()) != count) give_up("cannot be written next to the texts");
 }
 
 void NamelessFile::read(void *bytes, std::size_t count) {
@@ -56,7 +56,7 @@ void NamelessFile::skip(std::size_t count) {
 }
 
 void NamelessFile::begin_again() {
-  if (fseek(file.get(), 0, SEEK_SET)) give_up("cannot be written beside the texts");
+  if (fseek(file.get(), 0, SEEK_SET)) give_up("cannot be written next to the texts");
 }
 
 NewFile::NewFile(const std::string &called) : name(called), file(fopen(unfinished(name).c_str(), "w")), good(file) {}
@@ -70,6 +70,6 @@ bool NewFile::end() {
   if (good && !rename(unfinished(name).c_str(), name.c_str())) return true;
   int why = errno;
   if (file) remove(unfinished(name).c_str()), remove(name.c_str());
-  Line("unwritten").put("file", name).put("why", std::string(std::strerror(why)));
+  Message("unwritten").put("file", name).put("why", std::string(std::strerror(why)));
   return false;
 }

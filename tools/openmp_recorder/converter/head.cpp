@@ -10,7 +10,7 @@
 #include "json.hpp"
 #include "lock_table.hpp"
 #include "stretches.hpp"
-#include "text.hpp"
+#include "program_text.hpp"
 
 namespace {
 constexpr size_t most_locks = 10;
@@ -38,14 +38,14 @@ class Head {
   const Options &options;
   const Places &places;
   int64_t in_units(int64_t nanoseconds) { return (nanoseconds + options.unit / 2) / options.unit; }
-  void line(const char *name, const Object &told) { words += std::string("# ") + name + ": " + told.end() + "\n"; }
+  void line(const char *name, const Object &fields) { words += std::string("# ") + name + ": " + fields.end() + "\n"; }
   void line(const char *name, int64_t number) {
     words += std::string("# ") + name + ": " + std::to_string(number) + "\n";
   }
   void whole(const WholeProgram &program);
   void covers(int64_t text, int64_t all, bool is_whole);
   void differing(const char *name, const Differing &seen, int64_t work);
-  void lock(Object &told, const LockUse &use);
+  void lock(Object &fields, const LockUse &use);
 };
 
 const char *clock_name() {
@@ -61,28 +61,28 @@ void Head::first_lines(const Region &region, const Recording &recording) {
                        .put("clock", clock_name())
                        .put("unit", options.unit_name));
   if (recording.whole) return whole(*recording.whole);
-  Object told;
+  Object fields;
   std::string at = places.at(region.code);
-  if (!at.empty()) told.put("at", at);
-  line("region", told.put("number", region.place).put("of", recording.regions));
+  if (!at.empty()) fields.put("at", at);
+  line("region", fields.put("number", region.place).put("of", recording.regions));
 }
 
 // How loops are written, which on other threads would be cut otherwise.
 void Head::whole(const WholeProgram &program) {
-  Object told;
-  told.put("regions", program.regions);
-  if (program.pieces) told.put("loops", program.loops);
-  if (program.pieces && program.sections) told.put("sections", program.sections);
-  if (program.pieces) told.put("pieces", program.pieces);
-  if (program.pieces && program.least_piece < INT64_MAX) told.put("together below", program.least_piece);
-  line("whole program", told);
+  Object fields;
+  fields.put("regions", program.regions);
+  if (program.pieces) fields.put("loops", program.loops);
+  if (program.pieces && program.sections) fields.put("sections", program.sections);
+  if (program.pieces) fields.put("pieces", program.pieces);
+  if (program.pieces && program.least_piece < INT64_MAX) fields.put("together below", program.least_piece);
+  line("whole program", fields);
 }
 
 void Head::covers(int64_t text, int64_t all, bool is_whole) {
-  Object told;
-  told.put("text", text).put("program", all);
-  if (!is_whole) told.put("at most", true);
-  line("covers", told);
+  Object fields;
+  fields.put("text", text).put("program", all);
+  if (!is_whole) fields.put("at most", true);
+  line("covers", fields);
 }
 
 // How much of the program's thread-time in code the text has, and where the rest was.
@@ -118,8 +118,8 @@ void Head::divided(const Region &region) {
   if (region.threads == 1) return;
   auto begin = [&](const char *what) { return Object().put("what", what).put("threads", region.threads); };
   for (auto &[what, met] : region.divided) {
-    Object told = begin(what == Divided::Loops ? "loops" : "sections");
-    line("divided", put_seen(told, met, places));
+    Object fields = begin(what == Divided::Loops ? "loops" : "sections");
+    line("divided", put_occurrences(fields, met, places));
   }
   Beside beside = beside_each_other(region.parts);
   if (region.before) beside.add(region.before->beside);
@@ -153,10 +153,10 @@ void Head::preempted(const Region &region) {
   if (found.empty()) return;
   std::sort(found.rbegin(), found.rend());
   if (found.size() > most_preempted) found.resize(most_preempted);
-  std::string told;
+  std::string fields;
   for (auto [off, segment] : found)
-    told += (told.empty() ? "[" : ", [") + std::to_string(segment) + ", " + std::to_string(off) + "]";
-  words += "# preempted: [" + told + "]\n";
+    fields += (fields.empty() ? "[" : ", [") + std::to_string(segment) + ", " + std::to_string(off) + "]";
+  words += "# preempted: [" + fields + "]\n";
 }
 
 void Head::times(const Region &region, const Recording &recording) {
@@ -174,9 +174,9 @@ void Head::times(const Region &region, const Recording &recording) {
   line("in tasks", in_units(region.in_tasks));
 }
 
-void Head::lock(Object &told, const LockUse &use) {
-  told.put("times", use.times).put("inside", in_units(use.inside)).put("waiting", in_units(use.waiting));
-  line("lock", told);
+void Head::lock(Object &fields, const LockUse &use) {
+  fields.put("times", use.times).put("inside", in_units(use.inside)).put("waiting", in_units(use.waiting));
+  line("lock", fields);
 }
 
 void Head::locks(const Region &region) {
@@ -192,14 +192,14 @@ void Head::locks(const Region &region) {
       others.add(uses[i]);
       continue;
     }
-    Object told;
+    Object fields;
     std::string at = places.at(uses[i].code);
-    told.put("kind", lock_kind(uses[i].kind));
-    if (!at.empty()) told.put("at", at);
-    lock(told, uses[i]);
+    fields.put("kind", lock_kind(uses[i].kind));
+    if (!at.empty()) fields.put("at", at);
+    lock(fields, uses[i]);
   }
-  Object told;
-  if (others.times) lock(told.put("others", uses.size() - most_locks), others);
+  Object fields;
+  if (others.times) lock(fields.put("others", uses.size() - most_locks), others);
 }
 
 // A place, and the functions that it is in, from the innermost on.
@@ -210,11 +210,11 @@ std::string place_in_json(const std::string &at, const std::vector<Frame> &frame
     into.put("in", frames[i].function).put("at", frames[i].at);
     inlined += (i > 1 ? ", " : "") + into.end();
   }
-  Object told;
-  told.put("at", at).put("in", frames[0].function);
-  if (!frames[0].full.empty()) told.put("full", frames[0].full);
-  if (!inlined.empty()) told.put_bare("inlined", "[" + inlined + "]");
-  return told.end();
+  Object fields;
+  fields.put("at", at).put("in", frames[0].function);
+  if (!frames[0].full.empty()) fields.put("full", frames[0].full);
+  if (!inlined.empty()) fields.put_bare("inlined", "[" + inlined + "]");
+  return fields.end();
 }
 
 // Of each place; a place that stands in several functions has a line for each.
@@ -281,7 +281,7 @@ std::string head_of(const Region &region, const Recording &recording, const Opti
 }
 
 void remark_locks(Region &region) {
-  Seen seen;
+  Occurrences seen;
   int64_t inside = 0;
   for (auto &[name, use] : region.locks) {
     inside += use.inside;

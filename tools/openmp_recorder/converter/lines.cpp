@@ -30,7 +30,7 @@ bool is_of_gcc(const void *place, const Places &places) {
 
 // What gcc calls of the runtime in optimised code has the line of a statement before the construct, as often as not.
 void remark_lines_of_gcc(Region &region, const Constructs &all, const Places &places) {
-  Seen seen;
+  Occurrences seen;
   for (const auto *codes : {&all.tasks, &all.waits})
     for (const void *code : *codes)
       if (is_of_gcc(code, places)) seen.add(code);
@@ -53,7 +53,7 @@ void remark_lines(Region &region, const Places &places) {
   Constructs all = constructs_of(region);
   std::set<std::string> of_tasks = lines_of(all.tasks, places);
   const std::string &of_region = places.at(region.code);
-  Seen seen;
+  Occurrences seen;
   auto look_at = [&](const void *code, bool is_wait) {
     const std::string &line = places.at(code);
     bool shared = !line.empty() && (line == of_region || (is_wait && of_tasks.count(line)));

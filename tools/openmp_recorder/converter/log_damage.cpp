@@ -89,12 +89,12 @@ void RecordsLookedAt::add_up(int64_t stands_still) {
 }
 
 void RecordsLookedAt::look_at(const log_form::RawRecord &record, int64_t processor, uint64_t wide) {
-  auto told = static_cast<Told>(record.word >> log_form::code_bits & 255);
-  if (told > Told::DividedEnd) throw DamagedLog("it is of no kind");
-  if (told == Told::Items) return;  // an address is in the place of the time
-  if (told == Told::StoodStill) return add_up(static_cast<int64_t>(wide));  // told at its end, which may be later
+  auto kind = static_cast<RecordKind>(record.word >> log_form::code_bits & 255);
+  if (kind > RecordKind::DividedEnd) throw DamagedLog("it is of no kind");
+  if (kind == RecordKind::Items) return;  // an address is in the place of the time
+  if (kind == RecordKind::StoodStill) return add_up(static_cast<int64_t>(wide));  // told at its end, which may be later
   look_at_times(record.at, processor);
-  if (told == Told::LockGot) add_wait(log_form::ticks_waited(record.other));
-  if (told == Told::Passed && !is_length(static_cast<int64_t>(wide)))
+  if (kind == RecordKind::LockGot) add_wait(log_form::ticks_waited(record.other));
+  if (kind == RecordKind::Passed && !is_length(static_cast<int64_t>(wide)))
     throw DamagedLog("more processor time passed than the run has");
 }

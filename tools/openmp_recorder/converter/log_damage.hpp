@@ -6,7 +6,7 @@
 #include <string>
 
 #include "log_form.hpp"
-#include "told.hpp"
+#include "record_kind.hpp"
 
 class DamagedLog : public std::runtime_error {
  public:

@@ -92,9 +92,9 @@ std::optional<MemoryUse> memory_use(const std::string &instruction) {
   use.displacement = std::strtoull(found->c_str(), nullptr, 16);
   std::string inside = bracket < found->size() ? found->substr(bracket + 1, found->find(')') - bracket - 1) : "";
   use.of_file = inside == "%rip";
-  if (size_t told = instruction.find("# "); use.of_file) {
-    if (told == std::string::npos) return std::nullopt;
-    use.displacement = std::strtoull(instruction.c_str() + told + 2, nullptr, 16);
+  if (size_t comment = instruction.find("# "); use.of_file) {
+    if (comment == std::string::npos) return std::nullopt;
+    use.displacement = std::strtoull(instruction.c_str() + comment + 2, nullptr, 16);
   } else if (!inside.empty()) {
     std::vector<std::string> parts = operands_of(inside);
     use.base = register_of(parts[0]);
@@ -103,6 +103,7 @@ std::optional<MemoryUse> memory_use(const std::string &instruction) {
     if ((!parts[0].empty() && use.base < 0) || (parts.size() > 1 && use.index < 0)) return std::nullopt;
   }
   use.writes = found + 1 == all.end() && writes_last(name, all.size());
+  use.is_atomic = begins_with(instruction, {"lock", "xchg"});
   return use;
 }
 

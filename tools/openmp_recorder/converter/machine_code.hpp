@@ -15,6 +15,7 @@ struct MemoryUse {
   uint64_t displacement = 0;
   bool of_file = false;  // then that is an address of the file
   bool writes = false;
+  bool is_atomic = false;  // what it takes is the instruction's own too
 };
 
 // `lock addq $0x1,0x10(,%rcx,8)`: the memory that it uses, and whether its registers are still the same behind it;

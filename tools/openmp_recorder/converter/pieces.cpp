@@ -208,15 +208,15 @@ int64_t for_the_commands(const Chooser &chooser, int64_t from, int64_t span) {
 uint64_t all_turns(const Chunk &chunk) {
   const Loop &loop = *chunk.loop;
   if (chunk.makes_tasks) return 1;  // regions in it
-  if (!loop.told || loop.told >= loop.count) return chunk.turns;
-  double of_one = static_cast<double>(loop.count) / static_cast<double>(loop.told);
+  if (!loop.reported || loop.reported >= loop.count) return chunk.turns;
+  double of_one = static_cast<double>(loop.count) / static_cast<double>(loop.reported);
   return static_cast<uint64_t>(static_cast<double>(chunk.turns) * of_one + 0.5);
 }
 
-size_t let_go(const WholeProgram &whole) { return whole.before ? whole.before->chunks.back() : 0; }
+size_t released_chunks(const WholeProgram &whole) { return whole.before ? whole.before->chunks.back() : 0; }
 
 int64_t finest_span(WholeProgram &whole) {
-  put_finest_pieces(whole, let_go(whole), whole.chunk_list.size());
+  put_finest_pieces(whole, released_chunks(whole), whole.chunk_list.size());
   RootEnds ends = whole.before ? whole.before->finest : RootEnds();
   span_of(whole);
   ends.add(*whole.root);
@@ -251,7 +251,7 @@ void choose_pieces(WholeProgram &whole, int64_t unit) {
   if (!least) least = INT64_MAX;
   bool moves_span = chooser.longer(least) > span / share_that_moves_little;
   chooser.remark(least, moves_span);
-  JoinedTimes joined = write(Rows(whole.chunk_list, let_go(whole)), least, whole.has_events);
+  JoinedTimes joined = write(Rows(whole.chunk_list, released_chunks(whole)), least, whole.has_events);
   joined.apply(whole.events);
   joined.apply(whole.off);
   add_up(whole);

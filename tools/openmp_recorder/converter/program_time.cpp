@@ -40,9 +40,9 @@ ProgramTime divide_time(const std::vector<Records *> &threads, int64_t start, in
   std::sort(spans.begin(), spans.end());
   ProgramTime out;
   int64_t covered = start;
-  for (auto &[begin, over] : spans) {
-    out.in_regions += std::max<int64_t>(over - std::max(begin, covered), 0);
-    covered = std::max(covered, over);
+  for (auto &[begin, end] : spans) {
+    out.in_regions += std::max<int64_t>(end - std::max(begin, covered), 0);
+    covered = std::max(covered, end);
   }
   out.outside = std::max<int64_t>(end - start - out.in_regions, 0);
   return out;

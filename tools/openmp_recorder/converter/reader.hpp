@@ -1,5 +1,5 @@
 // Reads the records in their order and makes tasks, steps and events of them. What the runtime tells at each construct,
-// and in which order, is written down in README.md. Its functions stand in run.cpp, over.cpp, let_go.cpp, waits.cpp,
+// and in which order, is written down in README.md. Its functions stand in run.cpp, release_*.cpp, waits.cpp,
 // whole.cpp and turns.cpp.
 #pragma once
 #include <cstdint>
@@ -22,7 +22,8 @@ struct Worker {
   int64_t stood_still = 0;  // its clock, so far
   int64_t worked = 0, compared = 0;  // in code so far, and when both clocks were compared last
   const Task *outside = nullptr;  // of a whole program: its code outside of regions
-  std::map<std::pair<uint32_t, Divided>, Seen> divided;  // that it met in regions which it has not left, by number
+  std::map<std::pair<uint32_t, Divided>, Occurrences>
+      divided;  // that it met in regions which it has not left, by number
   std::vector<uint32_t> current;  // the task that runs, innermost region last
   std::vector<Task *> waits;  // tasks whose wait for dependences it is in, innermost last
   Resumed resumed;
@@ -35,7 +36,7 @@ struct Turns {
   int64_t since = 0;  // the running piece, on the wall clock
   bool waited = false;  // in this turn
   bool after_a_wait = false;  // the running piece began where a wait for other turns was over
-  int64_t let_go = 0;  // when the next turn in order began, where that was told first; on the wall clock
+  int64_t released = 0;  // when the next turn in order began, where that was told first; on the wall clock
 };
 
 struct ImplicitTask {
@@ -101,10 +102,12 @@ class Reader {
   void begin(Task *t, int64_t since, int64_t at);
   void end(Task *t);
   void leave(Task *t);
-  bool can_go_on(const Task *t) const { return t && !t->waiting && !t->over && !t->wait; }
+  bool can_go_on(const Task *t) const { return t && !t->waiting && !t->is_ended && !t->wait; }
   void take_up();
-  void end_unless_told();
+  void end_unless_reported();
+  int64_t now_elsewhere(const Task *t);
   void end_elsewhere(Task *t);
+  void leave_elsewhere(Task *t);
   void count_task(Region &of);
   Task *create(Task *parent, bool undeferred);
   void settle(Task *parent);
@@ -124,29 +127,29 @@ class Reader {
   void close_tasks(Region &region);
   void close_whole(int64_t end, int64_t wall);
 
-  // over.cpp: regions that are over
+  // release_regions.cpp: the memory of regions that have ended
   uint64_t held = 0;  // their tasks
-  Region *last_over = nullptr;  // beside them, until another region makes a task
-  bool is_over(const Region &region) const;
-  void let_go_if_over(Region &region);
+  Region *last_ended = nullptr;  // beside them, until another region makes a task
+  bool is_ended(const Region &region) const;
+  void release_if_ended(Region &region);
   void forget(const TaskList &all);
-  void let_go(Region &region);
-  void let_go_last();
+  void release(Region &region);
+  void release_last();
 
-  // let_go.cpp: the beginning of the whole program, up to a region that is over
+  // release_beginning.cpp: that of the beginning of the whole program, up to a region that has ended
   struct Placed {  // a region in the root; what there was until its end, of what is there
     size_t blocks, steps, chunks, loops, regions, events;
   };
   std::deque<Placed> placed;
   std::vector<Region *> begun;  // regions, in their order
-  size_t blocks_over = 1, regions_over = 0;  // of tasks; of those that began
+  size_t blocks_ended = 1, regions_ended = 0;  // of tasks; of those that began
   size_t seen_steps = 0, chunks_gone = 0, loops_gone = 0;
   uint64_t room = 0;  // tasks that may be there before the beginning is let go
-  bool may_let_go = false;
+  bool may_release = false;
   void note_placed();
-  bool is_over_until(const Placed &end);
-  void let_go_beginning();
-  void let_go_until(const Placed &end);
+  bool is_ended_until(const Placed &end);
+  void release_beginning();
+  void release_until(const Placed &end);
   void take_from_later(size_t first);
   void take_steps(Task &root, size_t count);
   void take_events(Region &stretch, size_t end);

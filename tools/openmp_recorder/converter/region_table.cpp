@@ -36,7 +36,7 @@ std::vector<const void *> codes_of_regions(const Run &run) {
   return out;
 }
 
-void tell_regions(const Run &run, const WholeTime &time, const Places &places, const Taker &taker) {
+void print_regions(const Run &run, const WholeTime &time, const Places &places, const Taker &taker) {
   std::vector<const Region *> regions;
   for (auto &[number, region] : run.regions)
     if (region->of_program) regions.push_back(region.get());

@@ -4,7 +4,7 @@
 
 #include "run.hpp"
 #include "source.hpp"
-#include "text.hpp"
+#include "program_text.hpp"
 
 struct WholeTime {
   int64_t start, end;  // of the program, on the wall clock
@@ -12,4 +12,4 @@ struct WholeTime {
 };
 
 std::vector<const void *> codes_of_regions(const Run &run);
-void tell_regions(const Run &run, const WholeTime &time, const Places &places, const Taker &taker);
+void print_regions(const Run &run, const WholeTime &time, const Places &places, const Taker &taker);

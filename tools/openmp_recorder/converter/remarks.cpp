@@ -43,25 +43,25 @@ constexpr RemarkLine lines[] = {
 };
 static_assert(std::size(lines) == all_remarks, "one line for each");
 
-void put_direction(Object &told, const char *number, Moved moved) {
-  if (moved != Not) told.put(number, moved == Low ? "low" : moved == High ? "high" : "either");
+void put_direction(Object &fields, const char *number, Moved moved) {
+  if (moved != Not) fields.put(number, moved == Low ? "low" : moved == High ? "high" : "either");
 }
 }  // namespace
 
 const RemarkLine &line_of(Remark remark) { return lines[static_cast<std::size_t>(remark)]; }
 
-Object &put_seen(Object &told, const Seen &seen, const Places &places) {
+Object &put_occurrences(Object &fields, const Occurrences &seen, const Places &places) {
   const std::string &at = places.at(seen.code);
-  told.put("times", seen.times);
-  return at.empty() ? told : told.put(seen.elsewhere ? "first" : "at", at);
+  fields.put("times", seen.times);
+  return at.empty() ? fields : fields.put(seen.elsewhere ? "first" : "at", at);
 }
 
-std::string remark_in_json(Remark what, const Seen &seen, const Places &places) {
+std::string remark_in_json(Remark what, const Occurrences &seen, const Places &places) {
   const RemarkLine &line = line_of(what);
-  Object told;
-  told.put("remark", line.name);
-  if (line.counted) put_seen(told, seen, places);
-  put_direction(told, "work", line.work);
-  put_direction(told, "span", line.span);
-  return told.end();
+  Object fields;
+  fields.put("remark", line.name);
+  if (line.counted) put_occurrences(fields, seen, places);
+  put_direction(fields, "work", line.work);
+  put_direction(fields, "span", line.span);
+  return fields.end();
 }

@@ -5,7 +5,7 @@
 #include <map>
 #include <string>
 
-#include "seen.hpp"
+#include "occurrences.hpp"
 
 enum class Remark : uint8_t {
   OneThread,
@@ -55,10 +55,11 @@ struct RemarkLine {
 
 const RemarkLine &line_of(Remark remark);
 
-using Remarks = std::map<Remark, Seen>;
+using Remarks = std::map<Remark, Occurrences>;
 
 class Object;
 class Places;
 // As an object of JSON, of which spanprof/remarks.py makes words; `# remark: ` stands before it in a text's head.
-std::string remark_in_json(Remark what, const Seen &seen, const Places &places);
-Object &put_seen(Object &told, const Seen &seen, const Places &places);  // how often, and where or where first
+std::string remark_in_json(Remark what, const Occurrences &seen, const Places &places);
+Object &put_occurrences(Object &fields, const Occurrences &seen,
+                        const Places &places);  // how often, and where or where first

@@ -19,9 +19,9 @@
 // which it leaves out.
 struct Differing {
   int64_t cost = 0, off = 0;  // of the code where they do by more than a twentieth; off the processor there
-  Seen at;
+  Occurrences at;
   int64_t slightly = 0;  // off the processor in other code
-  Seen slightly_at;
+  Occurrences slightly_at;
   void add(bool is_much, int64_t code_cost, int64_t off_there, const void *code) {
     if (!is_much) {
       slightly += off_there;
@@ -69,7 +69,7 @@ struct Loop {
   Divided what = Divided::Loops;
   uint32_t number = 0;  // in their order
   const void *code = nullptr;
-  uint64_t count = 0, told = 0;  // turns: of the loop, and of the chunks that were told
+  uint64_t count = 0, reported = 0;  // turns: of the loop, and of the chunks that were told
   bool kept = false;  // some of it, or all, is code of the parts, as this run divided it
   uint32_t order = 0;  // of an `ordered` loop: the location that its turns take in order
   Turns *in_order = nullptr;  // of the thread whose turn it is
@@ -97,8 +97,8 @@ struct Region {
   const void *code = nullptr;
   unsigned asked = 0;  // how many threads its program asked for; 0 where that is not told
   unsigned threads = 0, ended = 0;  // of its implicit tasks those that ended
-  bool over = false;  // by the thread that met it
-  bool let_go = false;  // with its tasks, though not with its sums
+  bool is_ended = false;  // by the thread that met it
+  bool is_released = false;  // its tasks, though not its sums
   bool makes_tasks = false;  // where it was let go
   uint64_t place = 0;  // in the order of time, from 1
   uint64_t text = 0;  // the number of its text, from 1; 0 where none is written
@@ -125,7 +125,7 @@ struct Region {
   Seldom<Differing> asleep;  // by the wall clock: code in which the thread gave its processor up
   Seldom<std::vector<Preempted>> preempted;  // by the wall clock, where its clocks differ; not of the whole program
   int64_t untimed = 0;  // the wall clock in segments that were left in their midst, until they were
-  Seldom<std::map<Divided, SeenBy>> divided;  // of the thread that met the most
+  Seldom<std::map<Divided, MostOccurrences>> divided;  // of the thread that met the most
   std::vector<uint32_t> numbers;  // of the segments in the text, task by task; none where one is part of a later one
 
   // where the whole program is one text
@@ -172,7 +172,7 @@ struct WholeProgram : Region {
 
 struct Run {
   std::map<uint32_t, std::unique_ptr<Region>> regions;  // by number, so in order
-  Seen outside;  // tasks created outside any region
+  Occurrences outside;  // tasks created outside any region
   std::unique_ptr<WholeProgram> whole;
 };
 
@@ -191,7 +191,7 @@ struct HowToRead {
   const Log *last = nullptr;  // of the thread that ended it, whose clock that is by the processor's
   bool times = false;  // of the whole program's segments
   int64_t start_wall = 0, end_wall = 0;  // of the program
-  uint64_t most_held = UINT64_MAX;  // tasks of regions that are over: what comes beyond them is let go as it ends
+  uint64_t most_held = UINT64_MAX;  // tasks of regions that have ended: beyond them each region is released as it ends
   std::set<uint32_t> held{};  // regions by number, that never are
   CallPaths *paths = nullptr;  // of creations, where they are told apart
   std::string beside{};  // the first name of a file for what is let go of the whole program

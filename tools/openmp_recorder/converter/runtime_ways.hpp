@@ -4,7 +4,7 @@
 
 #include <cstdint>
 
-#include "told.hpp"
+#include "record_kind.hpp"
 
 // Whether a wait for dependences and an undeferred task belong to one construct: gcc's code makes both by one call, and
 // in clang's the task's call follows the wait's at once. After a `taskwait` a call that allocates the task is between.
@@ -18,31 +18,31 @@ inline bool ends_a_task(uint32_t status) {
 }
 
 // Whether the task that is told of is what the thread runs then.
-inline bool tells_what_runs(Told told, uint32_t detail) {
-  switch (told) {
-    case Told::Schedule:
+inline bool says_what_runs(RecordKind kind, uint32_t detail) {
+  switch (kind) {
+    case RecordKind::Schedule:
       return detail != ompt_task_early_fulfill && detail != ompt_task_late_fulfill && detail != ompt_taskwait_complete;
-    case Told::ParallelBegin:
-    case Told::LoopBegin:
-    case Told::LoopEnd:
-    case Told::Create:
-    case Told::SyncBegin:
-    case Told::SyncEnd:
-    case Told::WaitBegin:
-    case Told::WaitEnd:
-    case Told::Cancel: return true;
+    case RecordKind::ParallelBegin:
+    case RecordKind::LoopBegin:
+    case RecordKind::LoopEnd:
+    case RecordKind::Create:
+    case RecordKind::SyncBegin:
+    case RecordKind::SyncEnd:
+    case RecordKind::WaitBegin:
+    case RecordKind::WaitEnd:
+    case RecordKind::Cancel: return true;
     default: return false;
   }
 }
 
 // Whether what is told in the code of a chunk of a loop makes a task, or waits.
-inline bool is_construct(Told told, uint32_t detail) {
-  switch (told) {
-    case Told::Create:
-    case Told::LoopBegin:
-    case Told::WaitBegin:
-    case Told::Schedule: return true;
-    case Told::SyncBegin: return detail == ompt_sync_region_taskwait || detail == ompt_sync_region_taskgroup;
+inline bool is_construct(RecordKind kind, uint32_t detail) {
+  switch (kind) {
+    case RecordKind::Create:
+    case RecordKind::LoopBegin:
+    case RecordKind::WaitBegin:
+    case RecordKind::Schedule: return true;
+    case RecordKind::SyncBegin: return detail == ompt_sync_region_taskwait || detail == ompt_sync_region_taskgroup;
     default: return false;
   }
 }

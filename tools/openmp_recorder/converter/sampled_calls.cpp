@@ -15,6 +15,7 @@ using Names = std::vector<std::string>;  // innermost first
 constexpr const char *of_system = "@";  // before its library
 constexpr const char *headers = "@headers";  // in place of a library's name: the code stands in the program
 constexpr const char *the_runtime = "runtime@OpenMP";  // whatever it does for the program, or calls the system for
+constexpr const char *unnamed = "unnamed";  // what compilers make of a construct, and code of no file
 
 bool begins_with_one(const std::string &name, const std::vector<const char *> &starts) {
   return std::any_of(starts.begin(), starts.end(), [&](auto *start) { return !name.rfind(start, 0); });
@@ -66,13 +67,15 @@ Names names_of(const void *code, const Places &places) {
     return {(name.empty() || has_no_symbol(name) ? library : name) + of_system + library};
   }
   for (const Frame &frame : places.frames(code))
-    if (!frame.function.empty()) out.push_back(frame.function + (frame.of_library ? headers : ""));
+    if (!frame.function.empty())
+      out.push_back(frame.function + (frame.of_library && !frame.is_outlined ? headers : ""));
   if (!out.empty()) return out;
   std::string name = places.function(code);
   return name.empty() ? out : Names{name + (is_standard(name) ? headers : "")};
 }
 
 bool is_of_system(const std::string &name) { return name.find(of_system) != std::string::npos; }
+bool is_of_program(const std::string &name) { return !is_of_system(name) || name.find(headers) != std::string::npos; }
 bool begins_the_program(const std::string &name) { return is_of_system(name) || name == "_start"; }
 bool calls_main(const std::string &name) { return !name.rfind("libc_start", 0); }
 
@@ -131,14 +134,15 @@ Called called_from(const Calls &calls, const Places &places) {
   for (const void *code : calls) {
     bool is_runtime = places.modules() && places.modules()->in_runtime(code);
     of_recorder |= is_recorder(code, places);
-    if (is_runtime && !all.empty() && (of_recorder || in_program || !is_of_system(all.back()))) break;
+    if (is_runtime && (in_program || (of_recorder && !all.empty()))) break;
     if (is_runtime && !of_recorder) out = {{the_runtime}};
     if (is_runtime || is_recorder(code, places)) continue;
     Names more = names_of(code, places);
-    in_program |= more.empty();  // what a compiler makes of a construct has no name
+    in_program |= more.empty() || is_of_program(more.back());
     out.allocates |= std::any_of(more.begin(), more.end(), is_allocator);
     add_names(all, more);
   }
+  if (in_program && all.empty()) all.push_back(unnamed);
   return out;
 }
 
@@ -150,10 +154,12 @@ struct Named {
 };
 
 Frame own_of(const Calls &calls, const Places &places) {
-  for (const void *code : calls)
-    if (const auto &frames = places.frames(code); library_of_system(code, places).empty() && !frames.empty() &&
-                                                  !frames[0].of_library && !is_allocator(frames[0].function))
+  for (const void *code : calls) {
+    const auto &frames = places.frames(code).empty() ? places.unnamed(code) : places.frames(code);
+    if (library_of_system(code, places).empty() && !frames.empty() && !frames[0].of_library &&
+        !is_allocator(frames[0].function))
       return frames[0];
+  }
   return {};
 }
 
@@ -169,17 +175,19 @@ std::vector<Named> all_named(const Stacks &stacks, Places &places) {
 }
 
 // Of each sample, the place that used a cache line which other threads used too; the next one where that has no line.
-std::vector<const void *> all_contended(const Stacks &stacks, Places &places) {
-  if (!places.modules()) return std::vector<const void *>(stacks.interrupted.size());
-  std::vector<const void *> found = contending(stacks, *places.modules());
-  std::set<const void *> codes(found.begin(), found.end());
+std::vector<Contended> all_contended(const Stacks &stacks, Places &places) {
+  if (!places.modules()) return std::vector<Contended>(stacks.interrupted.size());
+  std::vector<Contended> found = contending(stacks, *places.modules());
+  std::set<const void *> codes;
+  for (const Contended &one : found) codes.insert(one.place);
   places.look_up({codes.begin(), codes.end()});
   auto has_line = [&](const void *code) {
     const std::vector<Frame> &frames = places.frames(code);
-    return !frames.empty() && frames[0].at == places.at(code);
+    return !places.unnamed(code).empty() || (!frames.empty() && frames[0].at == places.at(code));
   };
   for (size_t i = 0; i < found.size(); i++)
-    if (found[i] && !has_line(found[i])) found[i] = reinterpret_cast<const void *>(stacks.interrupted[i].code + 1);
+    if (found[i].place && !has_line(found[i].place))
+      found[i].place = reinterpret_cast<const void *>(stacks.interrupted[i].code + 1);
   return found;
 }
 }  // namespace
@@ -197,7 +205,7 @@ std::string named_calls(const Calls &calls, const Places &places) {
 
 std::string sampled_lines(const Region &region, OffTimes &times, const Stacks &stacks, Places &places) {
   std::vector<Named> names = all_named(stacks, places);
-  std::vector<const void *> contended = all_contended(stacks, places);
+  std::vector<Contended> contended = all_contended(stacks, places);
   times.number(region);
   std::map<uint64_t, Sum> found;
   for (const OffTime &one : times.all) {
@@ -207,12 +215,13 @@ std::string sampled_lines(const Region &region, OffTimes &times, const Stacks &s
     if (one.number == none) continue;
     auto &by_calls = found[one.number].by_calls;
     by_calls[{one.asleep ? slept : ran, named.calls}] += one.stands_for;
-    const void *shared = one.sample ? contended[one.sample - 1] : nullptr;
+    Contended shared = one.sample ? contended[one.sample - 1] : Contended{};
     if (!one.asleep && !named.own.at.empty()) by_calls[{at, named.own.at}] += one.stands_for;
     if (!one.asleep && named.allocates)
       by_calls[{allocated, named.own.at + " " + named.own.function}] += one.stands_for;
-    bool is_systems = !library_of_system(shared, places).empty();
-    if (shared && !is_systems && !places.at(shared).empty()) by_calls[{shares, places.at(shared)}] += one.stands_for;
+    auto beyond = static_cast<uint64_t>(shared.beyond * one.stands_for);
+    if (beyond && library_of_system(shared.place, places).empty() && !places.at(shared.place).empty())
+      by_calls[{shares, places.at(shared.place)}] += beyond;
   }
   std::string out;
   for (auto &[number, sum] : found)

@@ -2,6 +2,7 @@
 
 #include <algorithm>
 #include <map>
+#include <set>
 
 #include "machine_code.hpp"
 
@@ -60,6 +61,16 @@ std::vector<std::pair<Function, Found>> longest_of(const std::map<Function, Foun
   out.resize(many);
   return out;
 }
+
+// Of a function; an atomic operation goes as a whole where nothing is shared.
+void set_beyond(const Found &function, const Stacks &stacks, const std::vector<bool> &atomic,
+                std::vector<Contended> &all) {
+  std::vector<Interrupted> some, others;
+  for (size_t i : function.samples) (all[i].place ? some : others).push_back(stacks.interrupted[i]);
+  double beyond = beyond_others(some, others);
+  for (size_t i : function.samples)
+    if (!atomic[i]) all[i].beyond = beyond;
+}
 }  // namespace
 
 std::vector<bool> are_contended(const std::vector<Used> &all) {
@@ -77,22 +88,36 @@ std::vector<bool> are_contended(const std::vector<Used> &all) {
   return out;
 }
 
-std::vector<const void *> contending(const Stacks &stacks, const ModulesOfRun &modules) {
+double beyond_others(const std::vector<Interrupted> &some, const std::vector<Interrupted> &others) {
+  std::set<uint64_t> here, around;
+  uint64_t time = 0, time_around = 0;
+  for (const Interrupted &one : some) here.insert(one.code), time += one.stands_for;
+  for (const Interrupted &one : others)
+    if (!here.count(one.code)) around.insert(one.code), time_around += one.stands_for;
+  if (around.empty() || !time) return 1;
+  double each = static_cast<double>(time_around) / static_cast<double>(around.size());
+  return std::max(0.0, 1 - each * static_cast<double>(here.size()) / static_cast<double>(time));
+}
+
+std::vector<Contended> contending(const Stacks &stacks, const ModulesOfRun &modules) {
   std::vector<Used> all;
-  std::vector<const void *> places, out(stacks.interrupted.size());
-  for (auto &[function, found] : longest_of(functions_of(stacks, modules))) {
+  std::vector<std::pair<const void *, bool>> places;  // and whether they are atomic
+  std::vector<std::pair<Function, Found>> functions = longest_of(functions_of(stacks, modules));
+  for (auto &[function, found] : functions) {
     const ModuleOfRun &module = *function.module;
     Instructions code = disassembled(module, function.first, found.end);
     for (size_t i : found.samples) {
       const Interrupted &one = stacks.interrupted[i];
       for (const MemoryUse &use : used_near(code, in_file(one, module))) {
         all.push_back({i, address_of(use, one.registers, module), one.thread, one.wall, use.writes});
-        places.push_back(reinterpret_cast<const void *>(module.base + use.code + 1));
+        places.emplace_back(reinterpret_cast<const void *>(module.base + use.code + 1), use.is_atomic);
       }
     }
   }
-  std::vector<bool> contended = are_contended(all);
+  std::vector<Contended> out(stacks.interrupted.size());
+  std::vector<bool> contended = are_contended(all), atomic(out.size());
   for (size_t i = all.size(); i-- > 0;)
-    if (contended[i]) out[all[i].sample] = places[i];
+    if (contended[i]) out[all[i].sample].place = places[i].first, atomic[all[i].sample] = places[i].second;
+  for (auto &[function, found] : functions) set_beyond(found, stacks, atomic, out);
   return out;
 }

@@ -15,6 +15,14 @@ struct Used {
   bool writes;
 };
 
+// Of a sample the place behind the instruction that used such a line, null where it used none; and which part of its
+// time other instructions of the function do not take too.
+struct Contended {
+  const void *place = nullptr;
+  double beyond = 1;
+};
+
 std::vector<bool> are_contended(const std::vector<Used> &all);
-// Of each sample the place behind the instruction that used such a line; null where it used none.
-std::vector<const void *> contending(const Stacks &stacks, const ModulesOfRun &modules);
+// The part of the time of some samples that the others, each at an instruction, do not take; all of it without others.
+double beyond_others(const std::vector<Interrupted> &some, const std::vector<Interrupted> &others);
+std::vector<Contended> contending(const Stacks &stacks, const ModulesOfRun &modules);

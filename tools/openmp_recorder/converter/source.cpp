@@ -161,6 +161,12 @@ const std::vector<Frame> &Places::frames(const void *code) const {
   return found == around.end() ? none : found->second;
 }
 
+const std::vector<Frame> &Places::unnamed(const void *code) const {
+  static const std::vector<Frame> none;
+  auto found = all_around.find(code);
+  return found == all_around.end() || around.count(code) ? none : found->second;
+}
+
 std::string Places::function(const void *code) const {
   const ModuleOfRun *module = code && of_run ? of_run->of(code) : nullptr;
   if (!module) return {};

@@ -2,7 +2,7 @@
 
 #include "pieces.hpp"
 #include "place_region.hpp"
-#include "text.hpp"
+#include "program_text.hpp"
 
 namespace {
 // Of a task in the file; its steps and items follow, of which a creation has the number of what it makes.

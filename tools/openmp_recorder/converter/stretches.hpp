@@ -1,5 +1,5 @@
-// What was let go of the whole program: its text up to regions that are over, stretch by stretch, in a file without a
-// name beside the texts. A stretch is a program of its own, whose root has the root's steps of it.
+// What was released of the whole program: its text up to regions that have ended, stretch by stretch, in a file without
+// a name beside the texts. A stretch is a program of its own, whose root has the root's steps of it.
 #pragma once
 #include <functional>
 #include <set>

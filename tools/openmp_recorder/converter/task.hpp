@@ -46,10 +46,10 @@ struct Item {
 // A wait for dependences: of the undeferred task that follows, or a `taskwait` with `depend`.
 struct DependWait {
   const void *code;
-  int64_t over;  // the clock of the thread when it was over, so far as is known
+  int64_t end;  // on the clock of the thread, so far as is known
   const Log *log;  // of that thread
   ShortList<Item> items;
-  bool is_over = false;
+  bool has_ended = false;
   bool is_alone = false;  // no task that follows belongs to it
 };
 
@@ -62,7 +62,7 @@ struct Task {
   bool auxiliary = false;  // of a taskloop's, made by the runtime to make others
   bool of_loop = false;  // a taskloop's, or a chunk of a loop
   bool shown = true;  // it stands in the text
-  bool is_let_go = false;  // with the beginning of the whole program
+  bool is_released = false;  // with the beginning of the whole program
   Origin origin = Origin::Task;
   uint32_t pieces = 0;  // of a loop's chunk: so many tasks that share its cost stand for it; 0 for what is none
   unsigned segment = 0;  // the one that is open, counted within the task
@@ -82,7 +82,7 @@ struct Task {
       uint32_t interrupted;  // the task that the thread left for it, by number
       unsigned open_groups;  // of its own code
       uint32_t number;
-      bool running, waiting, over;
+      bool running, waiting, is_ended;
     };
     struct {  // while it is written
       int64_t total;  // `work` with everything below it
@@ -109,7 +109,7 @@ inline void Task::begin_reading(Region *of) {
   wait = nullptr;
   loop = nullptr;
   interrupted = open_groups = number = 0;
-  running = waiting = over = false;
+  running = waiting = is_ended = false;
 }
 
 inline void Task::end_reading() {

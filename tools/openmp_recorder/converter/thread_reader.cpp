@@ -13,15 +13,18 @@ std::string first_bytes(FILE *file, uint64_t from, size_t count) {
   return bytes;
 }
 
-bool is_of_a_lock(Told told) { return told == Told::LockGot || told == Told::LockLeft; }
+bool is_of_a_lock(RecordKind kind) { return kind == RecordKind::LockGot || kind == RecordKind::LockLeft; }
 
 // Of such a record all is told as it stands: most are.
-bool is_plain(Told told) {
-  return told == Told::Create || told == Told::Schedule || told == Told::SyncBegin || told == Told::SyncEnd;
+bool is_plain(RecordKind kind) {
+  return kind == RecordKind::Create || kind == RecordKind::Schedule || kind == RecordKind::SyncBegin ||
+         kind == RecordKind::SyncEnd;
 }
 
 // Records of code that is divided among threads: no other task runs there.
-bool divides(Told told) { return told == Told::Divided || told == Told::Chunk || told == Told::DividedEnd; }
+bool divides(RecordKind kind) {
+  return kind == RecordKind::Divided || kind == RecordKind::Chunk || kind == RecordKind::DividedEnd;
+}
 }  // namespace
 
 ThreadReader::ThreadReader(const std::string &path, unsigned worker, const log_form::Head &head,
@@ -81,7 +84,7 @@ size_t ThreadReader::read_long() {
   if (filled - at < bytes) return 0;
   std::memcpy(&raw, buffer.data() + at, bytes);
   keep_long();
-  if (raw.told() == Told::Nothing) return 0;
+  if (raw.record_kind() == RecordKind::Nothing) return 0;
   look_at();
   return bytes;
 }
@@ -101,23 +104,23 @@ void ThreadReader::read_short(log_form::ShortRecord record) {
   ticks += record >> log_form::other_bits & (log_form::ticks_too_long - 1);
   unsigned what = record >> (log_form::other_bits + log_form::short_ticks) & ((1U << log_form::what_bits) - 1);
   auto other = static_cast<uint32_t>(record);
-  Like like{log_form::make_word(0, static_cast<unsigned>(Told::Schedule), what), current};
+  Like like{log_form::make_word(0, static_cast<unsigned>(RecordKind::Schedule), what), current};
   if (what == log_form::lock_left) like = got;
   if (what >= log_form::slots) like = liked[what - log_form::slots];
   if (!like.word) refuse("no record before it is like it");
-  raw.record = {ticks, names_task(log_form::told_by(like.word)) ? current : like.task, other, like.word};
+  raw.record = {ticks, names_task(log_form::record_kind_of(like.word)) ? current : like.task, other, like.word};
   if (what < log_form::lock_left) current = other;
-  if (!looked_at.takes(ticks) || raw.told() == Told::LockGot) look_at();
+  if (!looked_at.takes(ticks) || raw.record_kind() == RecordKind::LockGot) look_at();
 }
 
 // What short records leave out.
 void ThreadReader::keep_long() {
-  if (raw.told() == Told::Items) return;
+  if (raw.record_kind() == RecordKind::Items) return;
   ticks = raw.record.at;
-  if (raw.told() == Told::Schedule) current = raw.record.other;
-  if (!has_slot(raw.told())) return;
-  if (names_task(raw.told())) current = raw.record.task;
-  liked[log_form::slot_of(raw.code(), static_cast<unsigned>(raw.told()))] = {raw.record.word, raw.record.task};
+  if (raw.record_kind() == RecordKind::Schedule) current = raw.record.other;
+  if (!has_slot(raw.record_kind())) return;
+  if (names_task(raw.record_kind())) current = raw.record.task;
+  liked[log_form::slot_of(raw.code(), static_cast<unsigned>(raw.record_kind()))] = {raw.record.word, raw.record.task};
 }
 
 // One record; none where the thread has written no more.
@@ -132,7 +135,7 @@ bool ThreadReader::read() {
 void ThreadReader::read_items(uint64_t count) {
   auto item = [](uint64_t packed) { return DependItem{packed, packed >> 56}; };
   log.items.clear();
-  while (log.items.size() < count && read() && raw.told() == Told::Items) {
+  while (log.items.size() < count && read() && raw.record_kind() == RecordKind::Items) {
     log.items.push_back(item(raw.record.at));
     if (raw.detail() == 2) log.items.push_back(item(raw.wide()));
   }
@@ -163,14 +166,14 @@ void ThreadReader::get_lock() {
   int64_t waited = time.nanoseconds(log_form::ticks_waited(raw.record.other));
   if (!by_processor) log.stood_still += waited;
   auto kind = static_cast<int>(raw.detail());
-  log.locks.get({raw.record.task, kind, raw.place(), cost_clock() - log.stood_still, waited, told});
+  log.locks.get({raw.record.task, kind, raw.place(), cost_clock() - log.stood_still, waited, reported});
   log.stood_still += in_a_record;
-  got = {log_form::make_word(0, static_cast<unsigned>(Told::LockLeft), raw.detail()), raw.record.task};
+  got = {log_form::make_word(0, static_cast<unsigned>(RecordKind::LockLeft), raw.detail()), raw.record.task};
 }
 
 void ThreadReader::leave_lock() {
   uint32_t region = teams.empty() ? 0 : teams.back().region;
-  log.locks.leave(raw.record.task, region, cost_clock() - log.stood_still, told);
+  log.locks.leave(raw.record.task, region, cost_clock() - log.stood_still, reported);
   log.stood_still += in_a_record;
 }
 
@@ -186,21 +189,21 @@ void ThreadReader::leave_out(const Passed &passed) {
 
 // Whether the record is one for the reader of runs.
 bool ThreadReader::take() {
-  switch (raw.told()) {
-    case Told::Items: return false;
-    case Told::StoodStill:
+  switch (raw.record_kind()) {
+    case RecordKind::Items: return false;
+    case RecordKind::StoodStill:
       log.stood_still += by_processor ? static_cast<int64_t>(raw.wide()) : time.nanoseconds(raw.wide());
       return false;
-    case Told::Passed: leave_out(passed()); return true;
-    case Told::LockGot: get_lock(); return raw.detail() == order_of_turns;
-    case Told::LockLeft: leave_lock(); return raw.detail() == order_of_turns;
-    case Told::ParallelBegin: begin_region(); return true;
-    case Told::ParallelEnd: end_region(); return true;
-    case Told::ImplicitBegin:
+    case RecordKind::Passed: leave_out(passed()); return true;
+    case RecordKind::LockGot: get_lock(); return raw.detail() == order_of_turns;
+    case RecordKind::LockLeft: leave_lock(); return raw.detail() == order_of_turns;
+    case RecordKind::ParallelBegin: begin_region(); return true;
+    case RecordKind::ParallelEnd: end_region(); return true;
+    case RecordKind::ImplicitBegin:
       log.has_initial_task |= (raw.detail() & is_initial) != 0;
       teams.push_back({raw.record.other, (raw.detail() & is_initial) != 0});
       return true;
-    case Told::ImplicitEnd:
+    case RecordKind::ImplicitEnd:
       if (!teams.empty()) teams.pop_back();
       return true;
     default: return true;
@@ -217,24 +220,25 @@ void ThreadReader::fill_record() {
   record.other = raw.record.other;
   record.path = static_cast<uint32_t>(raw.path());
   record.code = record.path ? reinterpret_cast<uint64_t>(paths->creating(record.path)) : raw.code();
-  record.kind = static_cast<uint8_t>(raw.told());
+  record.kind = static_cast<uint8_t>(raw.record_kind());
   record.detail = raw.detail();
 }
 
 const Record &ThreadReader::tell_plain() {
   fill_record();
   log.stood_still += in_a_record;
-  told++;
+  reported++;
   return record;
 }
 
 const Record &ThreadReader::tell() {
   fill_record();
-  if (raw.told() == Told::Passed) return record.passed = passed(), record;
-  if (is_of_a_lock(raw.told())) return record;
+  if (raw.record_kind() == RecordKind::Passed) return record.passed = passed(), record;
+  if (is_of_a_lock(raw.record_kind())) return record;
   log.stood_still += in_a_record;
-  told += !divides(raw.told());
-  if (raw.told() == Told::Dependences) record.other = 0, read_items(record.code), record.code = log.items.size();
+  reported += !divides(raw.record_kind());
+  if (raw.record_kind() == RecordKind::Dependences)
+    record.other = 0, read_items(record.code), record.code = log.items.size();
   return record;
 }
 
@@ -249,18 +253,19 @@ const Record &ThreadReader::tell_sample() {
   record.other = one.stands_for;
   record.code = 0;
   record.path = one.stack;
-  record.kind = static_cast<uint8_t>(Told::Sample);
+  record.kind = static_cast<uint8_t>(RecordKind::Sample);
   record.detail = one.slept;
   return record;
 }
 
 const Record *ThreadReader::next() {
   while (is_read || (is_read = read())) {
-    bool has_begun = record.kind, is_behind = raw.told() != Told::Items && raw.told() != Told::StoodStill;
+    bool has_begun = record.kind,
+         is_behind = raw.record_kind() != RecordKind::Items && raw.record_kind() != RecordKind::StoodStill;
     if (has_begun && is_behind && sampled < samples.size() && samples[sampled].order < raw.record.at)
       return &tell_sample();
     is_read = false;
-    if (is_plain(raw.told())) return &tell_plain();
+    if (is_plain(raw.record_kind())) return &tell_plain();
     if (take()) return &tell();
   }
   return record.kind && sampled < samples.size() ? &tell_sample() : nullptr;

@@ -20,12 +20,12 @@ class ThreadReader : public Records {
   struct Raw {
     log_form::RawRecord record;
     int64_t processor;
-    Told told() const { return log_form::told_by(record.word); }
+    RecordKind record_kind() const { return log_form::record_kind_of(record.word); }
     unsigned detail() const { return static_cast<unsigned>(record.word >> (log_form::code_bits + 8)); }
     uint64_t code() const { return record.word & log_form::code_mask; }
     uint64_t path() const {
       uint64_t number = log_form::path_of(code());
-      return number && (told() == Told::Create || told() == Told::LoopBegin) ? number : 0;
+      return number && (record_kind() == RecordKind::Create || record_kind() == RecordKind::LoopBegin) ? number : 0;
     }
     const void *place() const { return reinterpret_cast<const void *>(code()); }
     uint64_t wide() const { return record.task | uint64_t{record.other} << 32; }
@@ -44,7 +44,7 @@ class ThreadReader : public Records {
   uint64_t before = 0;  // bytes of it before the block that is read
   bool is_full = false;  // the block that is read
   RecordsLookedAt looked_at;
-  size_t told = 0;  // records so far that say what runs
+  size_t reported = 0;  // records so far that say what runs
   struct Team {
     uint32_t region;
     bool is_initial;  // the code outside of regions

@@ -71,7 +71,7 @@ bool Reader::has_turns_apart(ImplicitTask &own) {
 void Reader::begin_piece(ImplicitTask &own, bool of_next_turn) {
   Task *before = current_part();
   end(before);
-  before->over = true;
+  before->is_ended = true;
   Task *piece = add_part(current().back(), before->region);
   piece->part = false;
   piece->pieces = 1;
@@ -120,16 +120,16 @@ bool Reader::turn_awaited() {
   charge(piece);
   int64_t cost = last_cost(*piece);
   auto other = done.find(turn);
-  int64_t over = other == done.end() ? 0 : other->second;
-  bool is_one_wait = own->turns->after_a_wait && cost < at_once && over <= own->turns->since;
+  int64_t ended_at = other == done.end() ? 0 : other->second;
+  bool is_one_wait = own->turns->after_a_wait && cost < at_once && ended_at <= own->turns->since;
   if (is_one_wait && piece->items.size() < most_waited_for) {
     piece->items.push_back(item_of(turn, ompt_dependence_type_in));
     return true;
   }
-  int64_t waited = std::clamp<int64_t>(over - own->turns->since, 0, cost);
+  int64_t waited = std::clamp<int64_t>(ended_at - own->turns->since, 0, cost);
   bool was_there = r->wall - own->turns->since <= cost + woken;  // on its processor all the time
-  bool is_none = was_there && r->wall - over > woken;
-  if (!over) awaited.emplace(turn, r->wall);
+  bool is_none = was_there && r->wall - ended_at > woken;
+  if (!ended_at) awaited.emplace(turn, r->wall);
   begin_piece(*own, false);
   own->loop->waits.push_back({piece, cost - waited, cost, is_none, end_before_last()});
   find(current().back())->items.push_back(item_of(turn, ompt_dependence_type_in));
@@ -150,7 +150,7 @@ void Reader::order_got() {
   if (!own->loop->order) own->loop->order = made_location();
   begin_piece(*own, false);
   find(current().back())->items.push_back(item_of(own->loop->order, ompt_dependence_type_inout));
-  if (own->loop->in_order) own->loop->in_order->let_go = r->wall;
+  if (own->loop->in_order) own->loop->in_order->released = r->wall;
   own->loop->in_order = own->turns.get();
 }
 
@@ -160,16 +160,16 @@ void Reader::order_left() {
   if (!own || !own->turns) return;
   const Task *piece = current_part();
   begin_piece(*own, true);
-  int64_t let_go = std::exchange(own->turns->let_go, 0);
+  int64_t released = std::exchange(own->turns->released, 0);
   if (own->loop->in_order == own->turns.get()) own->loop->in_order = nullptr;
-  else if (let_go) ended_by(*piece, let_go);
+  else if (released) ended_by(*piece, released);
 }
 
 // What follows the loop waits for the thread's turns.
 void Reader::end_turns(ImplicitTask &own) {
   Task *last = current_part();
   end(last);
-  last->over = true;
+  last->is_ended = true;
   Task *part = add_part(current().back(), last->region);
   part->items.push_back(item_of(own.turns->around, ompt_dependence_type_inout));
   if (own.loop->in_order == own.turns.get()) own.loop->in_order = nullptr;

@@ -83,7 +83,7 @@ void Reader::dependences() {
 void Reader::barrier_begin(Task *t) {
   divided_end();  // which a loop that is cancelled may not tell
   end(t);
-  t->over = true;
+  t->is_ended = true;
   if (!t->open_groups) return;
   ImplicitTask &own = implicit[r->task];
   t->region->left_in_groups->push_back({t, own.phase, 0});
@@ -106,7 +106,8 @@ void Reader::end_groups_at_barrier(Region &region, unsigned phase) {
 }
 
 void Reader::barrier_end(Task *t) {
-  if (!t->over || r->detail == ompt_sync_region_barrier_implicit_parallel) return;  // nothing follows a region's end
+  if (!t->is_ended || r->detail == ompt_sync_region_barrier_implicit_parallel)
+    return;  // nothing follows a region's end
   end_groups_at_barrier(*t->region, implicit[r->task].phase++);
   Task *part = add_part(r->task, t->region);
   for (const void *code : std::exchange(implicit[r->task].groups, {})) begin_group(part, code);
@@ -114,7 +115,7 @@ void Reader::barrier_end(Task *t) {
 
 void Reader::sync_begin() {
   Task *t = find(r->task);
-  if (!t || t->over) return;
+  if (!t || t->is_ended) return;
   settle(t);
   switch (r->detail) {
     case ompt_sync_region_taskwait:
@@ -140,7 +141,7 @@ void Reader::sync_end() {
   switch (r->detail) {
     case ompt_sync_region_taskwait:
     case ompt_sync_region_taskgroup:
-      if (t->over) return;
+      if (t->is_ended) return;
       t->waiting = false;
       begin(t);
       break;
@@ -152,7 +153,7 @@ void Reader::sync_end() {
 
 void Reader::group_end_begin() {
   Task *t = find(r->task);
-  if (!t || t->over || !t->open_groups) return;
+  if (!t || t->is_ended || !t->open_groups) return;
   settle(t);
   begin(t);
   end(t);

@@ -21,7 +21,7 @@ Reader::Reader(const HowToRead &chosen) : how(chosen) {
   run.whole->root->part = true;
   run.whole->tasks.begin_block();
   room = std::min(how.most_held, most_room);
-  may_let_go = how.most_held != UINT64_MAX;
+  may_release = how.most_held != UINT64_MAX;
 }
 
 void Reader::begin_root() {
@@ -48,7 +48,7 @@ void Reader::initial_begin() {
     t->on = log;
     worker().outside = t;
     t->running = record_clock().of_processor;  // since the thread began
-    may_let_go = false;
+    may_release = false;
     if (run.whole->before) run.whole->before->are_in_vain = true;
     give_up_times();
   } else if (!t->on) {
@@ -58,7 +58,7 @@ void Reader::initial_begin() {
 }
 
 void Reader::meet_region(Region &region) {
-  let_go_beginning();
+  release_beginning();
   Task *t = find(r->task), *root = run.whole->root;
   region.whole = run.whole.get();
   begun.push_back(&region);
@@ -67,7 +67,7 @@ void Reader::meet_region(Region &region) {
     t = own->chunk;  // whose turns are not told apart then
     t->pieces = 1;
   }
-  if (!t || t->over) t = root;
+  if (!t || t->is_ended) t = root;
   if (!root->on) begin_root();
   region.owner = t;
   region.resumes = t->running && t->on == log;
@@ -98,9 +98,9 @@ void Reader::join_with_before(Task &t, size_t end, int64_t since) {
 void Reader::parallel_end() {
   auto region = run.regions.find(r->other);
   if (region == run.regions.end()) return;
-  region->second->over = true;
+  region->second->is_ended = true;
   if (region->second->owner) put_in_its_place(*region->second);
-  let_go_if_over(*region->second);
+  release_if_ended(*region->second);
 }
 
 void Reader::put_in_its_place(Region &region) {
@@ -163,7 +163,7 @@ void Reader::divided_begin() {
 void Reader::join_turns(const ImplicitTask &own) {
   if (!r->code || !own.chunk) return;
   own.last->turns += r->code;
-  own.loop->told += r->code;
+  own.loop->reported += r->code;
   ShortChunks &found = run.whole->short_chunks[own.loop->code];
   found.times += (r->code + own.last_turns - 1) / own.last_turns;
   found.turns += r->code;
@@ -175,7 +175,7 @@ void Reader::chunk_begin() {
   join_turns(*own);
   if (own->turns) return begin_piece(*own, true);
   if (own->chunk && std::exchange(own->all_turns, false)) {
-    own->loop->told = 0;
+    own->loop->reported = 0;
     put_chunk_back(*own);
   }
   begin_chunk(*own, r->task | uint64_t{r->other} << 32);
@@ -198,7 +198,7 @@ void Reader::begin_chunk(ImplicitTask &own, uint64_t turns) {
   if (!t->running) tell_between(t, own);
   Task *chunk = own.chunk = create(t, false);
   t->region->chunks++;
-  own.loop->told += turns;
+  own.loop->reported += turns;
   own.left = run.whole->events.size() - 1;
   own.off = run.whole->off.all.size();
   chunk->code = own.loop->code;
@@ -217,14 +217,14 @@ void Reader::end_chunk(ImplicitTask &own) {
   Task *chunk = std::exchange(own.chunk, nullptr);
   if (!chunk) return;
   end(chunk);
-  chunk->over = true;
+  chunk->is_ended = true;
 }
 
 void Reader::divided_end() {
   ImplicitTask *own = in_loop();
   if (!own) return;
   Task *t = current_part();
-  if (r->told() == Told::DividedEnd) join_turns(*own);
+  if (r->record_kind() == RecordKind::DividedEnd) join_turns(*own);
   end_chunk(*own);
   if (own->in_group) {
     if (!t->running) tell_between(t, *own);
@@ -240,7 +240,7 @@ void Reader::divided_end() {
 // Whether the record is of a task that is made, or of a wait, in the code of a chunk.
 bool Reader::is_construct_of_chunk(const ImplicitTask &own) const {
   if (!own.chunk || r->task != workers[log->worker].current.back()) return false;
-  return is_construct(r->told(), r->detail);
+  return is_construct(r->record_kind(), r->detail);
 }
 
 // Such tasks are those of the part, and such waits are for tasks of the part: so the chunk's code is code of the part.

@@ -44,7 +44,7 @@ void take_over(WholeProgram &whole, const Region &region) {
 // What stays as this run divided it: where chunks are not told, or make tasks.
 void count_loops(WholeProgram &whole) {
   for (const Loop &loop : whole.loop_list)
-    if (loop.kept || (loop.count && !loop.told)) whole.divided[loop.what].add(loop.code);
+    if (loop.kept || (loop.count && !loop.reported)) whole.divided[loop.what].add(loop.code);
     else (loop.what == Divided::Loops ? whole.loops : whole.sections)++;
 }
 }  // namespace

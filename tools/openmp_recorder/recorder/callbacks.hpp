@@ -34,7 +34,7 @@ void on_lock_got(ompt_mutex_t kind, ompt_wait_id_t name, const void *);
 void on_lock_left(ompt_mutex_t kind, ompt_wait_id_t name, const void *);
 // Before a lock is let go, and after that: others may wait for it until then.
 Release release_begins();
-void on_let_go(ompt_mutex_t kind, ompt_wait_id_t name, const Release &when);
+void on_release(ompt_mutex_t kind, ompt_wait_id_t name, const Release &when);
 
 // As OpenMP 5.2 has them, and LLVM 16: the header of 14 has fewer.
 constexpr int dispatched_section = 2, dispatched_chunk = 3;

@@ -105,6 +105,7 @@ bool Walk::step(bool is_call) {
       next.values[i] = 0;
     }
   next.values[stack_pointer] = frame;
+  // Only now: a step that fails leaves the frame as it was.
   state = next;
   is_of_signal = row.is_of_signal;
   return address();

@@ -41,6 +41,7 @@ void add(const Places &places, int place, cpu_set_t &set) {
 }
 }  // namespace
 
+// On the first thread, before LLVM's runtime has counted the processors; later it would be too late.
 void give_processors_back() {
   Places places = places_of_gcc();
   if (!places || places.count() < 2) return;

@@ -20,20 +20,20 @@ uint32_t telling(const CallStack &stack, const void *code) {
 KnownStacks::KnownStacks(const frames::Stack &of) : stacks{{0, 0, 0, UINT32_MAX, 0}}, lowest(of.lowest), end(of.end) {}
 
 uint64_t KnownStacks::learn(const void *code, const void *place, const char *own) {
-  auto told = reinterpret_cast<uint64_t>(place);
-  if (unwound == most_stacks || !code) return told;
+  auto reported = reinterpret_cast<uint64_t>(place);
+  if (unwound == most_stacks || !code) return reported;
   // Counted before it is tried, so that stacks which cannot be unwound do not cost that time for ever.
   unwound++;
   KeepErrno kept;
   try {
     CallStack stack = unwind_from(own);
     // A path that does not begin at the place of the creation is one of other calls.
-    if (stack.path.empty() || stack.path.front() != told) return told;
-    uint64_t number = number_of_path(stack.path), named = number ? log_form::place_of_path(number) : told;
+    if (stack.path.empty() || stack.path.front() != reported) return reported;
+    uint64_t number = number_of_path(stack.path), named = number ? log_form::place_of_path(number) : reported;
     keep(code, stack, named, own);
     return named;
   } catch (const std::bad_alloc &) {
-    return told;
+    return reported;
   }
 }
 

@@ -13,7 +13,7 @@
 #include "options.hpp"
 #include "program_start.hpp"
 #include "run_files.hpp"
-#include "say.hpp"
+#include "notice.hpp"
 
 namespace {
 struct Life {
@@ -67,10 +67,10 @@ void in_child_of_fork() {
 
 void say_unseen(uint32_t what) {
   if (life->options.quiet) return;
-  if (what & log_form::unseen_detach) say("gcc's detach is not seen by LLVM's runtime, and the program may crash");
+  if (what & log_form::unseen_detach) notice("gcc's detach is not seen by LLVM's runtime, and the program may crash");
   if (what & log_form::unseen_target)
-    say("gcc's target is run by its own runtime beside LLVM's: with nowait or depend the program's results may be wrong");
-  if (what & log_form::unseen_runtime) say("a second libgomp in the process is not recorded");
+    notice("gcc's target is run by gcc's own runtime: with nowait or depend the program's results may be wrong");
+  if (what & log_form::unseen_runtime) notice("a second libgomp in the process is not recorded");
 }
 
 // Also runs where the program never met OpenMP (`life` is null).
@@ -113,6 +113,8 @@ __attribute__((destructor)) void end_of_library() {
 }
 }  // namespace
 
+// LLVM's runtime calls it once, before it calls anything else of the tool; in front of gcc's it runs under the guard of
+// a static (`begin_here`). So there is one thread here, and no callback before it has returned.
 void runtime_begins() {
   if (life) return;
   life = new Life;
@@ -135,7 +137,7 @@ void begin_recording(void (*call)(), uint32_t unseen) {
   name_log();
   begin_log(life->log, life->call);
   use_unwinder();
-  if (!life->options.quiet) say("recording to " + life->log.folder);
+  if (!life->options.quiet) notice("recording to " + life->log.folder);
   say_unseen(life->log.unseen);
   // Handlers of a child run in the order of registration: those that are registered when the library is loaded
   // (`look_at_start`, `forget_samples`) come before `in_child_of_fork`.
@@ -145,7 +147,7 @@ void begin_recording(void (*call)(), uint32_t unseen) {
   set_time_of_beginning(time_since(life->runtime_begins));
 }
 
-void tell_unseen(uint32_t more) {
+void report_unseen(uint32_t more) {
   if (!life || __atomic_load_n(&life->log.unseen, __ATOMIC_RELAXED) & more) return;
   if (__atomic_fetch_or(&life->log.unseen, more, __ATOMIC_RELAXED) & more) return;
   mark_unseen(more);
@@ -154,6 +156,7 @@ void tell_unseen(uint32_t more) {
 
 void expect_end_by_this_thread() { on_exit(on_end_by_exit, nullptr); }
 
+// Several threads may come here, by `exit`, the runtime's end and the library's: the first one ends the log.
 void end_recording() {
   if (life->ended.exchange(true)) return;
   end_log(inside_a_region() ? log_form::HowEnded::InsideARegion : log_form::HowEnded::ByRuntime);

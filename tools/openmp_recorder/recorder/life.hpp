@@ -6,7 +6,7 @@
 void runtime_begins();  // before `begin_recording`, which the runtime comes to later
 // With a call of the recorder that makes a record and nothing else, and what it does not see (log_form.hpp).
 void begin_recording(void (*call)(), uint32_t unseen);
-void tell_unseen(uint32_t more);  // found later: any thread
+void report_unseen(uint32_t more);  // found later: any thread
 void expect_end_by_this_thread();  // by `exit`, beside others perhaps
 // Any thread may call it, several times and at once: the first one writes the end. Only after `begin_recording`.
 void end_recording();  // the log has when, once

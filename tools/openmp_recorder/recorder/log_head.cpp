@@ -19,7 +19,7 @@
 #include "own_stack.hpp"
 #include "path_numbers.hpp"
 #include "samples.hpp"
-#include "say.hpp"
+#include "notice.hpp"
 #include "system_calls.hpp"
 
 namespace {
@@ -28,6 +28,7 @@ using log_form::Stopped;
 
 constexpr std::size_t cache_line = 64;
 constexpr uint32_t numbers_at_once = 1024;
+// Counted without an order (relaxed): numbers must differ, and say nothing of what came first.
 alignas(cache_line) std::atomic<uint64_t> next_number{1};
 std::atomic<uint32_t> next_region{1}, next_thread{0};
 std::atomic<int64_t> open_regions{0};  // of the program, that are not inside another
@@ -64,7 +65,7 @@ Head *map_head(const std::string &path) {
 
 // Of the parent, which would be taken for one that runs as long as the child does: the file's map holds it as well. The
 // program may have closed the file, and use its number for another one.
-void let_go_of_lock() {
+void release_head_lock() {
   if (head) munmap(std::exchange(head, nullptr), sizeof(Head));
   struct stat open_there, own;
   std::string path = beginning.folder + log_form::head_file;
@@ -102,7 +103,7 @@ bool make_log() {
   head = map_head(beginning.folder + log_form::head_file);
   if (!head) return false;
   fill_head();
-  tell_modules(beginning.folder);
+  write_modules(beginning.folder);
   if (beginning.call_paths) begin_paths(beginning.folder);
   return true;
 }
@@ -167,6 +168,8 @@ void lose_switches() {
 
 void set_time_of_beginning(uint64_t took) { beginning_took = took; }
 
+// The only way to a log. It allocates, locks and writes files, so from callbacks alone. `making` is the first lock that
+// is taken; inside of it come that of the list of samples, or the loader's.
 ThreadLog *make_thread_log() {
   if (forks) return nullptr;
   KeepErrno kept;
@@ -215,6 +218,7 @@ void take_numbers(OwnNumbers &of) {
 
 uint32_t new_region() { return next_region.fetch_add(1, std::memory_order_relaxed); }
 
+// Any thread, with or without `making`; it takes no lock, since `grow` may call it anywhere.
 void stop_log(Stopped why) {
   Stopped before = Stopped::Not;
   // The first reason alone stands in the head. `log_stopped` is set before `only_records` is reset, so a callback that
@@ -225,9 +229,10 @@ void stop_log(Stopped why) {
     head->stop = read_pair();
     head->stopped = why;
   }
-  if (why != Stopped::End) say(word_of(why));
+  if (why != Stopped::End) notice(word_of(why));
 }
 
+// Other threads may still be in callbacks, so records may follow that are later than this end.
 void end_log(log_form::HowEnded how) {
   Moment now = moment_now();
   if (thread_log && !is_stopped()) thread_log->look_at_clocks(now);  // no record may follow
@@ -243,9 +248,11 @@ void take_end_back() {
   if (head) head->how_ended = log_form::HowEnded::Not;
 }
 
+// Of all threads: `exit` asks whether any of them is in a region.
 void count_open_region(int more) { open_regions += more; }
 bool inside_a_region() { return open_regions > 0; }
 
+// Called by glibc before it forks, in the thread that calls fork, with other threads running.
 void leave_log() {
   forks = true;
   left_log = std::exchange(thread_log, nullptr);
@@ -261,7 +268,7 @@ void go_on_with_log() {
 void forget_log() {
   new (&making) std::mutex;  // another thread may have held it when the process forked
   forget_paths();
-  let_go_of_lock();
+  release_head_lock();
   thread_log = left_log = nullptr;
   forks = false;
   new (&of_ended) std::vector<ThreadLog *>;

@@ -67,6 +67,7 @@ int calls_all(dl_phdr_info *of, size_t, void *names) {
 }
 }  // namespace
 
+// Once, while recording begins. It stops at the first module that fits.
 bool one_module_calls(const std::vector<std::string> &names) {
   return dl_iterate_phdr(calls_all, const_cast<std::vector<std::string> *>(&names));
 }

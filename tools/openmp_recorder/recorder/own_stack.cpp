@@ -8,6 +8,7 @@ extern "C" char *__libc_stack_end;
 namespace {
 constexpr uint64_t longest_stack = 1 << 30;
 
+// Without a limit the kernel grows the stack as far as memory is free: some bound must be taken.
 uint64_t length_of_first_stack() {
   rlimit most{};
   bool is_known = !getrlimit(RLIMIT_STACK, &most) && most.rlim_cur < longest_stack;
@@ -23,6 +24,7 @@ frames::Stack own_stack() {
     auto end = reinterpret_cast<uint64_t>(__libc_stack_end);
     return {end - length, end};
   }
+  // Of the first thread glibc would read all of /proc/self/maps.
   pthread_attr_t attributes;
   if (pthread_getattr_np(pthread_self(), &attributes)) return {};
   void *lowest = nullptr;

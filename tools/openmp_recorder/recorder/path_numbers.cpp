@@ -13,6 +13,7 @@
 #include "system_calls.hpp"
 
 namespace {
+// Once records are made, used with its lock held alone.
 struct Paths {
   std::mutex adding;
   std::string file;
@@ -23,6 +24,7 @@ struct Paths {
 
 Paths &paths = *new Paths;  // never destroyed: tasks may be made while the process ends
 
+// As the converter reads it: addresses in hexadecimal, from the creation outwards.
 std::string line_of(const std::vector<uintptr_t> &calls) {
   std::string line;
   for (uintptr_t call : calls) {
@@ -34,6 +36,7 @@ std::string line_of(const std::vector<uintptr_t> &calls) {
 }
 
 // A line that was not written whole is the last one.
+// The file is opened anew each time: a program may close files that it did not open, and use their numbers.
 bool append(const std::string &line) {
   if (!is_allowed(paths.bytes + line.size())) return false;
   int file = open(paths.file.c_str(), O_WRONLY | O_APPEND | O_CLOEXEC);
@@ -61,6 +64,7 @@ void begin_paths(const std::string &folder) {
   if (file >= 0) close(file);
 }
 
+// It may write to the disk while other threads wait for the lock: once for each path.
 uint64_t number_of_path(const std::vector<uintptr_t> &calls) {
   std::lock_guard<std::mutex> guard(paths.adding);
   auto known = paths.numbers.find(calls);

@@ -17,6 +17,7 @@ FIND_AT_LOAD(set_action)
 FIND_AT_LOAD(set_handler)
 FIND_AT_LOAD(fill_set)
 
+// Never by the name `sigaction`, which is the function below: it would give the signal up.
 int systems_action(int number, const struct sigaction *action, struct sigaction *before) {
   return set_action.get()(number, action, before);
 }
@@ -48,8 +49,10 @@ bool is_asked() {
 bool stands_before_the_system() { return dlsym(RTLD_DEFAULT, "sigaction") == reinterpret_cast<void *>(sigaction); }
 }  // namespace
 
+// 0 before the signal is taken and once it is given up; read in handlers too.
 int sample_signal() { return taken.load(std::memory_order_relaxed); }
 
+// While the library is loaded, before the program can start a thread or block signals.
 bool take_sample_signal(OnSignal handler) {
   if (!is_asked() || !stands_before_the_system()) return false;
   for (int number = SIGRTMAX - 1; number > SIGRTMIN; number--) {

@@ -103,7 +103,7 @@ void Samples::begin_file(const std::string &name) {
   else used = 0;
   if (memory) munmap(memory, window_bytes);
   std::memcpy(path, name.c_str(), name.size() + 1);
-  is_over = !window;
+  is_closed = !window;
   each = 1;
 }
 
@@ -113,18 +113,20 @@ void Samples::begin_thread() {
   (void)&at_end;
   // The program may have claimed the signal since: then it is not ours to send.
   if (timer >= 0 || !sample_signal()) return;
-  if (!window && !is_over) window = map_memory();
+  if (!window && !is_closed) window = map_memory();
   stack = own_stack();
   lowest = std::exchange(stack.lowest, 0);
   // Last: the first signal may come at once, and needs window and stack.
   timer = make_timer(this);
 }
 
+// The kernel may have reused the number of a timer that was deleted: so it is deleted by one thread alone.
 void Samples::end_timer() {
   int known = timer.exchange(-1);
   if (known >= 0) syscall(SYS_timer_delete, known);
 }
 
+// The timer first. A signal that is on its way still finds the object, which is never freed.
 void Samples::end_thread() {
   end_timer();
   own_samples = nullptr;
@@ -158,7 +160,7 @@ bool Samples::make_room() {
   // Where that fails `is_over` ends the samples of this thread; a handler can print nothing.
   window = map_window(path, ++windows);
   used = 0;
-  is_over = !window;
+  is_closed = !window;
   return window;
 }
 
@@ -189,6 +191,7 @@ void Samples::publish(RawSample &sample, int64_t began) {
   __atomic_store_n(&sample.at, read_time_stamp(After::Itself), __ATOMIC_RELEASE);
 }
 
+// The order matters: ask, stand in the way, read the clock, find room, write, and publish.
 void Samples::take(const siginfo_t &signal, const ucontext_t &context) {
   // Nothing may touch the window before.
   if (!is_to_write(signal)) return;
@@ -205,6 +208,7 @@ void Samples::take(const siginfo_t &signal, const ucontext_t &context) {
 }
 
 // In the place of the recorder's own functions stands that of the system which they called.
+// Not in the handler, but possibly in one of the program's, which may have interrupted `take` or another `put_wait`.
 void Samples::put_wait(const void *function, int64_t nanoseconds) {
   if (!may_write()) return;
   KeepErrno kept;

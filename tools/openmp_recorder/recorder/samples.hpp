@@ -34,7 +34,7 @@ class Samples {
   size_t used = 0;
   uint64_t windows = 0;  // of the file, before this one
   unsigned each = 1, since = 0;  // of so many signals one is written, where memory alone has them
-  volatile bool is_busy = false, is_over = false;  // one thread's code and its handler alone use them
+  volatile bool is_busy = false, is_closed = false;  // one thread's code and its handler alone use them
   // While it stands a signal finds nothing to write to. Its fences keep the compiler from moving what is done to the
   // window out of it; a thread's own handler sees what its processor has done so far.
   class Busy {
@@ -60,7 +60,7 @@ class Samples {
   bool make_room();
   void keep_half();
   bool is_to_write(const siginfo_t &signal);
-  bool may_write() const { return !is_busy && !is_over && window && !is_stopped(); }
+  bool may_write() const { return !is_busy && !is_closed && window && !is_stopped(); }
   log_form::RawSample &sample_here(const ucontext_t &context);
   void publish(log_form::RawSample &sample, int64_t began);
 };

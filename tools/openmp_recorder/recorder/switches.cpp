@@ -22,6 +22,7 @@ struct Registered {
   const void *volatile sequence;
 };
 
+// By the thread's pointer and without a call: right in any thread, and at any time of its life, once `offset` is known.
 Registered &own_one() {
   char *thread = nullptr;
 #if defined(__x86_64__)
@@ -31,6 +32,7 @@ Registered &own_one() {
 }
 
 // glibc has both since 2.35; the size is 0 where the kernel knows no sequences, or the program has asked for none.
+// It asks the loader: only while recording begins.
 bool are_registered() {
   auto *size = static_cast<const unsigned *>(dlsym(RTLD_DEFAULT, "__rseq_size"));
   auto *where = static_cast<const std::ptrdiff_t *>(dlsym(RTLD_DEFAULT, "__rseq_offset"));
@@ -39,6 +41,8 @@ bool are_registered() {
   return own_one().processor >= 0;
 }
 
+// One byte at which no code runs: the kernel finds the thread outside of it, clears the word, and never goes to `left`.
+// It may end a program whose sequence has a wrong version, range, or signature before `behind`.
 void fill_sequence() {
   auto address = [](const void *of) { return reinterpret_cast<uint64_t>(of); };
   never_runs.start = address(&never_runs.no_code);
@@ -59,13 +63,16 @@ bool is_cleared_by_sleep() {
 }
 }  // namespace
 
+// A thread that glibc did not register, as one made by `clone`, has no such word: its switches are not known.
 void Kept::begin_thread() {
   word = &always;
   if (switches_are_known && own_one().processor >= 0) word = &own_one().sequence;
 }
 
+// For this thread alone, and for good: others still have their words.
 void Kept::give_up() { word = &always; }
 
+// Before any thread records; it tries the calling thread's own word.
 void look_for_switches(bool are_wanted) {
   switches_are_known = false;
 #if defined(__x86_64__)

@@ -11,7 +11,7 @@
 #include "log_head.hpp"
 #include "system_waits.hpp"
 #include "systems.hpp"
-#include "told.hpp"
+#include "record_kind.hpp"
 
 namespace {
 #define SYSTEMS(name)                         \
@@ -38,11 +38,12 @@ __attribute__((tls_model("initial-exec"))) __thread Held held;
 
 ompt_wait_id_t name_of(const void *lock) { return reinterpret_cast<ompt_wait_id_t>(lock); }
 
+// Without room for more the lock is recorded as got, and its release passes unrecorded.
 void hold(const void *lock) {
   if (held.count < Held::most) held.locks[held.count++] = lock;
 }
 
-bool let_go(const void *lock) {
+bool drop(const void *lock) {
   const void **end = held.locks + held.count, **found = std::find(held.locks, end, lock);
   if (found == end) return false;
   *found = held.locks[--held.count];
@@ -50,33 +51,34 @@ bool let_go(const void *lock) {
 }
 
 // `thread_log` and not `own_log`: to make a log takes locks, and would lead here again.
-bool is_told(const void *place) { return thread_log && !is_stopped() && !in_runtime(place); }
+bool is_recorded(const void *place) { return thread_log && !is_stopped() && !in_runtime(place); }
 
 template <class Lock>
 __attribute__((noinline)) int wait_for(Lock *lock, int (*systems)(Lock *), unsigned kind, const void *place) {
-  if (!is_told(place)) return systems(lock);
-  auto told = static_cast<ompt_mutex_t>(kind);
-  on_lock_asked(told, 0, 0, name_of(lock), place);
+  if (!is_recorded(place)) return systems(lock);
+  auto mutex = static_cast<ompt_mutex_t>(kind);
+  on_lock_asked(mutex, 0, 0, name_of(lock), place);
   int status = systems(lock);
-  on_lock_got(told, name_of(lock), place);
+  on_lock_got(mutex, name_of(lock), place);
   // EOWNERDEAD: the thread has the lock, whose last holder ended.
-  if (status && status != EOWNERDEAD) on_lock_left(told, name_of(lock), place);
+  if (status && status != EOWNERDEAD) on_lock_left(mutex, name_of(lock), place);
   else hold(lock);
   return status;
 }
 
 template <class Lock>
 __attribute__((noinline)) int leave(Lock *lock, int (*systems)(Lock *), unsigned kind) {
-  if (!let_go(lock)) return systems(lock);
+  if (!drop(lock)) return systems(lock);
   Release when = release_begins();
   int status = systems(lock);
-  on_let_go(static_cast<ompt_mutex_t>(kind), name_of(lock), when);
+  on_release(static_cast<ompt_mutex_t>(kind), name_of(lock), when);
   return status;
 }
 }  // namespace
 
+// The system's wait gives the mutex back inside, where nobody can look on.
 void leave_for_wait(const void *lock) {
-  if (held.count && let_go(lock)) on_lock_left(static_cast<ompt_mutex_t>(system_mutex), name_of(lock), nullptr);
+  if (held.count && drop(lock)) on_lock_left(static_cast<ompt_mutex_t>(system_mutex), name_of(lock), nullptr);
 }
 
 // A free lock is only tried: neither the clock is read nor a record made. PLACE must stand in the entry itself.
@@ -87,11 +89,11 @@ void leave_for_wait(const void *lock) {
     if (__builtin_expect(status != EBUSY, true)) return status; \
     return wait_for(lock, own_##name.get(), kind, PLACE);       \
   }
-#define UNLOCK(name, type, kind)                                 \
-  ENTRY int name(type *lock) {                                   \
-    auto systems = own_##name.get();                             \
-    bool is_told = __builtin_expect(held.count, 0);              \
-    return is_told ? leave(lock, systems, kind) : systems(lock); \
+#define UNLOCK(name, type, kind)                                     \
+  ENTRY int name(type *lock) {                                       \
+    auto systems = own_##name.get();                                 \
+    bool is_recorded = __builtin_expect(held.count, 0);              \
+    return is_recorded ? leave(lock, systems, kind) : systems(lock); \
   }
 LOCK(pthread_mutex_lock, pthread_mutex_trylock, pthread_mutex_t, system_mutex)
 UNLOCK(pthread_mutex_unlock, pthread_mutex_t, system_mutex)

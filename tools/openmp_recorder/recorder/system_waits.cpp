@@ -32,7 +32,7 @@ class Waiting {
     if (samples) began = is_stamp ? read_time_stamp(After::Itself) : static_cast<uint64_t>(wall_time());
   }
   ~Waiting() {
-    if (samples && took() >= static_cast<double>(least_wait)) tell();
+    if (samples && took() >= static_cast<double>(least_wait)) record();
   }
   Waiting(const Waiting &) = delete;
 
@@ -47,12 +47,14 @@ class Waiting {
     return static_cast<double>(read_time_stamp(After::Itself) - began) * nanoseconds_of_tick();
   }
   // The thread may have lost its samples during the call, as in the child of a fork.
-  __attribute__((noinline)) void tell() const {
+  __attribute__((noinline)) void record() const {
     if (!in_runtime(place) && samples == own_samples) samples->put_wait(function, static_cast<int64_t>(took()));
   }
 };
 }  // namespace
 
+// Each function is passed on exactly once, with its arguments as they are. `put_wait` restores errno after it, and a
+// thread that is cancelled inside still runs the destructor, which takes no lock.
 #define WAITS_BY(version, before, result, name, parameters, ...)                            \
   static Systems<result(*) parameters> systems_##name(#name, version);                      \
   FIND_AT_LOAD(systems_##name)                                                              \
@@ -118,9 +120,11 @@ WAITS_BY(nullptr, leave_for_wait(mutex), int, pthread_cond_clockwait,
          clock, until)
 
 // As the C++ library waits for futures. The function has as many arguments as any call: those not given are not read.
+// Of all numbers only futex is looked at; the others are passed on unseen.
 #define NUMBERS long number, long a, long b, long c, long d, long e, long f
 static Systems<long (*)(NUMBERS)> systems_syscall("syscall");
 FIND_AT_LOAD(systems_syscall)
+// Of another name here, since unistd.h declares `syscall` with `...`.
 ENTRY long any_call(NUMBERS) asm("syscall");
 ENTRY long any_call(NUMBERS) {
   auto function = systems_syscall.get();

@@ -24,6 +24,7 @@ char *map_block(const std::string &path) {
   if (file < 0) return nullptr;
   void *pages = MAP_FAILED;
   errno = is_allowed(log_form::block_bytes) ? posix_fallocate(file, 0, log_form::block_bytes) : EFBIG;
+  // Populated, so that no record waits for a page, which would be no code's time.
   if (!errno) pages = mmap(nullptr, log_form::block_bytes, PROT_READ | PROT_WRITE, MAP_SHARED | MAP_POPULATE, file, 0);
   int why = errno;
   close(file);
@@ -93,6 +94,7 @@ ThreadLog::ThreadLog(unsigned of)
   begin_clocks();
 }
 
+// Where another library has its own restartable sequences all logs go back to the wall clock, from any time on.
 void ThreadLog::begin_clocks() {
   if (switches_are_known && !kept.is_known()) lose_switches();
   auto apart = kept.is_known() ? longest_unlooked : far_apart;
@@ -143,28 +145,29 @@ bool ThreadLog::grow() {
 }
 
 // `at` is the last store, as a release: while it is 0 the record is not there, however much of the rest is.
-void ThreadLog::put_long(const log_form::RawRecord &told, uint32_t bytes) {
+void ThreadLog::put_long(const log_form::RawRecord &raw, uint32_t bytes) {
   auto *record = reinterpret_cast<log_form::RawRecord *>(next);
   next += bytes;
   clear(next);
-  record->task = told.task;
-  record->other = told.other;
-  record->word = told.word;
-  __atomic_store_n(&record->at, told.at, __ATOMIC_RELEASE);
-  follow(told);
+  record->task = raw.task;
+  record->other = raw.other;
+  record->word = raw.word;
+  __atomic_store_n(&record->at, raw.at, __ATOMIC_RELEASE);
+  follow(raw);
 }
 
 // What short records that come next leave out.
-void ThreadLog::follow(const log_form::RawRecord &told) {
-  Told kind = log_form::told_by(told.word);
+void ThreadLog::follow(const log_form::RawRecord &raw) {
+  RecordKind kind = log_form::record_kind_of(raw.word);
   // Items have an address where others have the time, so they must not become the base of the next difference.
-  if (kind == Told::Items) return;
-  last = told.at;
+  if (kind == RecordKind::Items) return;
+  last = raw.at;
   renew_left();
-  if (kind == Told::Schedule) current = told.other;
-  if (names_task(kind)) current = told.task;
+  if (kind == RecordKind::Schedule) current = raw.other;
+  if (names_task(kind)) current = raw.task;
 }
 
+// So no short record reaches beyond the next look at the clocks, or has a difference that does not fit.
 void ThreadLog::renew_left() {
   uint64_t passed = last - looked;
   left = std::min(passed < far_ticks ? far_ticks - passed : 0, log_form::ticks_too_long);
@@ -201,11 +204,11 @@ void ThreadLog::compare_clocks(Moment &now) {
   look(now.at);
   is_slow = is_slow || !costs_by_processor;
   std::optional<Passed> passed = held_since ? passed_since_lock(now, has_stood) : both.at_record(times(now));
-  if (passed && (passed->is_off() || !kept.is_known())) tell_passed(now, *passed);
+  if (passed && (passed->is_off() || !kept.is_known())) put_all_passed(now, *passed);
 }
 
 // Where the thread both slept and lost its processor, each by itself.
-void ThreadLog::tell_passed(const Moment &now, Passed passed) {
+void ThreadLog::put_all_passed(const Moment &now, Passed passed) {
   is_slow = true;
   if (passed.slept && passed.taken && passed.put_off < passed.off()) {
     passed.wall -= passed.put_off;
@@ -219,14 +222,14 @@ void ThreadLog::put_passed(const Moment &now, const Passed &passed) {
   auto processor = static_cast<uint64_t>(passed.processor);
   uint64_t wall = std::min(static_cast<uint64_t>(passed.wall), log_form::code_mask);
   unsigned off = (passed.slept ? log_form::slept : 0U) | (passed.taken ? log_form::taken : 0U);
-  put(now, Told::Passed, static_cast<uint32_t>(processor), static_cast<uint32_t>(processor >> 32), wall, off);
+  put(now, RecordKind::Passed, static_cast<uint32_t>(processor), static_cast<uint32_t>(processor >> 32), wall, off);
 }
 
 void ThreadLog::look_back(const Look &from, const Look &until, const Moment &now) {
   kept.set();
   look(now.at);
   both.begin_at(look_now());
-  if (Passed passed = passed_between(from, until); passed.wall >= far_apart) tell_passed(now, passed);
+  if (Passed passed = passed_between(from, until); passed.wall >= far_apart) put_all_passed(now, passed);
 }
 
 void ThreadLog::wait_begins(Moment &now) {
@@ -256,7 +259,7 @@ void ThreadLog::get_lock(Moment now, uint32_t name, unsigned kind) {
   if (lock.name != name) lock = {nullptr, name, kind, now};
   lock.got = now;
   left = 0;  // so the next record tells it first
-  if (costs_by_processor) tell_got();
+  if (costs_by_processor) put_got();
 }
 
 // Its task is none that the thread is in, so only the first record of a block must be long.
@@ -268,27 +271,27 @@ bool ThreadLog::put_short_of_lock(uint64_t at, unsigned what, uint32_t other) {
   return true;
 }
 
-void ThreadLog::tell_got() {
+void ThreadLog::put_got() {
   Moment got = std::exchange(lock.got, {});
   auto waited = static_cast<float>(std::max<int64_t>(static_cast<int64_t>(got.at - lock.asked.at), 0));
   uint32_t wait = log_form::wait_of(waited);
   if (costs_by_processor) tell_stood_still(static_cast<uint64_t>(got.processor - lock.asked.processor));
-  unsigned slot = LikeRecords::slot(Told::LockGot, lock.place);
-  bool is_like = like.has(Told::LockGot, lock.place, lock.key());
+  unsigned slot = LikeRecords::slot(RecordKind::LockGot, lock.place);
+  bool is_like = like.has(RecordKind::LockGot, lock.place, lock.key());
   if (is_like && put_short_of_lock(got.at, log_form::slots + slot, wait)) return;
-  put(got, Told::LockGot, lock.name, wait, reinterpret_cast<uint64_t>(lock.place), lock.kind);
-  like.add(Told::LockGot, lock.place, lock.key());
+  put(got, RecordKind::LockGot, lock.name, wait, reinterpret_cast<uint64_t>(lock.place), lock.kind);
+  like.add(RecordKind::LockGot, lock.place, lock.key());
 }
 
 // Where the thread lost its processor while it had the lock, that is told first.
 void ThreadLog::leave_lock(const Release &when, uint32_t name, unsigned kind) {
   bool is_last = lock.got.at && lock.name == name;
-  tell_lock();
+  put_lock();
   Moment now = when.now;
   if (!when.has_stood) look_at_clocks(now);
-  if (!is_last || !put_short_of_lock(now.at, log_form::lock_left, 0)) put(now, Told::LockLeft, name, 0, 0, kind);
+  if (!is_last || !put_short_of_lock(now.at, log_form::lock_left, 0)) put(now, RecordKind::LockLeft, name, 0, 0, kind);
   if (kept.is_known()) look_at_clocks(now);
-  if (is_slow) tell_slow(now);
+  if (is_slow) put_slow(now);
 }
 
 uint64_t time_since(const Moment &began) {
@@ -311,13 +314,13 @@ uint64_t ThreadLog::own_time_since(const Moment &began) const {
   return std::min(took, static_cast<uint64_t>(static_cast<double>(worked) / nanoseconds_of_tick()));
 }
 
-void ThreadLog::tell_slow(const Moment &began) {
+void ThreadLog::put_slow(const Moment &began) {
   is_slow = false;
   tell_stood_still(own_time_since(began));
 }
 
 void ThreadLog::tell_stood_still(uint64_t took) {
-  put(moment_now(), Told::StoodStill, static_cast<uint32_t>(took), static_cast<uint32_t>(took >> 32), 0, 0);
+  put(moment_now(), RecordKind::StoodStill, static_cast<uint32_t>(took), static_cast<uint32_t>(took >> 32), 0, 0);
 }
 
 // The median of many, so that what else the machine does is in none of it.

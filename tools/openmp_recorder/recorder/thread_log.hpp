@@ -10,7 +10,7 @@
 #include "log_form.hpp"
 #include "switches.hpp"
 #include "ticks.hpp"
-#include "told.hpp"
+#include "record_kind.hpp"
 
 struct Implicit {
   uint64_t task, region;  // numbers
@@ -56,21 +56,21 @@ void take_numbers(OwnNumbers &of);  // where none are left; there may be no more
 class LikeRecords {
  public:
   LikeRecords() { forget(); }
-  bool has(Told told, const void *code, uint64_t detail) const {
-    const One &one = all[slot(told, code)];
+  bool has(RecordKind kind, const void *code, uint64_t detail) const {
+    const One &one = all[slot(kind, code)];
     return one.code == code && one.detail == detail;
   }
   // The converter expands a short record by the last long one of its slot. So each long record of a kind with slots
   // must be followed by `remove`, and by `add` only where a short one may stand for it: `Entry::keep` does both.
-  void add(Told told, const void *code, uint64_t detail) { all[slot(told, code)] = {code, detail}; }
-  void remove(Told told, const void *code) { all[slot(told, code)] = {this, 0}; }
+  void add(RecordKind kind, const void *code, uint64_t detail) { all[slot(kind, code)] = {code, detail}; }
+  void remove(RecordKind kind, const void *code) { all[slot(kind, code)] = {this, 0}; }
   // Due where a region begins or ends, since the places of open regions decide which places are the program's own.
   // A null `code` must match no entry, so an empty one holds an address at which no code can lie.
   void forget() {
     for (One &one : all) one = {this, 0};  // where no code is
   }
-  static unsigned slot(Told told, const void *code) {
-    return log_form::slot_of(reinterpret_cast<uint64_t>(code), static_cast<unsigned>(told));
+  static unsigned slot(RecordKind kind, const void *code) {
+    return log_form::slot_of(reinterpret_cast<uint64_t>(code), static_cast<unsigned>(kind));
   }
 
  private:
@@ -128,21 +128,21 @@ class alignas(64) ThreadLog {
 
   // Where there is no room it allocates, maps or writes a file, or stops the log: so only from callbacks. The
   // processor's clock goes in before `put_long` publishes the record.
-  void put(const Moment &now, Told told, uint32_t task, uint32_t other, uint64_t code, unsigned detail) {
-    if (!costs_by_processor) return put_by_wall(now.at, told, task, other, code, detail);
-    tell_lock();
+  void put(const Moment &now, RecordKind kind, uint32_t task, uint32_t other, uint64_t code, unsigned detail) {
+    if (!costs_by_processor) return put_by_wall(now.at, kind, task, other, code, detail);
+    put_lock();
     if (!has_room() && !grow()) return;
     *reinterpret_cast<int64_t *>(next + log_form::bytes_by_wall) = now.processor;
-    put_long({now.at, task, other, log_form::make_word(code, static_cast<unsigned>(told), detail)},
+    put_long({now.at, task, other, log_form::make_word(code, static_cast<unsigned>(kind), detail)},
              log_form::bytes_by_processor);
   }
   // Only where costs are read on the wall clock: it leaves no room for the other clock.
-  void put_by_wall(uint64_t at, Told told, uint32_t task, uint32_t other, uint64_t code, unsigned detail) {
-    tell_lock();
+  void put_by_wall(uint64_t at, RecordKind kind, uint32_t task, uint32_t other, uint64_t code, unsigned detail) {
+    put_lock();
     if (__builtin_expect(!has_room(), false) && !grow()) return;
-    if (told == Told::Schedule && takes_short(at - last, task) && detail < log_form::lock_left)
+    if (kind == RecordKind::Schedule && takes_short(at - last, task) && detail < log_form::lock_left)
       return go_on(at - last, detail, other);
-    put_long({at, task, other, log_form::make_word(code, static_cast<unsigned>(told), detail)},
+    put_long({at, task, other, log_form::make_word(code, static_cast<unsigned>(kind), detail)},
              log_form::bytes_by_wall);
   }
   // Whether so many ticks after the record before a short one may be put, and nothing else is to be done.
@@ -194,11 +194,11 @@ class alignas(64) ThreadLog {
   void ask_for_lock(const OwnLock &one) { lock = one; }
   void get_lock(Moment now, uint32_t name, unsigned kind);
   void leave_lock(const Release &when, uint32_t name, unsigned kind);  // also of one that records tell already
-  void tell_lock() {  // that the thread has, where no record tells it yet
-    if (__builtin_expect(lock.got.at, false)) tell_got();
+  void put_lock() {  // that the thread has, where no record tells it yet
+    if (__builtin_expect(lock.got.at, false)) put_got();
   }
   // The last record of a call: whatever the recorder does after it counts as the program's code.
-  void tell_slow(const Moment &began);  // how long until now
+  void put_slow(const Moment &began);  // how long until now
   void tell_stood_still(uint64_t took);
 
  private:
@@ -212,7 +212,7 @@ class alignas(64) ThreadLog {
   void follow(const log_form::RawRecord &record);
   void renew_left();
   bool put_short_of_lock(uint64_t at, unsigned what, uint32_t other);
-  void tell_got();
+  void put_got();
   void wait_ends(Moment &now);
   void look(uint64_t at) { looked = at, left = 0; }
   // One store: after a kill there is the old value or 0.
@@ -230,7 +230,7 @@ class alignas(64) ThreadLog {
   void read_anew(Moment &now);
   void compare_clocks(Moment &now);
   std::optional<Passed> passed_since_lock(const Moment &now, bool has_stood);
-  void tell_passed(const Moment &now, Passed passed);
+  void put_all_passed(const Moment &now, Passed passed);
   void put_passed(const Moment &now, const Passed &passed);
   uint64_t own_time_since(const Moment &began) const;
   // False where the log has stopped, and then the record is dropped. It allocates and calls the system.

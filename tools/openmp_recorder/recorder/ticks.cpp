@@ -12,6 +12,7 @@ namespace {
 std::atomic<uint64_t> last_read{0};
 
 // The kernel takes it for the wall clock only where it found it constant, and alike on all processors.
+// It reads a file by stdio: only while recording begins.
 bool is_the_kernels_clock() {
   char name[32] = "";
   FILE *file = fopen("/sys/devices/system/clocksource/clocksource0/current_clocksource", "re");
@@ -31,6 +32,7 @@ uint64_t later_wall_time() {
   return later;
 }
 
+// Before any record and any other thread: both numbers are read without a lock from then on.
 void choose_clocks(bool may_be_time_stamp, bool by_processor) {
   costs_by_processor = by_processor;
 #if defined(__x86_64__)

@@ -39,6 +39,7 @@ bool Walk::goes_on(_Unwind_Context *context) {
   return add(value, _Unwind_GetRegionStart(context));
 }
 
+// A function that is on the path already ends it, so a recursion is there once, however deep the stack.
 bool Walk::add(uintptr_t value, uintptr_t function) {
   if (in_runtime(reinterpret_cast<const void *>(value)))
     return found.path.empty() && found.all.size() < most_in_runtime;
@@ -48,6 +49,7 @@ bool Walk::add(uintptr_t value, uintptr_t function) {
   return found.path.size() < log_form::most_calls;
 }
 
+// Called by libgcc, once for each frame from the inside out.
 _Unwind_Reason_Code take(_Unwind_Context *context, void *walk) {
   return static_cast<Walk *>(walk)->goes_on(context) ? _URC_NO_REASON : _URC_END_OF_STACK;
 }

@@ -115,6 +115,7 @@ bool read_common(const uint8_t *at, Common &common) {
 }
 
 // What the instructions of both entries say, up to an address.
+// It ends: each step takes at least one byte of a program whose end is known.
 class Instructions {
  public:
   Instructions(const Common &all, uint64_t begin, uint64_t until) : common(all), at(begin), address(until) {}
@@ -255,6 +256,7 @@ const uint8_t *find_entry(const uint8_t *tables, uint64_t address) {
   return low ? tables + lines[low - 1].entry : nullptr;
 }
 
+// Tables are those of a mapped module, which the loader keeps mapped while its code is on a stack.
 bool read_entry(const uint8_t *at, uint64_t address, Row &row) {
   Bytes entry = entry_at(at);
   const uint8_t *own = entry.here();

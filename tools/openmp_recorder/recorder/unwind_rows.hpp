@@ -15,9 +15,6 @@ class Bytes {
   const uint8_t *here() const { return at; }
   const uint8_t *behind() const { return end; }
   void skip(uint64_t count) { at = count < static_cast<uint64_t>(end - at) ? at + count : end; }
-  void limit(uint64_t count) {
-    if (count < static_cast<uint64_t>(end - at)) end = at + count;
-  }
   template <class Number>
   Number read() {
     Number number = 0;

@@ -6,7 +6,7 @@
 #include <cstring>
 #include <string>
 
-#include "told.hpp"
+#include "record_kind.hpp"
 
 namespace log_form {
 constexpr char magic[8] = {'S', 'P', 'A', 'N', 'P', 'L', 'O', 'G'};
@@ -16,8 +16,8 @@ constexpr const char *head_file = "/head", *modules_file = "/modules", *thread_f
 constexpr const char *paths_file = "/paths";  // of creations, where call paths were asked for
 constexpr const char *samples_file = "/samples.";  // of a thread
 
-// In machine order. Kinds are those of `Told`. Where the first eight bytes are 0 no record is written yet, and the
-// block's records end there. A record by the processor's clock has eight bytes more: that clock of the thread, in
+// In machine order. Kinds are those of `RecordKind`. Where the first eight bytes are 0 no record is written yet, and
+// the block's records end there. A record by the processor's clock has eight bytes more: that clock of the thread, in
 // nanoseconds.
 struct RawRecord {
   uint64_t at;  // ticks when the runtime called; the highest bit is 0
@@ -90,7 +90,7 @@ struct RawSample {
 };
 static_assert(sizeof(RawSample) == 24, "as LOG.md has it");
 
-constexpr Told told_by(uint64_t word) { return static_cast<Told>(word >> code_bits & 255); }
+constexpr RecordKind record_kind_of(uint64_t word) { return static_cast<RecordKind>(word >> code_bits & 255); }
 
 enum class Counter : uint32_t { ClockGettime, TimeStamp };
 // Own: by the counter, and each switch of a thread stands in a record. Then costs can leave out what others took.

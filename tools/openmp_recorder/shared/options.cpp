@@ -2,13 +2,13 @@
 
 #include <cstdlib>
 
-#include "say.hpp"
+#include "notice.hpp"
 
 namespace {
 constexpr uint64_t largest = 1000000000000000;
 
 void wrong(const char *name, const char *value, const char *allowed) {
-  say(std::string(name) + "=" + value + " is not understood (" + allowed + "); it is left out");
+  notice(std::string(name) + "=" + value + " is not understood (" + allowed + "); it is left out");
 }
 
 bool read_number(const char *value, uint64_t &into) {

@@ -21,18 +21,18 @@ struct Listed {
   static Listed listed_##name(#name, name); \
   static void name()
 
-inline std::string told(const std::string &value) { return "`" + value + "`"; }
-inline std::string told(const char *value) { return told(std::string(value)); }
+inline std::string quoted(const std::string &value) { return "`" + value + "`"; }
+inline std::string quoted(const char *value) { return quoted(std::string(value)); }
 template <class Number>
-std::string told(Number value) {
+std::string quoted(Number value) {
   return std::to_string(value);
 }
 
 template <class Found, class Wanted>
 void expect(const char *file, int line, const Found &found, const Wanted &wanted) {
-  if (!(found == wanted)) fail(file, line, told(found) + " where " + told(wanted) + " must be");
+  if (!(found == wanted)) fail(file, line, quoted(found) + " where " + quoted(wanted) + " must be");
 }
 
 #define EXPECT(found, wanted) expect(__FILE__, __LINE__, found, wanted)
 #define EXPECT_PART(whole, part) \
-  if ((whole).find(part) == std::string::npos) fail(__FILE__, __LINE__, told(whole) + " has no " + told(part))
+  if ((whole).find(part) == std::string::npos) fail(__FILE__, __LINE__, quoted(whole) + " has no " + quoted(part))

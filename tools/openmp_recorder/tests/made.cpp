@@ -12,7 +12,7 @@
 Made::Made(unsigned many) : count(many) {
   for (unsigned i = 0; i < many; i++) threads.push_back(std::make_unique<Kept>(i));
   threads[0]->log.regions.push_back({1, true, time, 0});
-  add(0, Told::ParallelBegin, 0, 1);
+  add(0, RecordKind::ParallelBegin, 0, 1);
   begin_threads();
 }
 
@@ -26,7 +26,7 @@ Made &Made::stood_still(uint32_t nanoseconds) {
   return *this;
 }
 
-Made &Made::add(unsigned thread, Told told, uint32_t task, uint32_t other, unsigned detail, uint64_t code) {
+Made &Made::add(unsigned thread, RecordKind kind, uint32_t task, uint32_t other, unsigned detail, uint64_t code) {
   Record record{};
   record.at = record.wall = time;
   record.order = order++;
@@ -34,19 +34,19 @@ Made &Made::add(unsigned thread, Told told, uint32_t task, uint32_t other, unsig
   record.task = task;
   record.other = other;
   record.code = code;
-  record.kind = static_cast<uint8_t>(told);
+  record.kind = static_cast<uint8_t>(kind);
   record.detail = detail;
   threads[thread]->records.push_back(record);
   return *this;
 }
 
 Made &Made::begin_threads() {
-  for (unsigned i = 0; i < count; i++) add(i, Told::ImplicitBegin, 1 + i, 1, 0, count);
+  for (unsigned i = 0; i < count; i++) add(i, RecordKind::ImplicitBegin, 1 + i, 1, 0, count);
   return *this;
 }
 
 Made &Made::create(unsigned thread, uint32_t task, uint32_t child, unsigned details, uint64_t place) {
-  return add(thread, Told::Create, task, child, details, place);
+  return add(thread, RecordKind::Create, task, child, details, place);
 }
 
 Made &Made::path(unsigned thread, uint32_t number) {
@@ -56,13 +56,13 @@ Made &Made::path(unsigned thread, uint32_t number) {
 
 Made &Made::depend(unsigned thread, uint32_t task, const std::vector<DependItem> &items) {
   Log &log = threads[thread]->log;
-  add(thread, Told::Dependences, task, static_cast<uint32_t>(log.items.size()), 0, items.size());
+  add(thread, RecordKind::Dependences, task, static_cast<uint32_t>(log.items.size()), 0, items.size());
   for (const DependItem &one : items) log.items.push_back(one);
   return *this;
 }
 
 Made &Made::go(unsigned thread, uint32_t from, uint32_t to, ompt_task_status_t why) {
-  return add(thread, Told::Schedule, from, to, why);
+  return add(thread, RecordKind::Schedule, from, to, why);
 }
 
 Made &Made::run(unsigned thread, uint32_t from, uint32_t task, int64_t nanoseconds) {
@@ -70,21 +70,21 @@ Made &Made::run(unsigned thread, uint32_t from, uint32_t task, int64_t nanosecon
 }
 
 Made &Made::sync(unsigned thread, uint32_t task, ompt_sync_region_t kind) {
-  return add(thread, Told::SyncBegin, task, 0, kind).add(thread, Told::SyncEnd, task, 0, kind);
+  return add(thread, RecordKind::SyncBegin, task, 0, kind).add(thread, RecordKind::SyncEnd, task, 0, kind);
 }
 
 Made &Made::barrier(unsigned thread, uint32_t task) {
-  return add(thread, Told::SyncBegin, task, 0, ompt_sync_region_barrier_implicit_parallel);
+  return add(thread, RecordKind::SyncBegin, task, 0, ompt_sync_region_barrier_implicit_parallel);
 }
 
 Made &Made::passed(unsigned thread, int64_t wall, int64_t processor, bool slept, bool taken) {
-  add(thread, Told::Passed, 0);
+  add(thread, RecordKind::Passed, 0);
   threads[thread]->records.back().passed = {slept, wall, processor, taken};
   return *this;
 }
 
 Made &Made::sample(unsigned thread, uint32_t stack, uint32_t microseconds, bool slept) {
-  return add(thread, Told::Sample, 0, microseconds, slept).path(thread, stack);
+  return add(thread, RecordKind::Sample, 0, microseconds, slept).path(thread, stack);
 }
 
 Run Made::read(Ending ending, const HowToRead &how) {
@@ -109,7 +109,7 @@ Region &only_region(Run &run) {
 
 std::string whole_text(Region &region, const Style &style, const Places &places) {
   std::string words;
-  tell_program(region, style, places, [&](std::string_view piece) { words += piece; });
+  print_program(region, style, places, [&](std::string_view piece) { words += piece; });
   return words;
 }
 
@@ -120,7 +120,7 @@ std::string text_of(Region &region, const Style &style) {
 
 std::string told_times(const Region &region, Events events) {
   std::string out;
-  events.tell(region, [&](std::string_view piece) { out += piece; });
+  events.print(region, [&](std::string_view piece) { out += piece; });
   return out;
 }
 
@@ -132,7 +132,7 @@ std::string times_of(Region &region) {
     events.take(region, part, first, end);
     whole.off.number(region);
   };
-  tell_program(
+  print_program(
       region, {}, Places(), [](std::string_view) {}, nullptr, take_part);
   EXPECT(events.are_whole(), true);
   return told_times(region, std::move(events)) + off_lines(region, whole.off);

@@ -8,7 +8,7 @@
 
 #include "events.hpp"
 #include "run.hpp"
-#include "text.hpp"
+#include "program_text.hpp"
 
 class Kept : public Records {  // records that are kept in a list
  public:
@@ -26,7 +26,8 @@ class Made {
   explicit Made(unsigned many = 1);  // of region 1, whose implicit tasks have the numbers 1 and on
   Made &after(int64_t nanoseconds);  // the next records are so much later
   Made &stood_still(uint32_t nanoseconds);  // of them the next record's thread was in the recorder
-  Made &add(unsigned thread, Told told, uint32_t task, uint32_t other = 0, unsigned detail = 0, uint64_t code = 0);
+  Made &add(unsigned thread, RecordKind kind, uint32_t task, uint32_t other = 0, unsigned detail = 0,
+            uint64_t code = 0);
   Made &begin_threads();
   Made &create(unsigned thread, uint32_t task, uint32_t child, unsigned details = 0, uint64_t place = 100);
   Made &path(unsigned thread, uint32_t number);  // of the thread's last record

@@ -8,8 +8,10 @@ namespace {
 const std::string part = "  task {  # one of the region's threads\n";
 
 Made &explicit_barrier(Made &made) {
-  for (unsigned thread : {0, 1}) made.add(thread, Told::SyncBegin, 1 + thread, 0, ompt_sync_region_barrier_explicit);
-  for (unsigned thread : {0, 1}) made.add(thread, Told::SyncEnd, 1 + thread, 0, ompt_sync_region_barrier_explicit);
+  for (unsigned thread : {0, 1})
+    made.add(thread, RecordKind::SyncBegin, 1 + thread, 0, ompt_sync_region_barrier_explicit);
+  for (unsigned thread : {0, 1})
+    made.add(thread, RecordKind::SyncEnd, 1 + thread, 0, ompt_sync_region_barrier_explicit);
   return made;
 }
 }  // namespace
@@ -100,10 +102,10 @@ TEST(parts_with_tasks_come_first) {
 
 TEST(the_runtimes_own_region_is_no_code) {
   Run run = Made()
-                .add(0, Told::ParallelBegin, 0, 2, is_runtimes)
-                .add(0, Told::ImplicitBegin, 9, 2, 0, 1)
+                .add(0, RecordKind::ParallelBegin, 0, 2, is_runtimes)
+                .add(0, RecordKind::ImplicitBegin, 9, 2, 0, 1)
                 .after(50)
-                .add(0, Told::ImplicitEnd, 9)
+                .add(0, RecordKind::ImplicitEnd, 9)
                 .read();
   EXPECT(run.regions.at(2)->cost, 50);
   EXPECT(in_code(*run.regions.at(2)), 0);
@@ -112,10 +114,13 @@ TEST(the_runtimes_own_region_is_no_code) {
 // A region of two threads in a task of 100: its other thread runs so long, and this one half of it.
 Run region_in_a_task(int64_t other) {
   Made made(2);
-  made.create(0, 1, 3).barrier(0, 1).barrier(1, 2).go(0, 1, 3).add(0, Told::ParallelBegin, 3, 2);
-  made.add(0, Told::ImplicitBegin, 4, 2, 0, 2).add(1, Told::ImplicitBegin, 5, 2, 0, 2).after(other / 2).barrier(0, 4);
-  made.after(other - other / 2).barrier(1, 5).add(1, Told::ImplicitEnd, 5).after(100 - other);
-  made.add(0, Told::ImplicitEnd, 4).after(7).go(0, 3, 1, ompt_task_complete);
+  made.create(0, 1, 3).barrier(0, 1).barrier(1, 2).go(0, 1, 3).add(0, RecordKind::ParallelBegin, 3, 2);
+  made.add(0, RecordKind::ImplicitBegin, 4, 2, 0, 2)
+      .add(1, RecordKind::ImplicitBegin, 5, 2, 0, 2)
+      .after(other / 2)
+      .barrier(0, 4);
+  made.after(other - other / 2).barrier(1, 5).add(1, RecordKind::ImplicitEnd, 5).after(100 - other);
+  made.add(0, RecordKind::ImplicitEnd, 4).after(7).go(0, 3, 1, ompt_task_complete);
   return made.read();
 }
 

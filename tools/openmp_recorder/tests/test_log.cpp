@@ -24,14 +24,15 @@ using log_form::ShortRecord;
 
 constexpr size_t in_block = block_bytes / sizeof(RawRecord);
 
-RawRecord raw(uint64_t at, Told told, uint32_t task = 0, uint32_t other = 0, uint64_t code = 0, unsigned detail = 0) {
-  return {at, task, other, log_form::make_word(code, static_cast<unsigned>(told), detail)};
+RawRecord raw(uint64_t at, RecordKind kind, uint32_t task = 0, uint32_t other = 0, uint64_t code = 0,
+              unsigned detail = 0) {
+  return {at, task, other, log_form::make_word(code, static_cast<unsigned>(kind), detail)};
 }
 
 // From the reading 1 on: what begins with 0 is no record.
 std::vector<RawRecord> schedules(uint64_t from, size_t count) {
   std::vector<RawRecord> out;
-  for (size_t i = 0; i < count; i++) out.push_back(raw(from + i, Told::Schedule, 1, 2));
+  for (size_t i = 0; i < count; i++) out.push_back(raw(from + i, RecordKind::Schedule, 1, 2));
   return out;
 }
 
@@ -81,7 +82,10 @@ class MadeLog {
 
 TEST(a_log_ends_at_the_first_record_that_is_not_there) {
   MadeLog log;
-  log.last({raw(10, Told::Schedule, 1, 2, 0, 7), raw(20, Told::SyncBegin, 2, 0, 99), {}, raw(30, Told::Schedule)});
+  log.last({raw(10, RecordKind::Schedule, 1, 2, 0, 7),
+            raw(20, RecordKind::SyncBegin, 2, 0, 99),
+            {},
+            raw(30, RecordKind::Schedule)});
   std::vector<Record> found = log.records();
   EXPECT(found.size(), 2u);
   EXPECT(found[0].detail, 7u);
@@ -112,12 +116,12 @@ class Block {
 TEST(a_short_record_goes_from_the_task_that_the_thread_is_in) {
   MadeLog log;
   Block block;
-  block.add(raw(1000, Told::SyncBegin, 3, 0, 99)).add(log_form::make_short(10, 7, 5));
+  block.add(raw(1000, RecordKind::SyncBegin, 3, 0, 99)).add(log_form::make_short(10, 7, 5));
   block.add(log_form::make_short(30, 1, 3));
   log.last(block.records());
   std::vector<Record> found = log.records();
   EXPECT(found.size(), 3u);
-  EXPECT(found[1].told() == Told::Schedule && found[2].told() == Told::Schedule, true);
+  EXPECT(found[1].record_kind() == RecordKind::Schedule && found[2].record_kind() == RecordKind::Schedule, true);
   EXPECT(found[1].task, 3u);
   EXPECT(found[1].other, 5u);
   EXPECT(found[1].order, 1010u);
@@ -129,16 +133,16 @@ TEST(a_short_record_goes_from_the_task_that_the_thread_is_in) {
 
 TEST(a_short_record_is_like_the_last_long_one_of_its_slot) {
   MadeLog log;
-  unsigned like = log_form::slots + log_form::slot_of(77, static_cast<unsigned>(Told::Create));
+  unsigned like = log_form::slots + log_form::slot_of(77, static_cast<unsigned>(RecordKind::Create));
   Block block;
-  block.add(raw(1000, Told::Create, 3, 4, 77, is_untied)).add(log_form::make_short(20, like, 6));
-  block.add(raw(1030, Told::Dependences, 6, 0, 1)).add(raw(50, Told::Items, 9, 0, 0, 1));
+  block.add(raw(1000, RecordKind::Create, 3, 4, 77, is_untied)).add(log_form::make_short(20, like, 6));
+  block.add(raw(1030, RecordKind::Dependences, 6, 0, 1)).add(raw(50, RecordKind::Items, 9, 0, 0, 1));
   block.add(log_form::make_short(9, like, 7));
   log.last(block.records());
   std::vector<Record> found = log.records();
   EXPECT(found.size(), 4u);
   for (size_t i : {size_t{1}, size_t{3}}) {
-    EXPECT(found[i].told() == Told::Create, true);
+    EXPECT(found[i].record_kind() == RecordKind::Create, true);
     EXPECT(found[i].task, 3u);
     EXPECT(found[i].other, i == 1 ? 6u : 7u);
     EXPECT(found[i].order, i == 1 ? 1020u : 1039u);
@@ -150,7 +154,7 @@ TEST(a_short_record_is_like_the_last_long_one_of_its_slot) {
 TEST(a_block_that_is_full_ends_before_its_end) {
   MadeLog log;
   std::vector<RawRecord> first = schedules(1, in_block), second = schedules(in_block, in_block);
-  first.back() = raw(0, Told::Nothing);
+  first.back() = raw(0, RecordKind::Nothing);
   first.insert(first.end(), second.begin(), second.end());
   log.full(first);
   log.last({});
@@ -161,7 +165,8 @@ TEST(a_creation_has_the_path_that_is_listed) {
   MadeLog log;
   auto path = log_form::place_of_path(2);
   log.paths("4010a0 4020b0\n4010c0 4020b0\n");
-  log.last({raw(10, Told::Create, 1, 2, path), raw(20, Told::LoopBegin, 1, 0, path), raw(30, Told::Create, 1, 3, 99)});
+  log.last({raw(10, RecordKind::Create, 1, 2, path), raw(20, RecordKind::LoopBegin, 1, 0, path),
+            raw(30, RecordKind::Create, 1, 3, 99)});
   std::vector<Record> found = log.records();
   EXPECT(found.size(), 3u);
   for (size_t i : {size_t{0}, size_t{1}}) {
@@ -227,8 +232,9 @@ TEST(a_block_that_was_not_written_whole_is_the_last_one) {
 
 TEST(items_follow_their_dependences) {
   MadeLog log;
-  log.last({raw(10, Told::Dependences, 3, 0, 3), raw(uint64_t{1} << 56 | 64, Told::Items, 72, 2u << 24, 0, 2),
-            raw(uint64_t{3} << 56 | 80, Told::Items, 0, 0, 0, 1), raw(20, Told::Schedule, 1, 2)});
+  log.last({raw(10, RecordKind::Dependences, 3, 0, 3),
+            raw(uint64_t{1} << 56 | 64, RecordKind::Items, 72, 2u << 24, 0, 2),
+            raw(uint64_t{3} << 56 | 80, RecordKind::Items, 0, 0, 0, 1), raw(20, RecordKind::Schedule, 1, 2)});
   LogFolder folder = log.open();
   Records &thread = *folder.threads.at(0);
   EXPECT(thread.next()->code, 3u);
@@ -236,14 +242,14 @@ TEST(items_follow_their_dependences) {
   EXPECT(thread.log.items[1].address, 72u);
   EXPECT(thread.log.items[1].type, 2u);
   EXPECT(thread.log.items[2].type, 3u);
-  EXPECT(static_cast<int>(thread.next()->told()), static_cast<int>(Told::Schedule));
+  EXPECT(static_cast<int>(thread.next()->record_kind()), static_cast<int>(RecordKind::Schedule));
 }
 
 TEST(time_in_the_recorder_and_for_locks_is_not_the_threads) {
   MadeLog log;
-  log.last({raw(10, Told::Schedule, 1, 2), raw(40, Told::StoodStill, 30),
-            raw(80, Told::LockGot, 7, log_form::wait_of(20), 99, 1), raw(90, Told::LockLeft, 7),
-            raw(100, Told::Schedule, 2, 1)});
+  log.last({raw(10, RecordKind::Schedule, 1, 2), raw(40, RecordKind::StoodStill, 30),
+            raw(80, RecordKind::LockGot, 7, log_form::wait_of(20), 99, 1), raw(90, RecordKind::LockLeft, 7),
+            raw(100, RecordKind::Schedule, 2, 1)});
   LogFolder folder = log.open();
   Records &thread = *folder.threads.at(0);
   thread.next();
@@ -256,9 +262,9 @@ TEST(time_in_the_recorder_and_for_locks_is_not_the_threads) {
 
 TEST(short_records_of_a_lock_name_the_one_of_their_slot) {
   MadeLog log;
-  unsigned like = log_form::slots + log_form::slot_of(99, static_cast<unsigned>(Told::LockGot));
+  unsigned like = log_form::slots + log_form::slot_of(99, static_cast<unsigned>(RecordKind::LockGot));
   Block block;
-  block.add(raw(1000, Told::Schedule, 1, 2)).add(raw(1100, Told::LockGot, 7, log_form::wait_of(20), 99, 1));
+  block.add(raw(1000, RecordKind::Schedule, 1, 2)).add(raw(1100, RecordKind::LockGot, 7, log_form::wait_of(20), 99, 1));
   block.add(log_form::make_short(30, log_form::lock_left, 0))
       .add(log_form::make_short(50, like, log_form::wait_of(40)));
   block.add(log_form::make_short(30, log_form::lock_left, 0)).add(log_form::make_short(10, 7, 1));
@@ -275,8 +281,8 @@ TEST(short_records_of_a_lock_name_the_one_of_their_slot) {
 
 TEST(regions_of_a_thread_have_their_times) {
   MadeLog log;
-  log.last({raw(10, Told::ParallelBegin, 0, 1, 99), raw(20, Told::ImplicitBegin, 1, 1, 2),
-            raw(70, Told::ImplicitEnd, 1, 1), raw(90, Told::ParallelEnd, 0, 1)});
+  log.last({raw(10, RecordKind::ParallelBegin, 0, 1, 99), raw(20, RecordKind::ImplicitBegin, 1, 1, 2),
+            raw(70, RecordKind::ImplicitEnd, 1, 1), raw(90, RecordKind::ParallelEnd, 0, 1)});
   LogFolder folder = log.open();
   while (folder.threads.at(0)->next()) {
   }
@@ -322,26 +328,26 @@ TEST(what_no_recorder_writes_is_refused) {
     return refusal(log);
   };
   constexpr uint64_t now = 9000000;
-  EXPECT(why({raw(now, Told::Schedule), raw(now - 10, Told::Schedule)}), "");
-  EXPECT(why({raw(now, Told::Schedule), raw(now - 2000000, Told::Schedule)}),
+  EXPECT(why({raw(now, RecordKind::Schedule), raw(now - 10, RecordKind::Schedule)}), "");
+  EXPECT(why({raw(now, RecordKind::Schedule), raw(now - 2000000, RecordKind::Schedule)}),
          "thread.0.last is damaged at byte 24: its time is before that of the record before it");
-  EXPECT(why({raw(1000000, Told::Schedule)}), "thread.0.last is damaged at byte 0: its time is none of this run");
-  EXPECT(why({raw(uint64_t{1} << 60, Told::Schedule)}),
+  EXPECT(why({raw(1000000, RecordKind::Schedule)}), "thread.0.last is damaged at byte 0: its time is none of this run");
+  EXPECT(why({raw(uint64_t{1} << 60, RecordKind::Schedule)}),
          "thread.0.last is damaged at byte 0: its time is none of this run");
-  EXPECT(why({raw(now, static_cast<Told>(99))}), "thread.0.last is damaged at byte 0: it is of no kind");
-  EXPECT(why({raw(now, Told::Create, 1, 2, log_form::place_of_path(1))}),
+  EXPECT(why({raw(now, static_cast<RecordKind>(99))}), "thread.0.last is damaged at byte 0: it is of no kind");
+  EXPECT(why({raw(now, RecordKind::Create, 1, 2, log_form::place_of_path(1))}),
          "thread.0.last is damaged at byte 0: its call path is not listed");
-  EXPECT(why({raw(now, Told::StoodStill, 0, UINT32_MAX)}),
+  EXPECT(why({raw(now, RecordKind::StoodStill, 0, UINT32_MAX)}),
          "thread.0.last is damaged at byte 0: the recorder took longer than the run");
   for (float wait : {-1.F, 1e30F, NAN})
-    EXPECT(why({raw(now, Told::LockGot, 7, log_form::wait_of(wait), 99)}),
+    EXPECT(why({raw(now, RecordKind::LockGot, 7, log_form::wait_of(wait), 99)}),
            "thread.0.last is damaged at byte 0: it waited for longer than the run");
 }
 
 TEST(a_full_block_without_all_its_records_is_refused) {
   MadeLog log;
   std::vector<RawRecord> first = schedules(1, in_block), second = schedules(in_block, in_block);
-  second[7] = raw(0, Told::Nothing);
+  second[7] = raw(0, RecordKind::Nothing);
   first.insert(first.end(), second.begin(), second.end());
   log.full(first);
   log.last({});
@@ -366,7 +372,7 @@ TEST(a_head_of_impossible_times_is_refused) {
 
 TEST(threads_without_files) {
   MadeLog log;
-  log.last({raw(10, Told::Schedule, 1, 2)});
+  log.last({raw(10, RecordKind::Schedule, 1, 2)});
   if (system(("cp " + log.folder + "/thread.0.last " + log.folder + "/thread.2.last").c_str())) std::perror("cp");
   LogFolder folder = log.open();
   EXPECT(folder.threads.size(), 3u);
@@ -378,10 +384,10 @@ TEST(threads_without_files) {
 
 TEST(a_region_in_a_thread_of_a_team_is_inside) {
   MadeLog log;
-  log.last({raw(10, Told::ImplicitBegin, 5, 1, 4), raw(20, Told::ParallelBegin, 5, 2, 99),
-            raw(30, Told::ImplicitBegin, 6, 2, 2), raw(40, Told::ImplicitEnd, 6, 2), raw(50, Told::ParallelEnd, 0, 2),
-            raw(60, Told::ImplicitEnd, 5, 1), raw(70, Told::ImplicitBegin, 7, 0, 1, is_initial),
-            raw(80, Told::ParallelBegin, 7, 3, 99)});
+  log.last({raw(10, RecordKind::ImplicitBegin, 5, 1, 4), raw(20, RecordKind::ParallelBegin, 5, 2, 99),
+            raw(30, RecordKind::ImplicitBegin, 6, 2, 2), raw(40, RecordKind::ImplicitEnd, 6, 2),
+            raw(50, RecordKind::ParallelEnd, 0, 2), raw(60, RecordKind::ImplicitEnd, 5, 1),
+            raw(70, RecordKind::ImplicitBegin, 7, 0, 1, is_initial), raw(80, RecordKind::ParallelBegin, 7, 3, 99)});
   LogFolder folder = log.open();
   while (folder.threads.at(0)->next()) {
   }

@@ -9,10 +9,10 @@ TEST(costs_stand_between_what_the_task_meets) {
                 .after(20)
                 .create(0, 1, 3)
                 .after(5)
-                .add(0, Told::SyncBegin, 1, 0, ompt_sync_region_taskwait)
+                .add(0, RecordKind::SyncBegin, 1, 0, ompt_sync_region_taskwait)
                 .run(0, 1, 3, 7)
                 .run(0, 1, 2, 8)
-                .add(0, Told::SyncEnd, 1, 0, ompt_sync_region_taskwait)
+                .add(0, RecordKind::SyncEnd, 1, 0, ompt_sync_region_taskwait)
                 .after(4)
                 .barrier(0, 1)
                 .read();
@@ -29,13 +29,13 @@ TEST(time_in_the_recorder_is_no_cost) {
 
 TEST(a_group_ends_where_its_wait_begins) {
   Run run = Made()
-                .add(0, Told::SyncBegin, 1, 0, ompt_sync_region_taskgroup)
+                .add(0, RecordKind::SyncBegin, 1, 0, ompt_sync_region_taskgroup)
                 .after(3)
                 .create(0, 1, 2)
                 .after(2)
-                .add(0, Told::WaitBegin, 1, 0, ompt_sync_region_taskgroup)
+                .add(0, RecordKind::WaitBegin, 1, 0, ompt_sync_region_taskgroup)
                 .run(0, 1, 2, 9)
-                .add(0, Told::SyncEnd, 1, 0, ompt_sync_region_taskgroup)
+                .add(0, RecordKind::SyncEnd, 1, 0, ompt_sync_region_taskgroup)
                 .after(6)
                 .barrier(0, 1)
                 .read();
@@ -46,16 +46,17 @@ TEST(a_barrier_ends_the_groups_around_it_and_begins_them_anew) {
   constexpr auto group = ompt_sync_region_taskgroup, barrier = ompt_sync_region_barrier_explicit;
   Made made(2);
   for (unsigned thread : {0u, 1u})
-    made.add(thread, Told::SyncBegin, 1 + thread, 0, group)
+    made.add(thread, RecordKind::SyncBegin, 1 + thread, 0, group)
         .create(thread, 1 + thread, 3 + thread)
-        .add(thread, Told::SyncBegin, 1 + thread, 0, barrier);
+        .add(thread, RecordKind::SyncBegin, 1 + thread, 0, barrier);
   made.run(0, 1, 3, 9).run(1, 2, 4, 9);
   for (unsigned thread : {1u, 0u})
-    made.add(thread, Told::SyncEnd, 1 + thread, 0, barrier)
+    made.add(thread, RecordKind::SyncEnd, 1 + thread, 0, barrier)
         .create(thread, 1 + thread, 5 + thread)
-        .add(thread, Told::WaitBegin, 1 + thread, 0, group);
+        .add(thread, RecordKind::WaitBegin, 1 + thread, 0, group);
   for (unsigned thread : {0u, 1u}) made.run(thread, 1 + thread, 5 + thread, 7);
-  for (unsigned thread : {0u, 1u}) made.add(thread, Told::SyncEnd, 1 + thread, 0, group).barrier(thread, 1 + thread);
+  for (unsigned thread : {0u, 1u})
+    made.add(thread, RecordKind::SyncEnd, 1 + thread, 0, group).barrier(thread, 1 + thread);
   Run run = made.read();
   std::string text = text_of(only_region(run));
   for (const char *cost : {"9", "7"}) {
@@ -68,9 +69,9 @@ TEST(a_barrier_ends_the_groups_around_it_and_begins_them_anew) {
 TEST(a_group_whose_begin_is_not_told_has_no_end) {
   Run run = Made()
                 .create(0, 1, 2)
-                .add(0, Told::WaitBegin, 1, 0, ompt_sync_region_taskgroup)
+                .add(0, RecordKind::WaitBegin, 1, 0, ompt_sync_region_taskgroup)
                 .run(0, 1, 2, 9)
-                .add(0, Told::SyncEnd, 1, 0, ompt_sync_region_taskgroup)
+                .add(0, RecordKind::SyncEnd, 1, 0, ompt_sync_region_taskgroup)
                 .after(6)
                 .barrier(0, 1)
                 .read();
@@ -164,6 +165,25 @@ TEST(an_end_that_another_thread_tells_is_of_the_thread_that_ran) {
   EXPECT(region.remarks->count(Remark::ToldLate), 0u);
 }
 
+TEST(an_untied_task_is_left_where_another_thread_takes_it_up) {
+  Run run = Made(2)
+                .create(0, 1, 3, is_untied)
+                .barrier(0, 1)
+                .barrier(1, 2)
+                .go(0, 1, 3)
+                .after(1)
+                .go(1, 2, 3)
+                .after(4)
+                .go(0, 3, 1)
+                .after(5)
+                .go(1, 3, 2, ompt_task_complete)
+                .read();
+  Region &region = only_region(run);
+  EXPECT(text_of(region), "task {\n  work 10\n}\n");
+  EXPECT(events_of(region), "start 0 0\nfinish 0 0\nstart 0 2\nfinish 0 2\nstart 1 1\nfinish 1 1\n");
+  EXPECT(region.remarks->empty(), true);
+}
+
 TEST(an_end_without_a_word_is_before_the_thread_runs_another) {
   Run run = Made(2)
                 .create(0, 1, 3, is_untied)
@@ -202,7 +222,7 @@ TEST(an_untied_task_that_is_left_after_a_taskwait_with_depend_has_waited) {
 TEST(a_task_that_did_not_end_is_remarked_and_open_groups_are_closed) {
   Run run = Made()
                 .create(0, 1, 2)
-                .add(0, Told::SyncBegin, 1, 0, ompt_sync_region_taskgroup)
+                .add(0, RecordKind::SyncBegin, 1, 0, ompt_sync_region_taskgroup)
                 .after(3)
                 .read({1003, 1003, false});
   Region &region = only_region(run);
@@ -216,7 +236,7 @@ TEST(what_only_a_remark_can_tell) {
                 .create(0, 1, 2)
                 .depend(0, 2, {item(ompt_dependence_type_mutexinoutset, 64), item(ompt_dependence_type_in, 0)})
                 .create(0, 1, 0, is_target)
-                .add(0, Told::Cancel, 1)
+                .add(0, RecordKind::Cancel, 1)
                 .go(0, 1, 2)
                 .go(0, 2, 1, ompt_task_detach)
                 .barrier(0, 1)
@@ -233,7 +253,7 @@ TEST(tasks_that_only_make_those_of_a_loop_are_left_out) {
                 .create(0, 1, 3)
                 .after(1)
                 .create(0, 1, 9)
-                .add(0, Told::SyncBegin, 1, 0, ompt_sync_region_taskwait)
+                .add(0, RecordKind::SyncBegin, 1, 0, ompt_sync_region_taskwait)
                 .barrier(1, 2)
                 .go(1, 2, 3)
                 .after(4)
@@ -251,7 +271,7 @@ TEST(tasks_that_only_make_those_of_a_loop_are_left_out) {
                 .go(1, 4, 2, ompt_task_complete)
                 .run(1, 2, 6, 30)
                 .run(1, 2, 7, 50)
-                .add(0, Told::SyncEnd, 1, 0, ompt_sync_region_taskwait)
+                .add(0, RecordKind::SyncEnd, 1, 0, ompt_sync_region_taskwait)
                 .barrier(0, 1)
                 .read();
   Region &region = only_region(run);

@@ -56,7 +56,7 @@ TEST(regions_are_told_in_the_order_of_time) {
   places.put(&codes[0], "steps.c:9");
   EXPECT(codes_of_regions(run).size(), 2u);
   std::string told;
-  tell_regions(run, {500, 1500, 80}, places, [&](std::string_view piece) { told += piece; });
+  print_regions(run, {500, 1500, 80}, places, [&](std::string_view piece) { told += piece; });
   EXPECT(told, "number,text,begin_ns,end_ns,threads,asked,tasks,loops,code_ns,inside,place\n0,0,0,1000,1,0,0,0,80,0,\n"
                "1,0,300,350,4,8,30,2,21,0,steps.c:9\n2,1,400,450,4,8,20,0,14,0,\n"
                "3,0,500,1000,4,8,10,0,7,1,steps.c:9\n");

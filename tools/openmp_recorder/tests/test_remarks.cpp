@@ -20,7 +20,7 @@ TEST(each_remark_moves_a_number_or_says_that_it_does_not) {
 }
 
 TEST(a_remark_as_json) {
-  Seen seen;
+  Occurrences seen;
   seen.add(nullptr);
   EXPECT(remark_in_json(Remark::Detach, seen, Places()), "{\"remark\": \"detach\", \"times\": 1, \"span\": \"low\"}");
   EXPECT(remark_in_json(Remark::RoundedDown, seen, Places()),

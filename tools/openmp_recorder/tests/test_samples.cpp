@@ -71,8 +71,8 @@ TEST(what_is_no_sample_ends_its_window_alone) {
 
 TEST(samples_belong_to_the_segment_that_runs) {
   Program made;
-  made.sample(0, 0, 4000).after(9).add(0, Told::SyncBegin, 1, 0, ompt_sync_region_taskwait);
-  made.add(0, Told::SyncEnd, 1, 0, ompt_sync_region_taskwait).sample(0, 1, 8000).sample(0, 0, 4000).after(9);
+  made.sample(0, 0, 4000).after(9).add(0, RecordKind::SyncBegin, 1, 0, ompt_sync_region_taskwait);
+  made.add(0, RecordKind::SyncEnd, 1, 0, ompt_sync_region_taskwait).sample(0, 1, 8000).sample(0, 0, 4000).after(9);
   made.sample(0, 1, 900, true);
   end_region(made);
   made.times();
@@ -135,6 +135,22 @@ TEST(a_line_is_contended_where_threads_use_it_at_once_and_one_writes) {
   EXPECT(found == std::vector<bool>({true, true, false, false, false, false, false}), true);
 }
 
+TEST(of_what_a_use_takes_as_much_as_other_instructions_is_its_own) {
+  auto at = [](uint64_t code, unsigned times) {
+    return std::vector<Interrupted>(times, Interrupted{0, 0, code, {}, 4000});
+  };
+  std::vector<Interrupted> some = at(10, 6), others = at(20, 2);
+  EXPECT(beyond_others(some, {}), 1.0);
+  EXPECT(beyond_others({}, others), 1.0);
+  EXPECT(beyond_others(some, others), 1 - 2.0 / 6);
+  for (const Interrupted &one : at(30, 4)) others.push_back(one);
+  for (const Interrupted &one : at(10, 9)) others.push_back(one);
+  EXPECT(beyond_others(some, others), 0.5);
+  for (const Interrupted &one : at(12, 2)) some.push_back(one);
+  EXPECT(beyond_others(some, others), 1 - 2 * 3.0 / 8);
+  EXPECT(beyond_others(at(10, 3), at(20, 5)), 0.0);
+}
+
 static std::string calls_of(const std::vector<const char *> &innermost_first) {
   Places places;
   Calls calls;
@@ -161,6 +177,8 @@ static std::string calls_in_modules(const Calls &calls) {
   Places places(&modules);
   places.put_frames(code(100), {{"main", "a.c:1"}});
   places.put_frames(code(101), {{"region", "a.c:2"}});
+  places.put_frames(code(102), {{"grow", "vector:9", false, "", true}});
+  places.put_frames(code(103), {{"solve", "vector:9", true, "", true}});
   return named_calls(calls, places);
 }
 
@@ -174,6 +192,24 @@ TEST(what_the_runtime_does_for_the_program_is_one_function) {
 
 TEST(code_without_a_name_calls_the_system_and_not_the_runtime) {
   EXPECT(calls_in_modules({code(400), code(50), code(200), code(100)}), "libc.so.6@libc.so.6");
+  EXPECT(calls_in_modules({code(50), code(200), code(100)}), "unnamed");
+  EXPECT(calls_in_modules({code(102), code(200), code(100)}), "grow@headers");
+  EXPECT(calls_in_modules({code(400), code(103), code(200), code(100)}), "solve;libc.so.6@libc.so.6");
+}
+
+TEST(code_without_a_name_has_a_line) {
+  Program made;
+  made.sample(0, 0, 4000).after(9);
+  end_region(made);
+  made.times();
+  Stacks stacks;
+  stacks.number({code(50), code(200)});
+  ModulesOfRun modules;
+  read_modules(modules);
+  Places places(&modules);
+  places.put_calls(code(50), {{"", "a.c:7"}});
+  EXPECT(sampled_lines(*made.found.whole, made.found.whole->off, stacks, places),
+         "1 ran 4000 unnamed\n1 at 4000 a.c:7\n");
 }
 
 TEST(code_of_the_recorder_is_none_of_the_program) {

@@ -2,7 +2,7 @@
 #include <cstring>
 
 #include "segment_table.hpp"
-#include "text.hpp"
+#include "program_text.hpp"
 #include "check.hpp"
 #include "whole.hpp"
 
@@ -74,7 +74,7 @@ TEST(a_text_is_written_with_its_segments) {
   end_region(made);
   made.whole();
   Written out;
-  tell_program(
+  print_program(
       *made.found.whole, {1, true, true}, Places(), [](std::string_view) {}, &out.table);
   EXPECT(out.table.finish(), true);
   EXPECT_PART(out.tail(), "{\"segments\": 13, ");

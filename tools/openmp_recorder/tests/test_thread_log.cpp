@@ -47,13 +47,13 @@ class Appended {
   // of another place than before.
   void append(ThreadLog &log, uint32_t number) {
     Moment now{beginning + 10 * number, static_cast<int64_t>(7 * number)};
-    if (number % 3) return log.put(now, Told::Schedule, task_of(number), task_of(number + 1), 0, number % 8);
+    if (number % 3) return log.put(now, RecordKind::Schedule, task_of(number), task_of(number + 1), 0, number % 8);
     auto *code = reinterpret_cast<const void *>(place_of(number));
     uint64_t ticks = log.ticks_since_last(now.at);
-    if (!costs_by_processor && log.like.has(Told::Create, code, 0) && log.takes_short(ticks, task_of(number)))
-      return log.put_like(ticks, LikeRecords::slot(Told::Create, code), number);
-    log.put(now, Told::Create, task_of(number), number, place_of(number), 0);
-    log.like.add(Told::Create, code, 0);
+    if (!costs_by_processor && log.like.has(RecordKind::Create, code, 0) && log.takes_short(ticks, task_of(number)))
+      return log.put_like(ticks, LikeRecords::slot(RecordKind::Create, code), number);
+    log.put(now, RecordKind::Create, task_of(number), number, place_of(number), 0);
+    log.like.add(RecordKind::Create, code, 0);
   }
   uint64_t bytes_in_file() const {
     struct stat told {};
@@ -69,7 +69,7 @@ class Appended {
       bool is_right = record->order == ticks && record->task == task_of(count) &&
                       record->other == (is_made ? count : task_of(count + 1)) &&
                       record->detail == (is_made ? 0 : count % 8) && record->code == (is_made ? place_of(count) : 0) &&
-                      record->told() == (is_made ? Told::Create : Told::Schedule) &&
+                      record->record_kind() == (is_made ? RecordKind::Create : RecordKind::Schedule) &&
                       record->at == static_cast<int64_t>(head.costs == log_form::Costs::Processor ? 7 * count : ticks);
       if (!is_right) return 0;
       count++;
@@ -112,9 +112,9 @@ TEST(time_before_the_first_record_is_appended_behind_it) {
   Look loaded{{1000, 300}, 1, 0}, met{{1000 + 2 * far_apart, 500}, 2, 0};
   log.look_back(loaded, met, {beginning, 0});
   ThreadReader reader(place.folder + "/thread.0", 0, made.head);
-  EXPECT(reader.next()->told() == Told::Create, true);
+  EXPECT(reader.next()->record_kind() == RecordKind::Create, true);
   const Record *passed = reader.next();
-  EXPECT(passed && passed->told() == Told::Passed, true);
+  EXPECT(passed && passed->record_kind() == RecordKind::Passed, true);
   EXPECT(passed->passed.wall, 2 * far_apart);
   EXPECT(passed->passed.processor, 200);
   EXPECT(passed->passed.slept, true);
@@ -154,7 +154,7 @@ class Switching {
   void record() {
     Moment now{later_wall_time(), 0};
     if (log->is_to_look(now.at)) log->look_at_clocks(now);
-    log->put(now, Told::Schedule, 3, 3, 0, 0);
+    log->put(now, RecordKind::Schedule, 3, 3, 0, 0);
   }
   void wait_for_lock() {
     Moment asked{later_wall_time(), 0};
@@ -168,7 +168,7 @@ class Switching {
     ThreadReader reader(place.folder + "/thread.0", 0, made.head);
     std::vector<Passed> out;
     while (const Record *record = reader.next())
-      if (record->told() == Told::Passed) out.push_back(record->passed);
+      if (record->record_kind() == RecordKind::Passed) out.push_back(record->passed);
     return out;
   }
 
@@ -217,7 +217,7 @@ TEST(of_sleep_in_a_lock_and_before_it_no_more_is_told_than_the_lock_was_held) {
 namespace {
 void take_lock(ThreadLog &log, uint64_t at, uint32_t name) {
   log.is_slow = false;
-  log.tell_lock();
+  log.put_lock();
   log.ask_for_lock({&place, name, 1, {at, 0}});
   log.get_lock({at + 20, 0}, name, 1);
 }
@@ -263,7 +263,7 @@ TEST(a_lock_is_told_before_what_its_thread_tells_inside) {
   take_lock(log, beginning + 1000, 7);
   take_lock(log, beginning + 1100, 8);
   leave_lock(log, beginning + 1150, 7);
-  log.put({beginning + 1200, 0}, Told::Schedule, 3, 3, 0, 0);
+  log.put({beginning + 1200, 0}, RecordKind::Schedule, 3, 3, 0, 0);
   leave_lock(log, beginning + 1400, 8);
   for (uint32_t name : {7U, 8U}) {
     auto [use, count] = use_of(made, name);

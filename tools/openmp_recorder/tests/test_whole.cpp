@@ -46,8 +46,8 @@ TEST(what_makes_the_parts_of_a_region_takes_no_time) {
 TEST(a_later_phase_begins_where_its_first_part_does) {
   Program made(2);
   made.after(4);
-  for (Told told : {Told::SyncBegin, Told::SyncEnd}) {
-    for (unsigned thread : {1, 0}) made.add(thread, told, 1 + thread, 0, ompt_sync_region_barrier_explicit).after(1);
+  for (RecordKind kind : {RecordKind::SyncBegin, RecordKind::SyncEnd}) {
+    for (unsigned thread : {1, 0}) made.add(thread, kind, 1 + thread, 0, ompt_sync_region_barrier_explicit).after(1);
   }
   end_region(made.after(5), 2);
   std::string parts = "1 0 100 105\n2 0 100 100\n3 1 100 104\n4 0 100 100\n";
@@ -85,7 +85,7 @@ TEST(pieces_have_their_times_in_a_text_of_any_size_too) {
   loop(made.after(4), 0, 4, {{3, 6 * us}, {1, 5 * us}});
   end_region(made);
   Events few = event_lines((made.times(), *made.found.whole));
-  tell_program(*made.found.whole, {1, true, true}, Places(), [](std::string_view) {});
+  print_program(*made.found.whole, {1, true, true}, Places(), [](std::string_view) {});
   Events many = event_lines(*made.found.whole);
   EXPECT(many.are_whole(), true);
   EXPECT(told_times(*made.found.whole, std::move(many)), told_times(*made.found.whole, std::move(few)));
@@ -93,9 +93,12 @@ TEST(pieces_have_their_times_in_a_text_of_any_size_too) {
 
 TEST(time_off_the_processor_is_told_by_segment) {
   Program made;
-  made.after(50 * us).passed(0, 50 * us, 20 * us, true).add(0, Told::SyncBegin, 1, 0, ompt_sync_region_taskwait);
-  made.add(0, Told::SyncEnd, 1, 0, ompt_sync_region_taskwait).add(0, Told::Divided, 4, 1, 0, 50);
-  made.add(0, Told::Chunk, 4).after(80 * us).passed(0, 80 * us, 40 * us, true, true).add(0, Told::DividedEnd, 0, 1);
+  made.after(50 * us).passed(0, 50 * us, 20 * us, true).add(0, RecordKind::SyncBegin, 1, 0, ompt_sync_region_taskwait);
+  made.add(0, RecordKind::SyncEnd, 1, 0, ompt_sync_region_taskwait).add(0, RecordKind::Divided, 4, 1, 0, 50);
+  made.add(0, RecordKind::Chunk, 4)
+      .after(80 * us)
+      .passed(0, 80 * us, 40 * us, true, true)
+      .add(0, RecordKind::DividedEnd, 0, 1);
   end_region(made);
   made.times();
   EXPECT(off_lines(*made.found.whole, made.found.whole->off),
@@ -105,8 +108,12 @@ TEST(time_off_the_processor_is_told_by_segment) {
 TEST(time_off_the_processor_in_chunks_that_are_joined_is_of_the_first) {
   Program made;
   loop(made, 0, 3, {{1, 300}, {1, 400}});
-  made.add(0, Told::Divided, 1, 1, 0, 50).add(0, Told::Chunk, 1).after(900).add(0, Told::Chunk, 1).after(90);
-  made.passed(0, 60 * us, 40 * us, true).add(0, Told::DividedEnd, 0, 1);
+  made.add(0, RecordKind::Divided, 1, 1, 0, 50)
+      .add(0, RecordKind::Chunk, 1)
+      .after(900)
+      .add(0, RecordKind::Chunk, 1)
+      .after(90);
+  made.passed(0, 60 * us, 40 * us, true).add(0, RecordKind::DividedEnd, 0, 1);
   end_region(made);
   std::string times = made.times();
   EXPECT_PART(times, "\n5 0 800 1790\n");
@@ -125,8 +132,8 @@ TEST(chunks_that_are_written_together_ran_from_the_first_to_the_last) {
 TEST(a_region_that_is_met_again_stands_apart) {
   Program made;
   end_region(made.after(4));
-  made.after(7).add(0, Told::ParallelBegin, 0, 2).add(0, Told::ImplicitBegin, 9, 2, 0, 1).after(3);
-  made.add(0, Told::ImplicitEnd, 9).add(0, Told::ParallelEnd, 0, 2);
+  made.after(7).add(0, RecordKind::ParallelBegin, 0, 2).add(0, RecordKind::ImplicitBegin, 9, 2, 0, 1).after(3);
+  made.add(0, RecordKind::ImplicitEnd, 9).add(0, RecordKind::ParallelEnd, 0, 2);
   EXPECT(made.text(), "work 100\n" + group(parts(4)) + "work 7\n" + group(parts(3)));
   EXPECT(made.found.whole->regions, 2u);
 }
@@ -134,8 +141,8 @@ TEST(a_region_that_is_met_again_stands_apart) {
 TEST(a_barrier_is_the_end_of_a_group_and_what_costs_nothing_leaves_no_trace) {
   Program made(2);
   made.after(4);
-  for (Told told : {Told::SyncBegin, Told::SyncEnd})
-    for (unsigned thread : {0, 1}) made.add(thread, told, 1 + thread, 0, ompt_sync_region_barrier_explicit);
+  for (RecordKind kind : {RecordKind::SyncBegin, RecordKind::SyncEnd})
+    for (unsigned thread : {0, 1}) made.add(thread, kind, 1 + thread, 0, ompt_sync_region_barrier_explicit);
   made.barrier(1, 2);
   end_region(made.after(5));
   EXPECT(made.text(), "work 100\n" + group(parts(4, 2)) + group(parts(5)));
@@ -157,8 +164,10 @@ TEST(a_chunk_of_k_turns_is_k_pieces_of_its_cost) {
 
 TEST(sections_are_told_from_loops) {
   Program made;
-  made.add(0, Told::Divided, 1, 1, static_cast<unsigned>(Divided::Sections), 50).add(0, Told::Chunk, 1).after(2 * us);
-  end_region(made.add(0, Told::DividedEnd, 0, 1));
+  made.add(0, RecordKind::Divided, 1, 1, static_cast<unsigned>(Divided::Sections), 50)
+      .add(0, RecordKind::Chunk, 1)
+      .after(2 * us);
+  end_region(made.add(0, RecordKind::DividedEnd, 0, 1));
   std::string words = "task {  # a section\n        work 2000\n      }\n    }\n";
   EXPECT_PART(made.text(), "taskgroup {  # the sections\n      " + words);
   EXPECT(made.found.whole->sections, 1u);
@@ -210,8 +219,11 @@ TEST(turns_of_less_than_a_microsecond_are_written_together) {
 
 TEST(turns_that_joined_a_chunk_are_told_after_it) {
   Program made;
-  made.add(0, Told::Divided, 5, 1, 0, 50).add(0, Told::Chunk, 1).after(6 * us).add(0, Told::Chunk, 1, 0, 0, 2);
-  end_region(made.after(2 * us).add(0, Told::DividedEnd, 0, 0, 0, 1));
+  made.add(0, RecordKind::Divided, 5, 1, 0, 50)
+      .add(0, RecordKind::Chunk, 1)
+      .after(6 * us)
+      .add(0, RecordKind::Chunk, 1, 0, 0, 2);
+  end_region(made.after(2 * us).add(0, RecordKind::DividedEnd, 0, 0, 0, 1));
   EXPECT_PART(made.text(), of_turns + pieces(3, 2 * us) + pieces(2, us));
   EXPECT(made.found.whole->short_chunks.at(reinterpret_cast<const void *>(50)).times, 3u);
 }
@@ -219,8 +231,8 @@ TEST(turns_that_joined_a_chunk_are_told_after_it) {
 TEST(loops_have_few_turns_where_no_thread_has_more_than_two) {
   for (unsigned turns : {3, 4, 0}) {
     Program made(2);
-    made.add(0, Told::Divided, turns, 1, 0, 50).add(0, Told::Chunk, 1).after(6 * us);
-    end_region(made.add(0, Told::DividedEnd, 0), 2);
+    made.add(0, RecordKind::Divided, turns, 1, 0, 50).add(0, RecordKind::Chunk, 1).after(6 * us);
+    end_region(made.add(0, RecordKind::DividedEnd, 0), 2);
     WholeProgram &whole = *made.whole().whole;
     Recording recording{"sort", "2026-11-24T00:10:02Z", 0, {100, 12 * us}, {100, 24 * us + 100, true}, &whole};
     std::string head = head_of(whole, recording, Options(), Places());
@@ -241,8 +253,12 @@ TEST(turns_that_are_not_told_are_counted_by_the_loop) {
 
 TEST(a_chunk_that_makes_tasks_is_code_of_its_part) {
   Program made;
-  made.add(0, Told::Divided, 2, 1, 0, 50).add(0, Told::Chunk, 1).after(2 * us).add(0, Told::Chunk, 1).after(3 * us);
-  made.create(0, 1, 3).after(4 * us).add(0, Told::DividedEnd, 0, 1);
+  made.add(0, RecordKind::Divided, 2, 1, 0, 50)
+      .add(0, RecordKind::Chunk, 1)
+      .after(2 * us)
+      .add(0, RecordKind::Chunk, 1)
+      .after(3 * us);
+  made.create(0, 1, 3).after(4 * us).add(0, RecordKind::DividedEnd, 0, 1);
   end_region(made.run(0, 1, 3, 5 * us));
   EXPECT_PART(made.text(), "    " + of_turns + pieces(1, 2 * us) + "    }\n    work 3000\n" +
                                "    task {\n      work 5000\n    }\n    work 4000\n");
@@ -252,7 +268,7 @@ TEST(a_chunk_that_makes_tasks_is_code_of_its_part) {
 
 TEST(of_one_thread_all_turns_are_one_chunk_where_none_is_told) {
   Program made;
-  made.add(0, Told::Divided, 4, 1, 0, 50).after(8 * us).add(0, Told::DividedEnd, 0, 1);
+  made.add(0, RecordKind::Divided, 4, 1, 0, 50).after(8 * us).add(0, RecordKind::DividedEnd, 0, 1);
   end_region(made);
   EXPECT_PART(made.text(), "    " + of_turns + pieces(4, 2 * us) + "    }\n");
 }
@@ -267,9 +283,12 @@ TEST(a_loop_whose_chunks_are_not_told_stays_as_it_was_divided) {
 
 TEST(a_region_in_a_task_stands_where_the_task_met_it) {
   Program made;
-  made.create(0, 1, 3).barrier(0, 1).go(0, 1, 3).after(2).add(0, Told::ParallelBegin, 3, 2);
-  made.add(0, Told::ImplicitBegin, 9, 2, 0, 1).after(5).add(0, Told::ImplicitEnd, 9).add(0, Told::ParallelEnd, 0, 2);
-  made.after(3).go(0, 3, 1, ompt_task_complete).add(0, Told::ParallelEnd, 0, 1);
+  made.create(0, 1, 3).barrier(0, 1).go(0, 1, 3).after(2).add(0, RecordKind::ParallelBegin, 3, 2);
+  made.add(0, RecordKind::ImplicitBegin, 9, 2, 0, 1)
+      .after(5)
+      .add(0, RecordKind::ImplicitEnd, 9)
+      .add(0, RecordKind::ParallelEnd, 0, 2);
+  made.after(3).go(0, 3, 1, ompt_task_complete).add(0, RecordKind::ParallelEnd, 0, 1);
   EXPECT_PART(made.text(), "    task {\n      work 2\n      taskgroup {\n        " + part +
                                "          work 5\n        }\n      }\n      work 3\n    }\n");
   EXPECT(made.found.whole->root->total, 110);
@@ -278,8 +297,11 @@ TEST(a_region_in_a_task_stands_where_the_task_met_it) {
 
 TEST(a_region_without_a_place_in_another_is_the_programs) {
   Program made;
-  made.after(2).add(0, Told::ParallelBegin, 1, 2, is_runtimes).add(0, Told::ImplicitBegin, 9, 2, 0, 1).after(5);
-  made.add(0, Told::ImplicitEnd, 9).add(0, Told::ParallelEnd, 0, 2);
+  made.after(2)
+      .add(0, RecordKind::ParallelBegin, 1, 2, is_runtimes)
+      .add(0, RecordKind::ImplicitBegin, 9, 2, 0, 1)
+      .after(5);
+  made.add(0, RecordKind::ImplicitEnd, 9).add(0, RecordKind::ParallelEnd, 0, 2);
   end_region(made.after(3));
   EXPECT_PART(made.text(),
               "    work 2\n    taskgroup {\n      " + part + "        work 5\n      }\n    }\n    work 3\n");
@@ -289,7 +311,11 @@ TEST(a_region_without_a_place_in_another_is_the_programs) {
 TEST(tasks_and_loops_outside_of_regions_are_code_of_the_root) {
   Program made;
   end_region(made.after(4));
-  made.add(0, Told::ImplicitBegin, 9, 0, is_initial).after(1).create(0, 9, 3, is_undeferred).run(0, 9, 3, 5).after(2);
+  made.add(0, RecordKind::ImplicitBegin, 9, 0, is_initial)
+      .after(1)
+      .create(0, 9, 3, is_undeferred)
+      .run(0, 9, 3, 5)
+      .after(2);
   loop(made, 0, 2, {{2, 4 * us}}, 0);
   EXPECT_PART(made.text(), "work 1\ntask if(0) {\n  work 5\n}\nwork 4002\n");
   EXPECT(made.found.outside.times, 0u);
@@ -297,7 +323,7 @@ TEST(tasks_and_loops_outside_of_regions_are_code_of_the_root) {
 
 TEST(a_program_that_was_killed_in_a_region_has_what_ran_until_then) {
   Program made(2);
-  made.after(4).barrier(1, 2).after(3).add(0, Told::Cancel, 1);
+  made.after(4).barrier(1, 2).after(3).add(0, RecordKind::Cancel, 1);
   made.whole({0, 1, false, true});
   EXPECT(text_of(*made.found.whole), "work 100\n" + group(parts(7) + parts(4)));
 }
@@ -321,8 +347,11 @@ TEST(tasks_are_those_of_their_region_and_chunks_are_none) {
 TEST(a_thread_that_the_program_made_is_beside_the_first) {
   Program made(2);
   end_region(made.after(4), 2);
-  made.add(1, Told::ImplicitBegin, 9, 0, is_initial).add(1, Told::ParallelBegin, 9, 2);
-  made.add(1, Told::ImplicitBegin, 10, 2, 0, 1).after(6).add(1, Told::ImplicitEnd, 10).add(1, Told::ParallelEnd, 0, 2);
+  made.add(1, RecordKind::ImplicitBegin, 9, 0, is_initial).add(1, RecordKind::ParallelBegin, 9, 2);
+  made.add(1, RecordKind::ImplicitBegin, 10, 2, 0, 1)
+      .after(6)
+      .add(1, RecordKind::ImplicitEnd, 10)
+      .add(1, RecordKind::ParallelEnd, 0, 2);
   std::string words = made.text();
   EXPECT(words.substr(0, 5), "task ");
   EXPECT_PART(words, "  taskgroup {\n    " + part + "      work 6\n    }\n  }\n");
@@ -333,9 +362,12 @@ TEST(by_the_processors_clock_it_has_its_code_outside_of_regions) {
   set_record_clock({true, 0});
   Program made(2);
   end_region(made.after(4), 2);
-  made.add(1, Told::ImplicitBegin, 9, 0, is_initial).add(1, Told::ParallelBegin, 9, 2);
-  made.add(1, Told::ImplicitBegin, 10, 2, 0, 1).after(6).add(1, Told::ImplicitEnd, 10).add(1, Told::ParallelEnd, 0, 2);
-  made.after(5).add(1, Told::ImplicitEnd, 9, 0, is_initial);
+  made.add(1, RecordKind::ImplicitBegin, 9, 0, is_initial).add(1, RecordKind::ParallelBegin, 9, 2);
+  made.add(1, RecordKind::ImplicitBegin, 10, 2, 0, 1)
+      .after(6)
+      .add(1, RecordKind::ImplicitEnd, 10)
+      .add(1, RecordKind::ParallelEnd, 0, 2);
+  made.after(5).add(1, RecordKind::ImplicitEnd, 9, 0, is_initial);
   std::string words = made.text();
   set_record_clock({false, 0});
   EXPECT_PART(words, part + "  work 1004\n  taskgroup {\n    " + part + "      work 6\n    }\n  }\n  work 5\n}\n");
@@ -365,11 +397,11 @@ TEST(what_does_not_fit_the_commands_has_longer_pieces_where_the_span_stays) {
 TEST(turns_that_wait_for_each_other_are_tasks_with_depend) {
   Program made(2);
   auto turn = [](uint64_t number, ompt_dependence_type_t type) { return std::vector<DependItem>{item(type, number)}; };
-  for (unsigned thread : {0, 1}) made.add(thread, Told::Divided, 2, 1, 0, 50).add(thread, Told::Chunk, 1);
+  for (unsigned thread : {0, 1}) made.add(thread, RecordKind::Divided, 2, 1, 0, 50).add(thread, RecordKind::Chunk, 1);
   made.after(5 * us).depend(0, 0, turn(0, ompt_dependence_type_source));
   made.depend(1, 0, turn(0, ompt_dependence_type_sink));
   made.after(4 * us).depend(1, 0, turn(1, ompt_dependence_type_source));
-  for (unsigned thread : {0, 1}) made.add(thread, Told::DividedEnd, 0, 1);
+  for (unsigned thread : {0, 1}) made.add(thread, RecordKind::DividedEnd, 0, 1);
   end_region(made, 2);
   std::string words = made.text();
   EXPECT(span_of(*made.found.whole), 100 + 9 * us);
@@ -387,11 +419,11 @@ TEST(turns_that_wait_for_each_other_are_tasks_with_depend) {
 TEST(the_first_wait_of_a_thread_begins_with_its_chunk) {
   Program made(2);
   auto turn = [](uint64_t number, ompt_dependence_type_t type) { return std::vector<DependItem>{item(type, number)}; };
-  for (unsigned thread : {0, 1}) made.add(thread, Told::Divided, 2, 1, 0, 50).add(thread, Told::Chunk, 1);
+  for (unsigned thread : {0, 1}) made.add(thread, RecordKind::Divided, 2, 1, 0, 50).add(thread, RecordKind::Chunk, 1);
   made.after(5 * us).depend(0, 0, turn(0, ompt_dependence_type_source));
   made.after(40 * us).stood_still(41 * us).depend(1, 0, turn(0, ompt_dependence_type_sink));
   made.after(4 * us).depend(1, 0, turn(1, ompt_dependence_type_source));
-  for (unsigned thread : {0, 1}) made.add(thread, Told::DividedEnd, 0, 1);
+  for (unsigned thread : {0, 1}) made.add(thread, RecordKind::DividedEnd, 0, 1);
   end_region(made, 2);
   made.whole();
   EXPECT(made.found.whole->remarks[Remark::WaitsForTurns].times, 1u);
@@ -399,12 +431,12 @@ TEST(the_first_wait_of_a_thread_begins_with_its_chunk) {
 
 TEST(a_turn_in_order_ends_where_the_next_begins_though_it_is_told_later) {
   Program made(2);
-  for (unsigned thread : {0, 1}) made.add(thread, Told::Divided, 2, 1, 0, 50).add(thread, Told::Chunk, 1);
-  made.after(3 * us).add(0, Told::LockGot, 7, 0, order_of_turns).after(2 * us);
-  made.add(1, Told::LockGot, 7, 0, order_of_turns).after(us).add(0, Told::LockLeft, 7, 0, order_of_turns);
-  made.after(us).add(1, Told::LockLeft, 7, 0, order_of_turns);
-  for (unsigned thread : {0, 1}) made.add(thread, Told::DividedEnd, 0, 1).barrier(thread, 1 + thread);
-  made.add(0, Told::ParallelEnd, 0, 1);
+  for (unsigned thread : {0, 1}) made.add(thread, RecordKind::Divided, 2, 1, 0, 50).add(thread, RecordKind::Chunk, 1);
+  made.after(3 * us).add(0, RecordKind::LockGot, 7, 0, order_of_turns).after(2 * us);
+  made.add(1, RecordKind::LockGot, 7, 0, order_of_turns).after(us).add(0, RecordKind::LockLeft, 7, 0, order_of_turns);
+  made.after(us).add(1, RecordKind::LockLeft, 7, 0, order_of_turns);
+  for (unsigned thread : {0, 1}) made.add(thread, RecordKind::DividedEnd, 0, 1).barrier(thread, 1 + thread);
+  made.add(0, RecordKind::ParallelEnd, 0, 1);
   std::string times = made.times();
   EXPECT_PART(times, " 0 3100 5100\n");
   EXPECT_PART(times, " 1 5100 7100\n");
@@ -412,14 +444,14 @@ TEST(a_turn_in_order_ends_where_the_next_begins_though_it_is_told_later) {
 
 TEST(turns_that_take_a_lock_in_order_are_a_chain_there) {
   Program made(2);
-  for (unsigned thread : {0, 1}) made.add(thread, Told::Divided, 2, 1, 0, 50).add(thread, Told::Chunk, 1);
+  for (unsigned thread : {0, 1}) made.add(thread, RecordKind::Divided, 2, 1, 0, 50).add(thread, RecordKind::Chunk, 1);
   made.after(3 * us);
   for (unsigned thread : {0, 1}) {
-    made.add(thread, Told::LockGot, 7, 0, order_of_turns).after(2 * us);
-    made.add(thread, Told::LockLeft, 7, 0, order_of_turns).add(thread, Told::DividedEnd, 0, 1);
+    made.add(thread, RecordKind::LockGot, 7, 0, order_of_turns).after(2 * us);
+    made.add(thread, RecordKind::LockLeft, 7, 0, order_of_turns).add(thread, RecordKind::DividedEnd, 0, 1);
     made.barrier(thread, 1 + thread);
   }
-  made.add(0, Told::ParallelEnd, 0, 1);
+  made.add(0, RecordKind::ParallelEnd, 0, 1);
   made.whole();
   EXPECT(made.found.whole->pieces, 6u);
   EXPECT(span_of(*made.found.whole), 100 + 5 * us + 2 * us);  // the second thread is told to come there after 5

@@ -41,10 +41,10 @@ TEST(a_large_text_is_told_piece_by_piece_and_not_indented) {
                 .read();
   Region &region = only_region(run);
   std::string words;
-  tell_program(region, {1, true, false}, Places(), [&](std::string_view piece) { words += piece; });
+  print_program(region, {1, true, false}, Places(), [&](std::string_view piece) { words += piece; });
   EXPECT(words, "omptasks 1\ntask {\nwork 3\ntask {\nwork 4\n}\n}\n");
   EXPECT(region.numbers.empty(), true);
-  tell_program(region, {1, true, true}, Places(), [](std::string_view) {});
+  print_program(region, {1, true, true}, Places(), [](std::string_view) {});
   EXPECT(region.numbers == std::vector<uint32_t>({0, 4, 1, 3, 2}), true);  // of the root, its child, and the child's
 }
 
@@ -71,7 +71,7 @@ TEST(deeply_nested_tasks_are_written_line_by_line) {
   add_up(region);
   EXPECT(size_of(region).blocks, deep);
   size_t bytes = 0, pieces = 0;
-  tell_program(region, {1, true, false}, Places(), [&](std::string_view piece) { bytes += piece.size(), pieces++; });
+  print_program(region, {1, true, false}, Places(), [&](std::string_view piece) { bytes += piece.size(), pieces++; });
   EXPECT(bytes, std::string("omptasks 1\n").size() + deep * std::string("work 1\ntask {\n}\n").size());
   EXPECT(pieces > 1, true);
 }

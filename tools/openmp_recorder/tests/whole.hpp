@@ -25,7 +25,7 @@ class Program : public Made {
     return found;
   }
   // Of records of which nothing runs by itself later than the last.
-  Run &let_go() {
+  Run &released() {
     HowToRead how{UINT64_MAX, true, began, now(), nullptr, true, began, now(), 0, {}, nullptr, "/tmp/spanprof_let_go"};
     found = read({}, how);
     if (found.whole->before && found.whole->before->are_in_vain) {
@@ -37,7 +37,7 @@ class Program : public Made {
     return found;
   }
   std::string text() {  // the same where what is over was let go, with its times
-    std::string few = text_of(*let_go().whole), few_times = times_of(*found.whole), all = text_of(*whole().whole);
+    std::string few = text_of(*released().whole), few_times = times_of(*found.whole), all = text_of(*whole().whole);
     EXPECT(few, all);
     EXPECT(few_times, times_of(*found.whole));
     return all;
@@ -55,12 +55,12 @@ class Program : public Made {
 
 inline void end_region(Made &made, unsigned many = 1, uint32_t region = 1) {
   for (unsigned i = 0; i < many; i++) made.barrier(i, 1 + i);
-  made.add(0, Told::ParallelEnd, 0, region);
+  made.add(0, RecordKind::ParallelEnd, 0, region);
 }
 
 inline void loop(Made &made, unsigned thread, uint32_t count, const std::vector<std::pair<uint32_t, int64_t>> &chunks,
                  uint32_t region = 1) {
-  made.add(thread, Told::Divided, count, region, 0, 50);
-  for (auto &[turns, cost] : chunks) made.add(thread, Told::Chunk, turns).after(cost);
-  made.add(thread, Told::DividedEnd, 0, region);
+  made.add(thread, RecordKind::Divided, count, region, 0, 50);
+  for (auto &[turns, cost] : chunks) made.add(thread, RecordKind::Chunk, turns).after(cost);
+  made.add(thread, RecordKind::DividedEnd, 0, region);
 }

@@ -2,48 +2,50 @@
 import contextlib
 import itertools
 import json
-import math
 import pathlib
 import time
+from dataclasses import asdict
 
 from spanprof.command import Console
+from spanprof.conformance.emit.alone import Alone
+from spanprof.conformance.generate.directed import directed_programs, first_comment
+from spanprof.conformance.generate.random_programs import seeds_in_turn
+from spanprof.conformance.generate.text_writer import text_of
+from spanprof.conformance.generate.variants import in_variant
+from spanprof.conformance.judge.discarding import completed, record_of
+from spanprof.conformance.judge.explain import explain
+from spanprof.conformance.judge.segments import Table
+from spanprof.conformance.judge.verdicts import Missing
+from spanprof.conformance.opening import entry_points, found_judge, open_bench, plan_of, program_in, unit_in
 from spanprof.conformance.report import store, tables
+from spanprof.conformance.report.facts import facts_of, of_mutants, tested
+from spanprof.conformance.report.publish import publish
+from spanprof.conformance.report.results import Results
+from spanprof.conformance.report.texts import Report
 from spanprof.conformance.run import self_checking
 from spanprof.conformance.run.built import built_in
 from spanprof.conformance.run.campaign import (cases_of, directed_cases, random_cases, run_cases, self_checking_cases,
                                                telling_first, tried)
-from spanprof.conformance.emit.alone import Alone
-from spanprof.conformance.generate.directed import directed_programs, first_comment
-from spanprof.conformance.judge.discarding import completed, record_of
-from spanprof.conformance.judge.explain import explain
-from spanprof.conformance.report.facts import facts_of, of_mutants, tested
-from spanprof.conformance.generate.random_programs import seeds_in_turn
 from spanprof.conformance.run.journal import Journal
-from spanprof.conformance.judge.verdicts import Missing
 from spanprof.conformance.run.launch import read_logs
 from spanprof.conformance.run.mutant_campaigns import Campaigns
+from spanprof.conformance.run.progress import rough
 from spanprof.conformance.run.mutants import build_mutants, mutants_of, mutated
-from spanprof.conformance.opening import entry_points, found_judge, open_bench, plan_of, program_in, unit_in
-from spanprof.conformance.report.publish import publish
-from spanprof.conformance.report.results import Results
-from spanprof.conformance.report.texts import Report
 from spanprof.conformance.run.reproduce import Limits, reproduce_all
-from spanprof.conformance.judge.segments import Table
 from spanprof.conformance.run.sparing import SparingBench
-from spanprof.conformance.generate.text import text_of
 from spanprof.conformance.run.took import taken
-from spanprof.conformance.generate.variants import in_variant
 
 CONSOLE = Console("spanprof-conformance")
 THREADS_ALONE = 4   # of a program by itself
 STOPPED = 130       # the status where somebody stopped a test
 FIRST_CASES = 300   # of random programs, among which those that tell most come first
 OF_RUNS = 0.8       # of the seconds of a test; the rest is for smaller programs and the report
-MOST_SHRUNK, SHRINK_RUNS, SHRINK_TRIES = 8, 20, 300  # of smaller programs
+MOST_SHRUNK, SHRINK_RUNS, SHRINK_TRIES, SHRINK_SECONDS = 8, 20, 300, 60  # of smaller programs
 
 
 def command_run(options, folder):
     """Runs directed, self-checking and random programs, and shrinks those that fail."""
+    CONSOLE.say(f"{options.cc}: first what all programs share is built")
     bench = open_bench(options, folder)
     plan = plan_of(options, bench)
     what = tested(options, bench, plan.settings)
@@ -61,7 +63,7 @@ def command_run(options, folder):
 def cases_of_run(options, kinds):
     """The directed part and random programs, those that tell most first, how many there are, without a list of all."""
     seeds = seeds_in_turn(options.seed, options.programs)
-    randoms = random_cases(seeds, kinds, options.tasks, options.without)
+    randoms = random_cases(seeds, kinds, options.tasks)
     first = [*directed_cases(kinds, options.tasks, options.match)[0], *self_checking_cases(options.match),
              *itertools.islice(randoms, FIRST_CASES)]
     more = max(0, options.programs * len(options.tasks) - FIRST_CASES)
@@ -75,6 +77,7 @@ def run_all(options, bench, plan, journal):
         results.merge(store.from_json(line))
     begun, before = time.monotonic(), set(results.outcomes)
     cases, count = cases_of_run(options, bench.toolchain.kinds)
+    CONSOLE.say(f"{count - len(before)} cases, {options.jobs} at once, for {rough(options.seconds)} at most")
     left = (case for case in cases if (case.name, case.variant) not in before)
     is_whole = True
     try:
@@ -93,9 +96,8 @@ def run_all(options, bench, plan, journal):
 def shrink_failures(options, bench, results):
     """One small program for each kind of failure, the most frequent kinds first, as long as there is time."""
     failures = [group.smallest for _, group in results.most_frequent()][:MOST_SHRUNK]
-    left = max(0, getattr(options, "seconds", math.inf) - taken().wall) * options.jobs / max(1, len(failures))
-    limits = Limits(SHRINK_RUNS, SHRINK_TRIES, min(options.shrink_seconds, left))
-    return reproduce_all(bench, failures if options.shrink_seconds else [], limits, options.jobs)
+    left = max(0, options.seconds - taken().wall) * options.jobs / max(1, len(failures))
+    return reproduce_all(bench, failures, Limits(SHRINK_RUNS, SHRINK_TRIES, min(SHRINK_SECONDS, left)), options.jobs)
 
 
 def command_mutants(options, folder):
@@ -121,7 +123,7 @@ def command_mutants(options, folder):
 
 def try_built(options, bench):
     """The same with runtimes that were built from changed sources, in campaigns."""
-    mutants, plan, seen = built_in(options.built, options.only), plan_of(options, bench), {}
+    mutants, plan, seen = built_in(options.built), plan_of(options, bench), {}
     wrong = False
     print("\n".join(tables.table(tables.BUILT_HEADS, [])))
     with contextlib.ExitStack() as stack:
@@ -130,12 +132,12 @@ def try_built(options, bench):
         campaigns = Campaigns(SparingBench(bench), options, plan,
                               [(line["mutant"], line["campaign"]) for line in journal.lines],
                               lambda name, fields: journal.add({"mutant": name, "campaign": fields}))
-        for mutant, caught in campaigns.run(mutants):
-            print(tables.built_line(mutant, caught), flush=True)
-            seen[mutant.name] = caught.as_json()
+        for mutant, campaign in campaigns.run(mutants):
+            print(tables.built_line(mutant, campaign), flush=True)
+            seen[mutant.name] = {**asdict(campaign), "ways": campaign.ways()}
             if options.report:
                 pathlib.Path(options.report).write_text(json.dumps(seen, indent=1) + "\n")
-            wrong |= mutant.is_wrong != caught.surely(campaigns.most(mutant))
+            wrong |= mutant.is_wrong != bool(campaign.failed)
     return 1 if wrong else 0
 
 

@@ -1,20 +1,18 @@
 """The words of the command line."""
 import argparse
 import fnmatch
-import math
 import os
 
 from spanprof.conformance.run import self_checking
 from spanprof.conformance.generate.directed import directed_files
 from spanprof.conformance.judge.expected import USUAL
-from spanprof.conformance.generate.random_programs import CONSTRUCTS
 from spanprof.conformance.run.settings import SETTINGS
 from spanprof.conformance.generate.variants import VARIANTS
 from spanprof.version import Version
 
 AFTER = """tools/conformance/README.md says what is tried and judged. Exit status 0: all runs were accepted, or all
 mutants caught; 1: not all; 2: nothing could be tried, or wrong arguments; 130: stopped by Ctrl-C."""
-MOST_THREADS = 64
+MOST_THREADS, FIVE_MINUTES = 64, 300
 REPORT = "write the report to these files: .md, .xml (JUnit)"
 
 
@@ -110,7 +108,6 @@ def add_runtime_options(name, group):
     if name == "mutants":
         add("--built", default="", metavar="FOLDER",
             help="runtimes built from changed sources by checks/programs/mutants, in place of entry points")
-        add("--only", type=lambda words: words.split(","), default=[], metavar="NAME,..", help="only these mutants")
 
 
 def add_program_options(name, group):
@@ -122,18 +119,14 @@ def add_program_options(name, group):
         help="how tasks are written (all three; mixed: every other task is untied)")
     add("--match", type=pattern, default="*", metavar="PATTERN",
         help="only directed and self-checking programs with such names (*)")
-    few = name == "mutants"
-    add("--programs", type=natural, default=20 if few else 100, metavar="N",
-        help="number of random programs (%s)" % ("20 in a campaign of --built" if few else "100"))
-    add("--without", type=some_of(CONSTRUCTS), default=[], metavar="CONSTRUCT,..",
-        help=f"leave these constructs out of random programs: {', '.join(CONSTRUCTS)}")
+    add("--programs", type=natural, default=20, metavar="N", help="number of random programs (20)")
 
 
 def add_run_options(name, group):
     add = group.add_argument
     add("--threads", type=thread_counts, default=(2, 4) if name == "mutants" else (1, 2, 4, 16), metavar="N,..",
         help="numbers of threads (1,2,4,16; for mutants 2,4)")
-    add("--runs", type=positive, default=8, metavar="N", help="runs of each program on each number of threads (8)")
+    add("--runs", type=positive, default=4, metavar="N", help="runs of each program on each number of threads (4)")
     add("--settings", type=some_of(SETTINGS), default=[], metavar=",".join(SETTINGS),
         help="how programs are started (each of those for the runtime in turn)")
     add("--seed", type=natural, default=1, metavar="N",
@@ -142,13 +135,9 @@ def add_run_options(name, group):
         help="a run without an event for so long counts as hung (10)")
     add("--jobs", type=positive, default=max(1, (os.cpu_count() or 1) // 2), metavar="N",
         help="programs that run at once (half as many as processors)")
-    if name in ("run", "mutants"):
-        add("--seconds", type=positive, default=math.inf, metavar="N",
-            help="limit of a campaign (none)" if name == "mutants" else
-            "limit of the whole test (none): the most telling programs run first")
-    if name == "mutants":
-        add("--campaigns", type=positive, default=5, metavar="N",
-            help="campaigns on each runtime of --built, until two programs of one have failed, or half of these (5)")
+    add("--seconds", type=positive, default=FIVE_MINUTES, metavar="N",
+        help="limit of the test of each runtime of --built (300)" if name == "mutants" else
+        "limit of the whole test (300): the most telling programs run first")
 
 
 def add_result_options(name, group):
@@ -157,6 +146,3 @@ def add_result_options(name, group):
         help="known failures, which do not count (tools/conformance/expected.txt; /dev/null: none)")
     add("--keep", default="", metavar="FOLDER", help="keep built programs there, and reuse them")
     add("--report", type=report_files, default="", metavar="FILE,..", help=REPORT)
-    if name != "mutants":
-        add("--shrink-seconds", type=natural, default=60, metavar="N",
-            help="limit of shrinking the program of each kind of failure (60; 0: do not shrink)")

@@ -18,8 +18,9 @@ ONE_AT_A_TIME = {
     **dict.fromkeys(("rand", "random", "srand", "srandom"), "a generator for each thread, such as rand_r"),
     **dict.fromkeys(("printf", "vprintf", "puts", "putchar"), "a buffer for each thread, printed at its end"),
     **dict.fromkeys(("localtime", "localtime_r", "mktime", "strftime"), "call it once for many")}
-OUTERMOST = ("main", "_start")
+OUTERMOST = ("main", "_start", "unnamed")    # the last is code that a compiler made of a construct
 OF_MPI = re.compile("P?MPI_(?!Init)")
+MPI_BEGINS = re.compile("P?MPI_Init")
 # The system's loader, and constructors of static objects.
 BEFORE_MAIN = re.compile(r"_GLOBAL__(sub_)?I_|__cxx_global_var_init|[^;]*@ld-linux")
 OF_COMPILERS = re.compile(r"(\.omp_outlined|\._omp_fn|\.part\.|\.constprop\.|\.isra\.|\.cold|\.lto_priv| \[clone ).*$")
@@ -67,8 +68,9 @@ def is_of_ranks(calls):
     return OF_MPI.match(calls[-1]) is not None
 
 
-def is_before_main(calls):
-    return BEFORE_MAIN.match(calls[0]) is not None
+def is_start(calls):
+    """Whether they are of the program's start, which no change divides: before its first function, or of MPI's."""
+    return bool(BEFORE_MAIN.match(calls[0]) or MPI_BEGINS.match(calls[-1]))
 
 
 def samples_in(path):

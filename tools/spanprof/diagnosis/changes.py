@@ -6,10 +6,10 @@ from typing import Tuple
 from spanprof import client
 from spanprof.diagnosis.calls import innermost
 from spanprof.diagnosis.losses import holds_neighbours, kind_of_starved, most_shared
-from spanprof.diagnosis.places import OF_THREADS, SERIAL, SHARE, in_text
+from spanprof.diagnosis.places import LEAST_HOLDERS, OF_THREADS, SERIAL, SHARE, in_text
 from spanprof.errors import Fault
+from spanprof.program_text import BARRIER
 from spanprof.progress import Progress, each
-from spanprof.text import BARRIER
 from spanprof.whatif.creating import costs_for
 from spanprof.whatif.numbers import greedy_end
 from spanprof.whatif.requests import Request, applied, changes
@@ -19,7 +19,6 @@ from spanprof.whatif.trials import best_first, seconds_for
 MOST = 4            # places of a kind that are tried
 MOST_TOGETHER = 8   # of one function
 LARGE = 40000       # statements, from which on changes are tried one by one, while there is time
-LEAST_HOLDERS = 3   # tasks that hold an item to write
 
 
 @dataclass(frozen=True)
@@ -69,8 +68,8 @@ def splits(facts):
 
 
 def readers(facts):
-    """Names that many tasks of a place hold to write, and may only read, and places of tasks that hold neighbours' so.
-    """
+    """Names that many tasks of a place hold to write, and may only read, and places of tasks that hold so what those
+    before them have."""
     found = {}
     for place in facts.places.values():
         shared = most_shared(place)
@@ -78,7 +77,8 @@ def readers(facts):
             found[shared[1]] = max(found.get(shared[1], 0), place.items[shared])
     for name in sorted(found, key=lambda name: -found[name])[:MOST]:
         yield single("in-for-inout", name)
-    for place in sorted(filter(holds_neighbours, facts.places.values()), key=lambda place: -place.cost)[:MOST]:
+    found = [place for place in facts.places.values() if holds_neighbours(place) or not place.moving and place.read_at]
+    for place in sorted(found, key=lambda place: -place.cost)[:MOST]:
         yield single("read-only", place.name)
 
 

@@ -6,10 +6,10 @@ import re
 from dataclasses import dataclass
 from typing import List, Optional
 
-from spanprof.account_words import lasting
 from spanprof.diagnosis.places import lines_between
 from spanprof.diagnosis.schema import milliseconds
 from spanprof.diagnosis.sentences import LABEL, WIDTH, change_sentence, lost_sentence, shortened
+from spanprof.durations import lasting
 
 ONE_RUN = 0.05      # of the time, that two runs of one program may differ
 MOST_PLACES = 2

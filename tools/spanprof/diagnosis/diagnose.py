@@ -55,11 +55,11 @@ def taken_by_others(facts, found):
 
 
 def with_alike(loss, found):
-    """Serial code is one cause, wherever it runs: at its place it is named, and all of it counts but an interpreter's,
-    which is one by itself."""
-    if loss.kind != "serial" or is_interpreter(loss.place):
+    """Serial code is one cause, wherever it runs, and so are tasks that run immediately: at its place it is named, and
+    all of it counts but an interpreter's, which is one by itself."""
+    if loss.kind not in ("serial", "undeferred") or is_interpreter(loss.place):
         return loss
-    return loss._replace(time=sum(one.time for one in found if one.kind == "serial" and not is_interpreter(one.place)))
+    return loss._replace(time=sum(one.time for one in found if one.kind == loss.kind and not is_interpreter(one.place)))
 
 
 def with_interpreter(facts, found, causes):

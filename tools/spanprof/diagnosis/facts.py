@@ -9,22 +9,23 @@ from itertools import compress
 from typing import Dict, List, Optional
 
 from spanprof import client
-from spanprof.account import account_of
-from spanprof.account_program import NoAccount
-from spanprof.diagnosis.calls import Sampled, calls_of, is_before_main, is_of_ranks, plain
+from spanprof.breakdown_program import NoBreakdown
+from spanprof.diagnosis.calls import RUNTIME, Sampled, calls_of, is_of_ranks, is_start, plain
 from spanprof.diagnosis.library_locks import set_library_locks
 from spanprof.diagnosis.lock_times import locks_of
+from spanprof.diagnosis.losses import divided
 from spanprof.diagnosis.own_code import interpreter_of
 from spanprof.diagnosis.places import A_START, AROUND_REGIONS, TASK, in_text, read_places
 from spanprof.diagnosis.undisturbed import is_disturbed, set_disturbed, starved_alone
 from spanprof.errors import reading
 from spanprof.head import head_of
 from spanprof.idle import idle_by_place, most_at_once
+from spanprof.program_text import BEGINNING
 from spanprof.recording import document
 from spanprof.regions import program_of, union
 from spanprof.segment_table import code_in
-from spanprof.text import BEGINNING
 from spanprof.text_file import TextFile
+from spanprof.time_breakdown import breakdown_of
 from spanprof.whatif.numbers import numbers_of
 
 RUNTIMES = {"llvm": "LLVM", "gnu": "gcc"}
@@ -89,6 +90,7 @@ class Facts:
     needless: set = field(default_factory=set)      # waits that may be, by the source
     usage: Optional[dict] = None
     stolen: float = 0.0                 # of the machine's processors' time, by its host
+    others: Optional[int] = None        # time that other programs, and the host, used its processors
     coverage: Optional[float] = None
     runs: int = 1
     true_one: Optional[List[int]] = None        # elapsed times of unrecorded runs on one thread
@@ -245,10 +247,22 @@ def set_ranks(facts):
 
 
 def set_starting(facts):
-    """What runs before the program's first function is no code of its own that samples saw."""
-    ran = facts.calls.ran.get(BEGINNING, {})
-    for calls in filter(is_before_main, list(ran)):
-        del ran[calls]
+    """The start of a program is no code of its own that samples saw."""
+    for found in (facts.calls.ran.get(BEGINNING, {}), facts.calls.slept.get(BEGINNING, {})):
+        for calls in filter(is_start, list(found)):
+            del found[calls]
+
+
+def set_waiting(facts):
+    """Threads that wait for locks of OpenMP are sampled as code is: what samples in the runtime are more than code is
+    none of it."""
+    for name, ran in facts.calls.ran.items():
+        code = facts.places[name].cost - facts.asleep_by.get(name, 0) if name in facts.places else 0
+        waited = min(facts.at_locks, 1000 * sum(ran.values()) - code) // 1000
+        waits = {calls: time for calls, time in ran.items() if calls[-1] == RUNTIME}
+        if waited > 0 and waits:
+            for calls, time in divided(max(0, sum(waits.values()) - waited), waits).items():
+                ran[calls] = time
 
 
 def set_allocating(facts):
@@ -275,15 +289,22 @@ def stolen_share(host, elapsed):
     return (host.get("stolen_ns") or 0) / whole if whole else 0.0
 
 
+def used_by_others(host, usage):
+    """Of the time in which the machine's processors were not idle; None where that is not known."""
+    busy = host.get("busy_ns")
+    own = (usage.get("user_ns") or 0) + (usage.get("system_ns") or 0)
+    return None if busy is None else max(0, busy - own) + (host.get("stolen_ns") or 0)
+
+
 def set_meta(facts, meta):
-    threads, usage = meta.get("threads") or {}, meta.get("usage")
+    threads, usage, host = meta.get("threads") or {}, meta.get("usage"), meta.get("host") or {}
     facts.asked, facts.processors = threads.get("asked"), meta.get("processors")
     facts.runtime = runtime_name(meta.get("runtime") or {})
     facts.is_of_gcc = facts.is_of_gcc or facts.runtime.startswith(RUNTIMES["gnu"])
     facts.is_imported = bool(meta.get("imported"))
     facts.runs = len(meta.get("runs") or [1])
     facts.usage = usage or None
-    facts.stolen = stolen_share(meta.get("host") or {}, meta.get("elapsed_ns") or 0)
+    facts.stolen, facts.others = stolen_share(host, meta.get("elapsed_ns") or 0), used_by_others(host, usage or {})
     facts.true_one, facts.true_many = meta.get("true_one"), meta.get("true_many")
     facts.cost_on_one = meta.get("cost_on_one")
 
@@ -360,10 +381,11 @@ def facts_of(recording, end_of=greedy_end):
     set_allocating(facts)
     facts.interpreter = interpreter_of(facts)
     try:
-        set_breakdown(facts, account_of(head, numbers["work"], document(recording), program.names))
+        set_breakdown(facts, breakdown_of(head, numbers["work"], document(recording), program.names))
         if is_disturbed(facts) and head.clock == OWN_CLOCK:
             set_disturbed(facts, starved_alone(path, program.names, facts.threads))
-    except NoAccount:
+    except NoBreakdown:
         set_by_greedy(facts, head, end_of(path, facts.threads))
+    set_waiting(facts)
     set_library_locks(facts)
     return facts

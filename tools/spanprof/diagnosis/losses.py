@@ -5,11 +5,12 @@ Threads x elapsed time = code as on one thread + the losses.
 from collections import Counter
 from typing import NamedTuple
 
+from spanprof.diagnosis.allocation import allocating, most_allocating
 from spanprof.diagnosis.calls import A_SAMPLE, RUNTIME, in_system, shares
 from spanprof.diagnosis.causes import BUSY, BY_KIND, SECOND
 from spanprof.diagnosis.own_code import of_interpreter, serial_places
-from spanprof.diagnosis.places import A_START, ALLOCATION, AROUND_REGIONS, OF_THREADS, OWN, SERIAL, SHARE
-from spanprof.text import BEGINNING, TURNS, where
+from spanprof.diagnosis.places import A_START, AROUND_REGIONS, OF_THREADS, OWN, SERIAL, SHARE
+from spanprof.program_text import BEGINNING, TURNS, where
 
 MAPPING = ("mmap", "munmap", "mremap", "madvise", "brk", "sbrk")
 SMALL = 5000            # nanoseconds of code in a task, below which creating and starting it costs much beside it
@@ -30,7 +31,7 @@ BEYOND_CACHES = 1 << 27     # bytes
 UNSHARED = 0.02         # of the samples of code, below which it uses no line that other threads use
 NO_CAUSE = ("recorder", "startup")
 FINE = ("small_tasks", "creation")      # of all tasks together
-OF_WAITS = ("small_tasks", "small_regions", "exclusion", "sleep", "too_many_threads")
+OF_WAITS = ("small_tasks", "small_regions", "exclusion", "sleep", "too_many_threads", "affinity")
 OF_SHAPE = ("too_few_tasks", "imbalance", "dependence", "wait")
 
 
@@ -80,9 +81,16 @@ def at_serial(facts):
 
 
 def mostly_small(facts):
-    """Whether the code of an average task is so short that creating it costs much, and tasks so many that it counts."""
-    is_short = facts.tasks > MANY * facts.threads and 0 < average_task(facts) < SMALL
-    return is_short and facts.tasks * A_TASK > MUCH * facts.elapsed
+    """Whether the code of an average task is so short that creating it costs much, and deferred tasks so many that it
+    counts: others cost little more than a call."""
+    tasks = deferred(facts)
+    is_short = tasks > MANY * facts.threads and 0 < average_task(facts) < SMALL
+    return is_short and tasks * A_TASK > MUCH * facts.elapsed
+
+
+def deferred(facts):
+    """How many tasks are."""
+    return facts.tasks - sum(place.undeferred for place in facts.places.values())
 
 
 def average_task(facts):
@@ -117,9 +125,6 @@ def kind_of_task(facts, place):
     if not facts.has_tasks:
         return "serial"
     if 2 * place.undeferred > place.tasks > 0:
-        return "undeferred"
-    made = facts.places.get("task at " + place.at)
-    if not place.tasks and made and 2 * made.undeferred > made.tasks > 0:
         return "undeferred"
     if (is_in_a_row(place) or holds_neighbours(place)) and place.tasks > facts.threads:
         return "dependence"
@@ -167,7 +172,8 @@ def kind_without_place(facts):
     if keeps_waiting(facts) or mostly_small(facts):
         return fine_kind(facts)
     place = heaviest(facts)
-    return "undeferred" if place and 2 * place.undeferred > place.tasks > 0 else ""
+    is_cut = place and 2 * place.undeferred > place.tasks > 0
+    return "undeferred" if is_cut and deferred(facts) <= MANY * facts.threads else ""
 
 
 def begins_often(facts, place):
@@ -180,8 +186,8 @@ def begins_often(facts, place):
 def kind_of_delayed(facts, name):
     """Why a thread idled though this code was ready."""
     place = facts.places.get(name)
-    if kind_of_preempted(facts) == "too_many_threads":
-        return "too_many_threads"
+    if kind_of_preempted(facts) != "machine":
+        return kind_of_preempted(facts)
     if not place and often_begun(facts):
         return "small_regions"
     if place and is_divided(place):
@@ -287,7 +293,7 @@ def idle_losses(facts):
 def starting_share(facts, name):
     """Of the time for which threads were delayed at a place: as many regions start and end there."""
     place = facts.places.get(name)
-    is_often = place and place.pieces > MANY * facts.threads and kind_of_preempted(facts) != "too_many_threads"
+    is_often = place and place.pieces > MANY * facts.threads and kind_of_preempted(facts) == "machine"
     return facts.starting_by.get(name, 0.0) if is_often else 0.0
 
 
@@ -314,8 +320,12 @@ def missing_threads(facts):
 
 
 def kind_of_preempted(facts):
-    """More threads than processors preempt each other."""
-    return "too_many_threads" if facts.processors and facts.most_threads > facts.processors else "machine"
+    """More threads than processors preempt each other, and so do those that share one: then other programs used less
+    than what they waited for."""
+    if facts.processors and facts.most_threads > facts.processors:
+        return "too_many_threads"
+    is_idle = facts.others is not None and facts.preempted - facts.others > BUSY * (facts.code + facts.preempted)
+    return "affinity" if is_idle else "machine"
 
 
 def off_losses(facts):
@@ -426,12 +436,14 @@ def calls_of_runtime(facts, name):
     times += [(lock.times, "lock", lock_name(lock)) for lock in facts.locks]
     if place.tasks and place.kind != SHARE or place.is_creating:
         times.append((facts.tasks, fine_kind(facts), heaviest_name(facts)))
+    if place.kind == OF_THREADS and begins_often(facts, place):
+        times.append((place.pieces, "small_regions", name))
     return times
 
 
 def handling(facts):
-    """By kind and place, what the runtime took of code, by samples: chunks of loops, locks, small tasks. Without them
-    taking short chunks is up to half of it."""
+    """By kind and place, what the runtime took of code, by samples: chunks of loops, locks, small tasks. Without them,
+    as of texts of many chunks, taking short ones is up to half of it."""
     out = {}
     if not facts.calls.ran:
         out = {("small_chunks", "%s at %s" % (TURNS, at)): min(A_TAKING * times, facts.code // 2)
@@ -444,30 +456,6 @@ def handling(facts):
             if times * A_TASK > time:
                 out[tuple(loss)] = out.get(tuple(loss), 0) + time
     return out
-
-
-def allocating(facts):
-    """By line, what allocating and freeing memory took of code in parallel, by samples."""
-    out = {}
-    for name, lines in facts.calls.allocated.items():
-        place, sampled = facts.places.get(name), sum(facts.calls.ran.get(name, {}).values())
-        if place and place.kind != SERIAL and sampled:
-            code = max(0, place.cost - facts.asleep_by.get(name, 0))
-            for line, time in lines.items():
-                line = ALLOCATION + line.partition(" ")[0]
-                out[line] = out.get(line, 0) + code * time // sampled
-    return out
-
-
-def most_allocating(facts):
-    """The line that takes most; empty where it is not known."""
-    found = allocating(facts)
-    line = max(found, key=found.get, default="")
-    return line if line != ALLOCATION else ""
-
-
-def parallel_code(facts):
-    return sum(place.cost for place in facts.places.values() if place.kind != SERIAL)
 
 
 def in_code_losses(facts):
@@ -505,7 +493,8 @@ def losses(facts):
     found = idle_losses(facts) + off_losses(facts) + in_code_losses(facts) + \
         [Loss("recorder", "", facts.recorder), Loss("startup", "", facts.outside)]
     missing = missing_threads(facts)
-    one_place = {"too_many_threads": crowded_region(facts), **dict.fromkeys(FINE, heaviest_name(facts)),
+    one_place = {**dict.fromkeys(("too_many_threads", "affinity"), crowded_region(facts)),
+                 **dict.fromkeys(FINE, heaviest_name(facts)),
                  "too_few_threads": max(missing, key=missing.get, default=""),
                  "small_regions": most_often(facts, found)}
     known = {"undeferred": heaviest_name(facts)}      # without times too

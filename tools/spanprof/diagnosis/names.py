@@ -7,8 +7,8 @@ from spanprof.diagnosis.calls import A_SAMPLE, LEAST, NO_NAME, OF_SYSTEM, OFFSET
 from spanprof.diagnosis.directives import DIRECTIVE, construct_of, directive_line, is_needless, own_item
 from spanprof.diagnosis.own_code import called_code
 from spanprof.diagnosis.places import ALLOCATION, OF_THREADS, OWN, SERIAL, lines_between
+from spanprof.program_text import BEGINNING, where
 from spanprof.source_lines import LONGEST, STRING, after_directive, code_lines, line_of, statement_end
-from spanprof.text import BEGINNING, where
 
 FUNCTION = re.compile(r"^[A-Za-z_][\w\s:*&<>,~]*\b%s\s*\(")
 COMMENT = re.compile(r"\s*//.*")
@@ -25,7 +25,7 @@ HOT = 0.8               # of the samples of code, that the lines have which are 
 NO_CALLS = ("if", "for", "while", "switch", "return", "sizeof")
 KINDS = ("in", "out", "inout", "inoutset", "mutexinoutset", "depobj")
 WRITES = {"out": "inout"}       # as the recorder writes it
-UNNAMED = "the same item"
+UNNAMED = "one item"
 
 
 def code_at(name):
@@ -83,7 +83,7 @@ class Suspect(NamedTuple):
     def __str__(self):
         if self.is_atomic:
             return "the atomic at " + self.at
-        return "%s next to other threads' (%s)" % self[:2] if self.item else "what %s writes" % self.at
+        return "%s next to others' (%s)" % self[:2] if self.item else "what %s writes" % self.at
 
     @property
     def instead(self):
@@ -99,6 +99,13 @@ class Names:
 
     def __init__(self, facts, sources):
         self.facts, self.sources = facts, sources
+
+    def body(self, name, function):
+        """The first and the last line of a function in a file; 0 where it is not found."""
+        lines = self.lines_of(name)
+        begin = self.function_begin(name, function, len(lines))
+        opened = next((here for here in range(begin, len(lines) + 1) if "{" in lines[here - 1]), 0) if begin else 0
+        return (begin, block_end(lines, opened + 1)) if opened else (0, 0)
 
     def lines_of(self, name):
         return self.sources.lines_of(name) if self.sources else []
@@ -306,9 +313,9 @@ class Names:
         written, index = directive.get(kind, [])[::-1 if self.facts.is_of_gcc else 1], place.positions.get(item)
         return "%s: %s" % (written[index] if index is not None and index < len(written) else (kind, UNNAMED))
 
-    def of_neighbours(self, place):
-        """What tasks hold of their neighbours to write, as the source spells it."""
+    def read_only(self, place):
+        """What tasks hold to write, and may only read, as the source spells it."""
         written = items_in(self.directive(place.name, place.at)).get("inout", [])
         last = len(written) - 1
-        at = sorted(last - one if self.facts.is_of_gcc else one for one in place.moving_at)
+        at = sorted(last - one if self.facts.is_of_gcc else one for one in place.read_at)
         return [written[one][1] for one in at if 0 <= one <= last] or [UNNAMED]

@@ -2,9 +2,9 @@
 that it loads without lines."""
 import re
 
-from spanprof.account_words import lasting
 from spanprof.diagnosis.calls import A_SAMPLE, LEAST, OF_SYSTEM, OUTERMOST, shares, together
 from spanprof.diagnosis.places import SERIAL
+from spanprof.durations import lasting
 
 # The file of a program, or of a library as samples have it.
 INTERPRETER = re.compile(r"(R|(python|octave-cli|octave-gui|perl|ruby|guile|lua)[-.\d]*|"

@@ -8,16 +8,18 @@ from operator import add
 from typing import List, Tuple
 
 from spanprof.marks import CREATING
+from spanprof.program_text import BARRIER, OF_A_THREAD, construct, is_share, named
 from spanprof.segment_table import Code
 from spanprof.source_lines import line_of
-from spanprof.text import BARRIER, OF_A_THREAD, construct, is_share, named
 
 SERIAL, OF_THREADS, TASK, SHARE = "serial", "of threads", "task", "share"
 AFTER_REGION = "after the " + BARRIER
 ALLOCATION = "allocation at "       # before a line that allocates memory
 OWN = named("task", OF_A_THREAD)    # the name of a thread's own code, in a text the same in all regions
 ALONE = 0.05        # of the largest piece of a phase: where the others together have less, one thread runs it
+ABOUT = 0.25        # of a turn, by which those of one length differ
 A_START = 50000     # nanoseconds: a thread starts a region's code in less, or goes on after it
+LEAST_HOLDERS = 3   # tasks that hold an item to write
 AROUND_REGIONS = (OWN, AFTER_REGION)
 
 
@@ -34,6 +36,7 @@ class Place:
     longest: int = 0        # of threads' own code: the cost of the largest pieces, one of each phase of the region
     alone: int = 0          # of these, in phases that one thread runs
     uneven: int = 0         # of divided code, or threads' own: what all would cost more that had as much as the largest
+    by_a_turn: int = 0      # of this, where they had a turn or none, all of one length, and some of them one more
     tasks: int = 0          # that begin with it
     undeferred: int = 0     # of these
     inoutset: int = 0       # of these, with such an item
@@ -71,6 +74,20 @@ class Place:
     def last_end(self):
         """The construct that ends most of its code; empty where none does."""
         return max(self.ends, key=lambda name: self.ends[name], default="")
+
+    @property
+    def read_at(self):
+        """Positions of what its tasks hold to write, and may only read: of neighbours, or what several tasks have at the
+        same one, while they have more names at another."""
+        if self.moving_at:
+            return self.moving_at
+        names, tasks = Counter(), Counter()
+        for item, count in self.items.items():
+            if item[0] == "inout":
+                names[self.positions.get(item, 0)] += 1
+                tasks[self.positions.get(item, 0)] += count
+        most = max(names.values(), default=0)
+        return {at for at, number in names.items() if 1 < number < most and LEAST_HOLDERS * number <= tasks[at]}
 
     @property
     def has_several(self):
@@ -154,7 +171,14 @@ def set_longest(program):
         place.alone += cost * (whole[phase] - cost < ALONE * cost)
 
 
-def uneven_of(program):
+def is_by_a_turn(costs, threads):
+    """Whether it is as if they had a turn of a loop, or none, and some of them one more."""
+    less = [max(costs) - one for one in costs + [0] * (threads - len(costs))]
+    return any(2 * max(less) > length and all(min(one, abs(length - one)) < ABOUT * length for one in less)
+               for length in (max(costs), max(costs) / 2))
+
+
+def set_uneven(program):
     """Of divided code, and of threads' own, by place: phase by phase, what they had less than that with the most."""
     code, width, parts = program.code, len(program.kinds), Counter(program.code.groups)
     numbers, had, begins, part = firsts(program.kinds), defaultdict(int), [*code.own, len(code)], -1
@@ -164,19 +188,16 @@ def uneven_of(program):
         while segment >= begins[part + 1]:
             part += 1
         had[part * width + numbers[kind]] += cost
-    most, whole = {}, defaultdict(int)
+    shares = defaultdict(list)
     for both, cost in had.items():
         part, number = divmod(both, width)
-        if part < 0:    # before all parts
-            continue
-        share = code.groups[part] * width + number
-        whole[share] += cost
-        if cost >= most.get(share, 0):
-            most[share] = cost
-    out = Counter()
-    for share, cost in most.items():
-        out[program.kinds[share % width]] += parts[share // width] * cost - whole[share]
-    return out
+        if part >= 0:   # not before all parts
+            shares[code.groups[part] * width + number].append(cost)
+    for share, costs in shares.items():
+        place, threads = program.places[program.kinds[share % width]], parts[share // width]
+        less = threads * max(costs) - sum(costs)
+        place.uneven += less
+        place.by_a_turn += less * is_by_a_turn(costs, threads)
 
 
 def read_places(code, costs):
@@ -193,8 +214,7 @@ def read_places(code, costs):
         if number is not None:      # a thread's own code has none
             program.places[names[number]].add_tasks(count, clauses, again)
     set_longest(program)
-    for name, cost in uneven_of(program).items():
-        program.places[name].uneven = cost
+    set_uneven(program)
     return program
 
 

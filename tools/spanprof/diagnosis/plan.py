@@ -8,7 +8,7 @@ from spanprof.diagnosis.losses import (in_code_losses, is_in_a_row, kind_of_task
                                        share_of_start)
 from spanprof.diagnosis.own_code import own_share
 from spanprof.diagnosis.places import SERIAL, TASK
-from spanprof.text import BEGINNING
+from spanprof.program_text import BEGINNING
 
 STEPS = 3
 SPREAD = 0.16       # of a predicted time: nine of ten were within
@@ -23,6 +23,7 @@ IN_A_ROW = 0.9      # tasks that are made to run one after the other by items of
 AT_THE_ENDS = 0.4   # code before all constructs, or after them, mostly reads, fills or frees
 ALIKE = 0.7         # of the gain of a change, that another one in its place brings at least
 LATER = 0.08        # of the time before it, that a change on top of another brings at least
+SHARED = 0.6        # tasks that hold the same to write, and items of their own, seldom have to be divided
 FEW_HOLD = 0.4      # items that fewer than half of a place's tasks hold are seldom read alone
 
 
@@ -91,6 +92,8 @@ def likely(facts, seen, change):
         return LIKELY[change.kind] if 2 * place.items[most_shared(place)] >= place.tasks else FEW_HOLD
     if change.kind == "drop-depend" and is_in_a_row(facts.places[facts.key(change.place)]):
         return IN_A_ROW
+    if change.kind == "split" and facts.places[facts.key(change.place)].read_at:
+        return SHARED
     return AT_THE_ENDS if is_at_an_end(facts, change.place) else LIKELY[change.kind]
 
 

@@ -2,20 +2,21 @@
 import re
 from collections import Counter
 
-from spanprof.account_words import lasting
+from spanprof.diagnosis.allocation import allocating, parallel_code
 from spanprof.diagnosis.calls import NO_NAME, OFFSET, ONE_AT_A_TIME, SHARES, innermost, together
 from spanprof.diagnosis.causes import BY_KIND, CHEAPER, ESTIMATED, NAMES, SECOND
 from spanprof.diagnosis.facts import Region
-from spanprof.diagnosis.losses import (A_TASK, MANY, allocating, average_task, has_many_faults, holds_neighbours,
-                                       is_bandwidth, is_in_a_row, is_maker, losses, maps_memory, missing_threads,
-                                       most_shared, parallel_code, useful_time)
+from spanprof.diagnosis.losses import (A_TASK, MANY, average_task, has_many_faults, holds_neighbours, is_bandwidth,
+                                       is_in_a_row, is_maker, losses, maps_memory, missing_threads, most_shared,
+                                       useful_time)
 from spanprof.diagnosis.own_code import interpreted_share, is_interpreter, words_of_interpreter
 from spanprof.diagnosis.places import AFTER_REGION, SERIAL, SHARE
 from spanprof.diagnosis.plan import holder
-from spanprof.diagnosis.sleeps import words_of_sleep
+from spanprof.diagnosis.sleeps import place_of_sleep, sleeper, words_of_sleep
+from spanprof.durations import lasting
 from spanprof.head import grouped
+from spanprof.program_text import SECTION, where
 from spanprof.source_lines import line_of
-from spanprof.text import SECTION, where
 
 WIDTH, MOST_LINES = 100, 8
 LABEL = 6
@@ -32,6 +33,7 @@ TRIED = {
     "defer": "defer more tasks at {at}: change its if or final",
     "outside": "create the tasks of {at} in a parallel region, in single",
     "task": "make {where} a task of its own"}
+BOUNDS = {"about": "about %s", "or less": "%s or less", "at best": "%s"}     # the first of several holds for all
 ONE_BY_ONE = r"schedule\s*\(\s*(\w+\s*:\s*)?(dynamic|guided)"
 SPLIT = {"serial": "parallelise {where}: loop or tasks", "imbalance": "divide the longest tasks at {where}",
          "too_few_tasks": "divide each task of {where} into {usable}",
@@ -53,7 +55,9 @@ def words_of_items(names, place):
     """What the tasks of a place hold to write, and how many of them."""
     shared = most_shared(place)
     if holds_neighbours(place) and not is_in_a_row(place):
-        return {"item": "inout: " + names.of_neighbours(place)[0], "many": "neighbours"}
+        return {"item": "inout: " + names.read_only(place)[0], "many": "neighbours"}
+    if place.read_at and not is_in_a_row(place):
+        return {"item": "inout: " + names.read_only(place)[0], "many": "all"}
     count = max(place.items[shared], place.again) if shared else 0
     return {"item": names.item(place, shared) if shared else "",
             "many": "all" if count == place.tasks else grouped(count)}
@@ -80,7 +84,13 @@ def words_of_schedule(names, name, place):
         return "smaller sections at %s, the longest first" % at
     if is_share and (names.facts.is_of_gcc or re.search(ONE_BY_ONE, names.directive(name, place.at))):
         return "smaller chunks at %s, the longest first" % at
-    return "schedule(dynamic) at %s, or smaller chunks" % at
+    return "schedule(dynamic) at %s, or %s" % (at, "collapse loops" if may_be_few(place) else "smaller chunks")
+
+
+def may_be_few(place):
+    """Whether a loop of gcc's, whose turns nothing tells, may have hardly more of them than there are threads: another
+    schedule divides none."""
+    return place is not None and place.kind != SHARE and 2 * place.by_a_turn > place.uneven
 
 
 def few_turns(facts, name, place):
@@ -90,7 +100,9 @@ def few_turns(facts, name, place):
 
 def words_of_division(facts, name, place):
     few = few_turns(facts, name, place)
-    return "too few iterations, %d on %d threads" % tuple(few) if few else "its work is divided unevenly"
+    if few:
+        return "too few iterations, %d on %d threads" % tuple(few)
+    return "few iterations, or uneven ones" if may_be_few(place) else "its work is divided unevenly"
 
 
 def words_of_kernel(facts, usage):
@@ -236,7 +248,8 @@ def words(facts, names, name):
     """What a sentence may have, of a place, a wait, a lock or a region."""
     place = facts.places.get(name)
     out = dict(words_of_run(facts), where=names.place(name), at=names.at(name), item="",
-               in_what=words_of_sleep(facts, name, names.place(name)), tasks="", many="", largest="", average="",
+               sleeper=sleeper(names, name), sleeps_at=place_of_sleep(names, name),
+               in_what=words_of_sleep(facts, name, sleeper(names, name)), tasks="", many="", largest="", average="",
                contended="", chunks="", a_chunk="", of_turns="",
                alone=words_of_interpreter(facts) if is_interpreter(name) else "the others wait",
                suspect=words_of_suspect(facts, names),
@@ -289,7 +302,7 @@ def change_sentence(facts, names, step):
         item = names.item(holder(facts, place), ("inout", place))
         found["item"] = item.partition(": ")[2]
     if kind == "read-only":
-        found["item"] = "in: " + ", ".join(names.of_neighbours(facts.places[step.place]))
+        found["item"] = "in: " + ", ".join(names.read_only(facts.places[step.place]))
     found["waits"] = waits(names, [one.word for one in step.change.requests])
     return TRIED["outside" if kind == "defer" and not facts.tasks_in_regions else kind].format(**found)
 
@@ -305,14 +318,14 @@ def bound_word(kind):
 
 def after_words(step):
     """What the run takes after a step."""
-    bound = {"about": "about %s", "or less": "%s or less", "at best": "at best %s"}[bound_word(step.kind)]
-    return ("%s" if step.change else bound) % lasting(step.after)
+    word = bound_word(step.kind)
+    at_best = "at best " if word == "at best" and not step.change else ""
+    return at_best + (lasting(step.after) if step.change else BOUNDS[word] % lasting(step.after))
 
 
-def best_words(found):
-    """The time at best, where what is lost may cost more than its own time, or less."""
-    bounds = {bound_word(loss.kind) for loss in found.causes}
-    return ("about %s" if "about" in bounds else "%s or less" if "or less" in bounds else "%s") % lasting(found.best)
+def word_of_best(found):
+    """What the time at best is, where what is lost may cost more than its own time, or less."""
+    return min((bound_word(loss.kind) for loss in found.causes), key=list(BOUNDS).index, default="at best")
 
 
 def gain_words(step):
@@ -345,7 +358,7 @@ def words_of_threads(facts):
 def first_line(found):
     facts = found.facts
     return "%s: %s on %s%s. At best %s." % (facts.program or "program", lasting(found.now), words_of_threads(facts),
-                                            speed_words(facts), best_words(found))
+                                            speed_words(facts), BOUNDS[word_of_best(found)] % lasting(found.best))
 
 
 def lost_lines(found, names):

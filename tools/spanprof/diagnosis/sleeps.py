@@ -1,10 +1,13 @@
-"""In which calls code slept: its sleep divided by the stacks of its samples."""
+"""In which calls code slept, and at which lines: its sleep divided by the stacks of its samples."""
+import re
 from collections import Counter
 
-from spanprof.diagnosis.calls import OF_SYSTEM, caller_of
+from spanprof.diagnosis.calls import OF_SYSTEM, caller_of, is_of_program
+from spanprof.diagnosis.directives import COMMENT, code_of
 
 MOST = 0.8      # of a place's sleep, from which on one call is told as all of it
 LEAST = 0.1     # from which on a call is told beside another
+MOST_LINES = 2
 
 
 def by_call(sampled):
@@ -27,3 +30,33 @@ def words_of_sleep(facts, name, told):
     if len(found) == 1 or found[0][1] >= MOST:
         return "in " + named[0]
     return "in " + " and ".join("%s (%.0f %%)" % (one, 100 * share) for one, (_, share) in zip(named, found))
+
+
+def sleeper(names, name):
+    """What waits: a place's code; or where that is told by a function that it ran, and that slept little, the one that
+    slept."""
+    place, slept = names.facts.places.get(name), names.facts.calls.slept.get(name, {})
+    ran = place and names.ran(place)
+    within = sum(time for calls, time in slept.items() if ran and ran.function in calls)
+    most = max(slept, key=slept.get, default=())
+    function = next(filter(is_of_program, most[-2::-1]), "")
+    return function if ran and function and 2 * within < sum(slept.values()) else names.place(name)
+
+
+def lines_of_sleep(names, name):
+    """Of the call with most of the sleep in the function that makes it, or where that is inlined in its file; nothing
+    where the source does not show it."""
+    place, slept = names.facts.places.get(name), names.facts.calls.slept.get(name, {})
+    most = max(slept, key=slept.get, default=())
+    file = names.stretch(place)[0] if place and len(most) > 1 else ""
+    call = re.compile(r"\b%s\s*\(" % re.escape(most[-1].partition(OF_SYSTEM)[0])) if file else None
+    lines = names.lines_of(file)
+    found = [number for number, line in enumerate(lines, 1) if call and call.search(COMMENT.sub("", code_of(line)))]
+    begin, end = names.body(file, most[-2]) if found else (0, 0)
+    return file, [number for number in found if begin <= number <= end] or found
+
+
+def place_of_sleep(names, name):
+    """The lines of the call, at most two; those of the place where they are not known."""
+    file, found = lines_of_sleep(names, name)
+    return "%s:%s" % (file, " and ".join(map(str, found))) if 0 < len(found) <= MOST_LINES else names.at(name)

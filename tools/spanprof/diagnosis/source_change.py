@@ -38,7 +38,7 @@ def diff(names, step):
         rest = re.sub(r"\s+", " ", DEPEND.sub("", directive)).strip()
         return ([directive], [rest]) if directive != rest else ([], [])
     if change.kind == "read-only":
-        items, rest = names.of_neighbours(place), directive
+        items, rest = names.read_only(place), directive
         for item in items:
             rest, is_there = without_item(rest, item)
             if not is_there:

@@ -1,10 +1,10 @@
 """What threads starved of a run's own doing, and what because other programs took processors: costs are without the
 time in which a thread was preempted, so a schedule of the text tells how the run would have gone without them."""
 from spanprof import client
-from spanprof.account import Rows
 from spanprof.diagnosis.losses import divided
 from spanprof.idle import idle_by_place
 from spanprof.text_file import TextFile
+from spanprof.time_breakdown import Rows
 
 LITTLE = 0.02       # of the time in code: threads preempted for less keep others waiting for little
 MOST = 300000       # segments of a text whose schedule is asked for: some seconds

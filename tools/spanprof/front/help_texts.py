@@ -32,6 +32,7 @@ Ask about a text of any size; spanprof_large has all commands above but `run`, t
   bounds        bounds on 1 to P threads
   account       where the time of a run's threads went
   graph         each segment's task, cost and predecessors
+  places        each place's work, its part of the critical path and its least slack
 
 spanprof help COMMAND describes a command, spanprof --version prints the version.
 """
@@ -57,6 +58,8 @@ USAGES = {
     "bounds": ("spanprof bounds --upto P" + FILE, "A table (CSV) of both bounds for 1 to P threads, at most 1,024."),
     "account": ("spanprof account [--rows | --path]" + FILE,
                 "The time breakdown of a timed document, its rows, or the run's own path."),
+    "places": ("spanprof places" + FILE, "A table (CSV) of places: their segments, work, part of the critical path and "
+               "least slack."),
     "graph": ("spanprof graph" + FILE, "A table (CSV) of the segments: task, cost, and predecessors with blanks "
               "between them.\n`spanprof graph --dot FILE` writes it for Graphviz."),
 }

@@ -9,7 +9,7 @@ from typing import NamedTuple, Tuple
 
 from spanprof.errors import Fault
 from spanprof.imports.slices import Flow, Slice, tasks_of
-from spanprof.imports.tasks import Told
+from spanprof.imports.tasks import Imported
 
 BLANKS = re.compile(r"[\s,]*")
 EVENTS = re.compile(r'"traceEvents"\s*:\s*\[')
@@ -160,4 +160,4 @@ def read(path, process=None):
         raise Fault("%s: no slices (events `X`, or `B` and `E`)%s" % (path, " of this process" * (process is not None)))
     tasks, wrong = tasks_of(trace.slices, trace.flows)
     trace.wrong += wrong
-    return Told("", tasks, notes=list(notes_on(trace)))
+    return Imported("", tasks, notes=list(notes_on(trace)))

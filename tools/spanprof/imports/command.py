@@ -2,17 +2,17 @@
 import argparse
 import os
 
-from spanprof.account_words import lasting
 from spanprof.answers import Answers
 from spanprof.command import Console, end_with
 from spanprof.diagnosis.sentences import shortened
+from spanprof.durations import lasting
 from spanprof.errors import Fault
 from spanprof.head import counted
 from spanprof.imports.folder import write
 from spanprof.imports.formats import FORMATS, format_of, read
 from spanprof.path.table import find_path
-from spanprof.recording import ENDING, TEXT
-from spanprof.text import where
+from spanprof.program_text import where
+from spanprof.recording import ENDING, TEXT, given_text
 from spanprof.text_file import TextFile
 from spanprof.version import Version
 from spanprof.whatif.numbers import numbers_of
@@ -30,8 +30,8 @@ def parse(words):
     parser = argparse.ArgumentParser(prog="spanprof-import", description=DESCRIPTION, epilog=AFTER, allow_abbrev=False,
                                      usage="%(prog)s [options] FILE [GRAPH]")
     add = parser.add_argument
-    add("file", metavar="FILE", help=".ninja_log, a trace (also packed by gzip), or tasks.rec")
-    add("graph", metavar="GRAPH", nargs="?", help="with .ninja_log: what `ninja -t graph` prints")
+    add("file", metavar="FILE", help=".ninja_log, a trace (also packed by gzip), or tasks.rec; - is standard input")
+    add("graph", metavar="GRAPH", nargs="?", help="with .ninja_log: what `ninja -t graph` prints; - is standard input")
     add("--out", metavar="NAME", help="write the recording NAME.spanprof (default: after FILE)")
     add("--force", action="store_true", help="replace a recording of this name")
     add("--from", dest="form", choices=FORMATS, help="the format of FILE (default: by what it begins with)")
@@ -75,6 +75,7 @@ def path_line(answers):
 
 
 def answer(chosen):
+    chosen.file, chosen.graph = (given_text() if path == "-" else path for path in (chosen.file, chosen.graph))
     for path in filter(None, (chosen.file, chosen.graph)):
         if not os.path.isfile(path):
             raise Fault("%s: no such file" % path)

@@ -5,7 +5,7 @@ from collections import defaultdict
 from typing import NamedTuple
 
 from spanprof.errors import Fault
-from spanprof.imports.tasks import Task, Told, timed
+from spanprof.imports.tasks import Task, Imported, timed
 
 HEAD = re.compile(r"# ninja log v([5-7])$")
 NODE = re.compile(r'"([^"]+)" \[label="(.*)"(, shape=ellipse)?\]$')
@@ -114,4 +114,4 @@ def read(path, graph=None):
     if not build.tasks:
         raise Fault("%s: no command of %s is in it" % (graph, path))
     notes = ["%d outputs of the log are not in the graph, and are left out" % build.left_out] * bool(build.left_out)
-    return Told("ninja", build.tasks, "" if log.is_of_one else SEVERAL, notes)
+    return Imported("ninja", build.tasks, "" if log.is_of_one else SEVERAL, notes)

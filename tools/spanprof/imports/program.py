@@ -2,7 +2,7 @@
 import json
 
 from spanprof.head import NANOSECONDS
-from spanprof.text import Statement, text_lines
+from spanprof.program_text import Statement, text_lines
 
 MOST_COST, MOST_WORK = 10 ** 12, 10 ** 15   # of a text
 

@@ -2,7 +2,7 @@
 import re
 
 from spanprof.errors import Fault
-from spanprof.imports.tasks import Task, Told, timed
+from spanprof.imports.tasks import Task, Imported, timed
 
 MILLISECOND = 10 ** 6
 
@@ -61,4 +61,4 @@ def read(path, _=None):
             raise Fault("%s:%d: a second task with the JobId %s" % (path, fields["JobId"][1], fields["JobId"][0]))
     tasks = [task_of(path, first, fields) for first, fields in found]
     set_before(path, tasks, [fields for _, fields in found], numbers)
-    return Told("StarPU", tasks)
+    return Imported("StarPU", tasks)

@@ -26,7 +26,7 @@ class Task:
 
 
 @dataclass
-class Told:
+class Imported:
     """What the files of a tool tell."""
     tool: str
     tasks: List[Task]

@@ -7,7 +7,7 @@ import json
 
 from spanprof.head import comments
 from spanprof.marks import statements
-from spanprof.text import Statement, text_lines
+from spanprof.program_text import Statement, text_lines
 
 KEPT = ("recorded: {", "region: ", "place: ")  # lines of the head
 

@@ -4,15 +4,15 @@ from dataclasses import dataclass, replace
 from typing import Optional, Tuple
 
 from spanprof import client
-from spanprof.claims import is_divided
 from spanprof.errors import Fault
 from spanprof.head import Head, comments, read_head
 from spanprof.predict.burden import text_with
 from spanprof.predict.program import Program, read_program
 from spanprof.predict.times import rows_of, times_of
+from spanprof.program_text import DIVIDER, has_loops
 from spanprof.recording import document, open_recording
 from spanprof.segment_table import read_code
-from spanprof.text import DIVIDER, has_loops
+from spanprof.validity import is_divided
 
 RUNTIMES = LLVM, GNU = "llvm", "gnu"
 

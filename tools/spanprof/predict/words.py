@@ -1,7 +1,7 @@
 """Predictions as lines and as JSON."""
 from math import exp
 
-from spanprof.account_words import lasting
+from spanprof.durations import lasting
 from spanprof.predict.gnu import LOCK
 from spanprof.predict.recorded import GNU, LLVM
 from spanprof.proof import proved

@@ -13,11 +13,11 @@ from spanprof.converting import RECORDERS, convert, converter, recorder_library
 from spanprof.errors import Fault
 from spanprof.predict.machine import COSTS, Machine, Measured, machine_file, write_machine
 from spanprof.predict.program import read_program
-from spanprof.recording import ENDING, LOG
+from spanprof.program_text import OF_A_THREAD
 from spanprof.record.console import say, tell
 from spanprof.record.run import environment, without_recorder
 from spanprof.record.runtime import llvm_runtime
-from spanprof.text import OF_A_THREAD
+from spanprof.recording import ENDING, LOG
 from spanprof.text_file import TextFile
 
 CALIBRATION = Product("calibrate", "the program for --calibrate", "clang-19 libomp-19-dev make")

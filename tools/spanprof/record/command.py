@@ -81,7 +81,7 @@ def record_and_report(options):
         report_all(session, recorded, scale)
         if is_slower(session.comparison, options.fail_above):
             return status or SLOWER
-        return status if recorded.found else status or OWN_FAULT
+        return status if recorded.is_whole else status or OWN_FAULT
     except Fault as fault:
         say(str(fault))
         return status or fault.status

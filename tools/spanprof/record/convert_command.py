@@ -7,13 +7,13 @@ import sys
 from spanprof.command import Console, end_with, naming, writing
 from spanprof.converting import (convert, convert_into, converter, has_failed, made_text, no_region, of_region)
 from spanprof.errors import Fault
-from spanprof.recording import ENDING, LOG, META, is_recording, made_folder, open_recording
+from spanprof.program_text import HEADER
 from spanprof.record.files import check_folder
+from spanprof.record.messages import in_words
 from spanprof.record.meta import old_meta, write_meta
 from spanprof.record.options import check_name, unit
 from spanprof.record.stretch import moment, write_part as write_part_of_run
-from spanprof.record.told import in_words
-from spanprof.text import HEADER
+from spanprof.recording import ENDING, LOG, META, is_recording, made_folder, open_recording
 from spanprof.text_file import TextFile
 from spanprof.version import Version
 
@@ -126,7 +126,7 @@ def part_text(chosen, program, log, out, name):
     asked = variables(chosen, chosen.recording)
     asked = of_region(asked, chosen.region) if chosen.region else dict(asked, SPANPROF_WHOLE="1")
     told = convert(program, log, out, asked)
-    tell_all([one for one in told if one["told"] != "text"], out, name)
+    tell_all([one for one in told if one["message"] != "text"], out, name)
     text = made_text(out)
     if not text and chosen.region:
         raise no_region(open_recording(chosen.recording), chosen.region)

@@ -2,30 +2,21 @@
 import argparse
 import os
 import re
-import sys
 
 from spanprof.command import count, percent
-from spanprof.errors import OWN_FAULT, Fault
+from spanprof.errors import Fault
 from spanprof.record.ranks import is_launcher
 from spanprof.record.target import launched
 from spanprof.version import Version
 
 DESCRIPTION = """Records a run of an OpenMP program, and prints on standard error what costs it time and what to change
 first."""
-AFTER = """Everything after -- is the program and its arguments. The exit status is the program's, even if its page cannot
-be written; 3 if --fail-above was exceeded, 125 if nothing was recorded, 126 if the program cannot be run, 127 if it does
-not exist. The program still reads OMP_* variables."""
+AFTER = """Everything after -- is the program and its arguments. The exit status is the program's, even if its page
+cannot be written; 2 for wrong arguments, 3 if --fail-above was exceeded, 125 if nothing was recorded, 126 if the
+program cannot be run, 127 if it does not exist. The program still reads OMP_* variables."""
 MOST_RUNS = 99
 RUNS_OF_A_SCALE = 5
 MOST_THREADS = 1024
-
-
-class Parser(argparse.ArgumentParser):
-    """Wrong words end with the status that is no program's."""
-
-    def error(self, message):
-        self.print_usage(sys.stderr)
-        self.exit(OWN_FAULT, "%s: %s\n" % (self.prog, message))
 
 
 def unit(word):
@@ -49,8 +40,8 @@ def numbers_of_threads(word):
 
 
 def parser():
-    out = Parser(prog="spanprof-record", description=DESCRIPTION, epilog=AFTER, allow_abbrev=False,
-                 usage="spanprof-record [options] [--] PROGRAM [ARGUMENT ..]")
+    out = argparse.ArgumentParser(prog="spanprof-record", description=DESCRIPTION, epilog=AFTER, allow_abbrev=False,
+                                  usage="spanprof-record [options] [--] PROGRAM [ARGUMENT ..]")
     add = out.add_argument
     add("--out", metavar="NAME", help="write the folder NAME.spanprof (default: the program's name); MPI processes "
         "write NAME.rank0.spanprof and so on, child processes NAME.child1.spanprof")

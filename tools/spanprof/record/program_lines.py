@@ -1,5 +1,5 @@
 """What the summary tells of the whole program: where its time went, and which of its regions the other lines are of."""
-from spanprof.account_words import lasting
+from spanprof.durations import lasting
 
 MOST_TOLD = 3
 LEAST = 0.01    # of the program's time, from which on a place is told

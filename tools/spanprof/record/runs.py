@@ -56,7 +56,7 @@ def record_often(session):
         status = ended.status
         texts = [path for path in (os.path.join(folder, TEXT) for folder in folders[:1]) if os.path.exists(path)]
         if status or not texts:
-            why = why_nothing(status, said, session.out) if not texts else \
+            why = why_nothing(status, said, session) if not texts else \
                 "the program ended with status %d" % status
             say("run %d of %d is the last, and no recording is kept: %s" % (i, runs, why))
             return Recorded(status, [], said)

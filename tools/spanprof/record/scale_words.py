@@ -1,5 +1,5 @@
 """The true speedup as lines of the summary, and as JSON."""
-from spanprof.account_words import lasting
+from spanprof.durations import lasting
 from spanprof.head import counted
 
 HEADS = ("threads", "median", "least", "greatest", "speedup")

@@ -7,19 +7,20 @@ from typing import List
 from spanprof import client
 from spanprof.converting import convert_into, converter, has_failed, recorder_library
 from spanprof.errors import Fault
-from spanprof.recording import ENDING, LOG, META, TEXT, open_recording
 from spanprof.record.console import say, tell
+from spanprof.record.counters import Counters
 from spanprof.record.facts import facts_of_run, processors_there_are
 from spanprof.record.files import check_file, check_folder
 from spanprof.record.linkage import linkage
+from spanprof.record.messages import Messages
 from spanprof.record.meta import old_meta, write_meta
 from spanprof.record.ranks import is_launcher, of_rank, rank_of
 from spanprof.record.run import environment, signal_name, watched
 from spanprof.record.runtime import choose, refuse_targets, what_it_lacks
 from spanprof.record.runtime_name import note_of
 from spanprof.record.target import find, launched
-from spanprof.record.told import Told
 from spanprof.record.work import Work, taken
+from spanprof.recording import ENDING, LOG, META, TEXT, open_recording
 
 
 @dataclass
@@ -27,7 +28,12 @@ class Recorded:
     """How the program ended, its recordings with a text, and what is told."""
     status: int
     found: List[str] = field(default_factory=list)
-    said: Told = None
+    said: Messages = None
+
+    @property
+    def is_whole(self):
+        """Whether there is a recording of all of the run: on a full disk there is one of its beginning."""
+        return bool(self.found) and not (self.said and self.said.is_cut)
 
 
 def check_earlier(path, out, is_replaced):
@@ -57,14 +63,16 @@ def loaded_first(chosen, library):
     return ":".join(filter(None, [library if chosen.in_front else "", chosen.preload]))
 
 
-def why_nothing(status, said, out):
+def why_nothing(status, said, session):
     """The reason for which there is no text."""
+    news = said.news(session.out)
     if status < 0:
-        ended = "the program ended by %s" % signal_name(status)
-        return "; ".join([ended] + said.news(out))
+        return "; ".join(["the program ended by %s" % signal_name(status)] + news)
     if said.loaded:
-        return "; ".join(said.news(out)) or "the recorder reported no reason"
-    return "no OpenMP runtime loaded the recorder: did the program meet a construct of OpenMP?"
+        return "; ".join(news) or "the recorder reported no reason"
+    if session.has_runtime:
+        return "the program met no construct of OpenMP"
+    return "the program has no OpenMP runtime (libgomp, libomp), and loaded none: was it compiled with -fopenmp?"
 
 
 class Session:
@@ -88,6 +96,7 @@ class Session:
             raise Fault("--runs does not support a launcher; use: mpirun -n 4 spanprof-record --runs 5 -- PROGRAM")
         target = launched(options.command) if launches else self.path
         linked = linkage(target)
+        self.has_runtime = bool(linked.libraries or linked.inside)
         chosen = choose(target, linked, options.runtime)
         self.preload = chosen.preload
         self.library = os.path.realpath(recorder_library(tell))
@@ -115,7 +124,9 @@ class Session:
 
     def run(self, out, others=None):
         """One run, with other variables too, whose logs are OUT.spanprof/log and so on: how it ended."""
-        return watched(self.path, self.options.command, self.variables(out, others))
+        with Counters() as counters:
+            ended = watched(self.path, self.options.command, self.variables(out, others))
+            return ended._replace(counters=counters.read())
 
     def facts_of(self, ended, out):
         """What a recording tells of its run."""
@@ -132,7 +143,7 @@ class Session:
 
     def write_all(self, folders, out, ended):
         facts = self.facts_of(ended, out)
-        return Told(bool(folders), [one for folder in folders for one in self.write(folder, out, facts)])
+        return Messages(bool(folders), [one for folder in folders for one in self.write(folder, out, facts)])
 
     def write_text(self, folder, out):
         """The text of the whole program of a log in its folder; empty where there is none."""
@@ -168,7 +179,7 @@ class Session:
 
     def tell_nothing(self, status, said):
         what = "the run is recorded, and its text is not made" if has_failed(said.things) else "nothing is recorded"
-        say("%s: %s" % (what, why_nothing(status, said, self.out)))
+        say("%s: %s" % (what, why_nothing(status, said, self)))
 
     def record_once(self, more=None):
         """The program's end, the recordings, and what was said. `more` adds to the folder of the program's own, and

@@ -8,9 +8,9 @@ from spanprof.diagnosis.calls import plain
 from spanprof.diagnosis.facts import function_in
 from spanprof.errors import Fault, reading
 from spanprof.head import head_of, head_text
+from spanprof.program_text import BLOCKS, HEADER
 from spanprof.recording import REGIONS, TEXT, TIMES
 from spanprof.regions import program_of
-from spanprof.text import BLOCKS, HEADER
 
 ANY_BYTES = {"encoding": "utf-8", "errors": "surrogateescape"}
 SECONDS, WORD = re.compile(r"\d+(\.\d*)?s?"), re.compile(r"\s*(\w+|\})?")

@@ -5,21 +5,22 @@ import shlex
 from typing import NamedTuple
 
 from spanprof import client
-from spanprof.account import account_beside
-from spanprof.account_words import lines_of
 from spanprof.answers import Answers
+from spanprof.breakdown_lines import lines_of
 from spanprof.command import show
 from spanprof.diagnosis.compare import compared, lines as comparison_lines
-from spanprof.diagnosis.tell import told_of
+from spanprof.diagnosis.output import output_of
 from spanprof.errors import Fault
 from spanprof.head import Head, head_of
-from spanprof.recording import open_recording
 from spanprof.record.console import tell
+from spanprof.record.counters import words_of
 from spanprof.record.ranks import is_child
 from spanprof.record.summary import named, other_region, remark_lines, summary, title
 from spanprof.record.summary_json import run_json, summary_json, write_json
 from spanprof.record.waits import told as told_of_waits, waited_for, waits_of
+from spanprof.recording import open_recording
 from spanprof.regions import program_of
+from spanprof.time_breakdown import recorded_breakdown
 
 MORE = "spanprof-report %s"
 
@@ -63,7 +64,7 @@ def diagnosed(recording, is_cut=False):
     if is_cut:
         return None, "no diagnosis, as the run is recorded in part"
     try:
-        return told_of(recording), ""
+        return output_of(recording), ""
     except (Fault, OSError) as wrong:
         return None, "no diagnosis: %s" % wrong
 
@@ -75,7 +76,7 @@ def print_diagnosis(session, recording, news, is_cut):
         paths = os.path.relpath(recording.folder), os.path.abspath(recording.folder)
         show(diagnosis.lines(MORE % shlex.quote(min(paths, key=len)), news))
     if diagnosis and session.options.against:
-        session.comparison = compared(told_of(open_recording(session.options.against)), diagnosis)
+        session.comparison = compared(output_of(open_recording(session.options.against)), diagnosis)
         show(comparison_lines(session.comparison))
     return diagnosis, why
 
@@ -87,13 +88,14 @@ def print_summary(session, recording, answers, others, news, scale, is_cut):
         show(["%s: %s" % (recording.name, words) for words in news + [why]])
     if (diagnosis or is_cut) and not (options.all or options.json):
         return
-    account, no_account = account_beside(answers)
+    account, no_breakdown = recorded_breakdown(answers)
     if options.all or not (diagnosis or is_cut):
-        show(summary(answers, news + [why] * bool(why), others, lines_of(account, no_account),
+        show(summary(answers, news + [why] * bool(why), others, lines_of(account, no_breakdown),
                      program_of(recording.text)))
-        show(named("losses", diagnosis.sum_lines() if diagnosis else []))
+        show(named("losses", diagnosis.sum_lines() if diagnosis else []) +
+             named("counters", words_of(recording.meta.get("counters") or {})))
     if options.json:
-        run = run_json(answers, account, no_account)
+        run = run_json(answers, account, no_breakdown)
         write_json(options.json, summary_json(diagnosis and diagnosis.json(), run, scale))
 
 

@@ -3,9 +3,6 @@
 A person reads it to decide about a program, and what is proved is proved of the text. So each line that says `proved`
 says of what, and where the head tells that the text is not the program the line says that in its place.
 """
-from spanprof.claims import (OTHERWISE, against_parallelism, against_span, gain_may_be_less, gain_may_be_more,
-                             is_divided, is_of_one_thread, is_partial, least_end, lock_binds, pieces_words,
-                             share_covered, tasks_made, tenths, why_not_of_more_threads)
 from spanprof.client import Refused
 from spanprof.head import CLOCKS, grouped, part_of_program, with_function
 from spanprof.proof import proved
@@ -13,6 +10,9 @@ from spanprof.record.program_lines import program_line
 from spanprof.report.figures import rounded_down, rounded_up
 from spanprof.report.places import places
 from spanprof.report.units import Units
+from spanprof.validity import (OTHERWISE, against_parallelism, against_span, gain_may_be_less, gain_may_be_more,
+                               is_divided, is_of_one_thread, is_partial, least_end, lock_binds, pieces_words,
+                               share_covered, tasks_made, tenths, why_not_of_more_threads)
 
 THREADS = (2, 4, 8, 16)
 MOST_PLACES = 3

@@ -1,7 +1,7 @@
 """What is known of a recorded run as JSON: the diagnosis, and the account of the run."""
 import json
 
-from spanprof.account_words import as_json
+from spanprof.breakdown_lines import as_json
 from spanprof.command import writing
 from spanprof.record.scale_words import scale_json
 

@@ -2,8 +2,8 @@
 import statistics
 from typing import NamedTuple
 
-from spanprof.account_words import lasting
 from spanprof.diagnosis.calls import IN_CALLS, is_of_ranks, samples_in
+from spanprof.durations import lasting
 from spanprof.record.ranks import rank_in
 
 MUCH = 0.05     # of a rank's sampled time

@@ -6,7 +6,7 @@ import sys
 
 from spanprof.command import Console, check_files, count, end_with, percent, show, writing
 from spanprof.diagnosis.compare import as_json as comparison_json, compared, is_slower, lines as comparison_lines
-from spanprof.diagnosis.tell import told_of
+from spanprof.diagnosis.output import output_of
 from spanprof.errors import Fault
 from spanprof.progress import Progress
 from spanprof.recording import open_recording, text_of
@@ -68,10 +68,12 @@ def check_words(parser, chosen):
     """Ends the process where they exclude each other; the page has a name then, where it is asked for."""
     if chosen.fail_above is not None and not chosen.after:
         parser.error("--fail-above compares two recordings: name a second one")
-    if chosen.after:
-        return
-    if not (outputs(chosen) or chosen.json):
+    if chosen.after and (chosen.other or outputs(chosen)):
+        parser.error("two recordings are compared in lines, or by --json; --with OTHER.spanprof shows both on a page")
+    if not (chosen.after or outputs(chosen) or chosen.json):
         chosen.output = beside(chosen.program)
+    if chosen.other and not chosen.output:
+        parser.error("--with is for a page, which -o names; a second recording without --with is compared")
     paths = [os.path.realpath(path) for path, _ in outputs(chosen)]
     if len(set(paths)) < len(paths):
         parser.error("-o, --trace, --folded and --pprof are for different files")
@@ -86,7 +88,7 @@ def write(path, text):
 def write_the_rest(chosen, progress):
     """What was asked for; what was written is told."""
     if chosen.json:
-        print(json.dumps(told_of(open_recording(chosen.program), chosen.source or ()).json(), indent=2))
+        print(json.dumps(output_of(open_recording(chosen.program), chosen.source or ()).json(), indent=2))
     written = outputs(chosen)
     texts = ((chosen.program, ""), (chosen.other, "other ")) if chosen.output or chosen.trace else ()
     views = [View(text, chosen.threads, chosen.source, prefix, progress) for text, prefix in texts if text]
@@ -116,7 +118,7 @@ def check(chosen):
 
 def compare(chosen):
     """Prints what two recordings differ in; the process ends where the second is slower than it may be."""
-    told = [told_of(open_recording(path), chosen.source or ()) for path in (chosen.program, chosen.after)]
+    told = [output_of(open_recording(path), chosen.source or ()) for path in (chosen.program, chosen.after)]
     found = compared(*told)
     print(json.dumps(comparison_json(found), indent=2) if chosen.json else "\n".join(comparison_lines(found)))
     if is_slower(found, chosen.fail_above):

@@ -1,8 +1,8 @@
 """What each change that was tried would bring, by the diagnosis, and the line of spanprof-whatif that asks for it."""
 import shlex
 
-from spanprof.account_words import lasting
 from spanprof.diagnosis.sentences import after_words, change_sentence
+from spanprof.durations import lasting
 from spanprof.report.markup import note, section, tag
 from spanprof.report.tables import table
 

@@ -1,8 +1,8 @@
 """The first screen: a sentence, three times, where the threads' time went, the change as a diff, the plan, how sure."""
-from spanprof.account_words import lasting
-from spanprof.diagnosis.sentences import (after_words, best_words, bound_word, change_sentence, loss_name,
-                                          lost_sentence, several, speed_words, sure_words, unsure, words_of_threads)
+from spanprof.diagnosis.sentences import (after_words, bound_word, change_sentence, loss_name, lost_sentence, several,
+                                          speed_words, sure_words, unsure, word_of_best, words_of_threads)
 from spanprof.diagnosis.source_change import diff
+from spanprof.durations import lasting
 from spanprof.report.figures import PROVED, badge
 from spanprof.report.markup import join, tag
 
@@ -32,11 +32,16 @@ def how_known(step):
     return "predicted" if step.change else bound_word(step.kind).replace("about", "estimated")
 
 
+def best_words(found):
+    how = {"about": ", estimated", "or less": ", or less", "at best": ""}[word_of_best(found)]
+    return "at best%s: all threads busy all the time" % how
+
+
 def times(found):
     now = "now, on " + words_of_threads(found.facts)
     first = [one_time(lasting(step.after), "after the first change, " + how_known(step)) for step in found.plan[:1]]
     return tag("div", one_time(lasting(found.now), now), *first,
-               one_time(best_words(found), "at best: all threads busy all the time"), class_="times")
+               one_time(lasting(found.best), best_words(found)), class_="times")
 
 
 def parts(told):

@@ -1,10 +1,10 @@
 """The dependences: a box for each place of tasks."""
+from spanprof.program_text import CALLED_FROM, is_programs, is_share
 from spanprof.report.figures import PROVED, badges, percent
 from spanprof.report.graph import CREATES, WAITS, critical_pairs, place_edges
 from spanprof.report.graph_picture import Box, Joined, picture
 from spanprof.report.markup import note, section, tag
 from spanprof.report.units import grouped
-from spanprof.text import CALLED_FROM, is_programs, is_share
 
 MOST_PLACES, MOST_EDGES = 16, 30
 LONGEST, SHORTEST = 44, 16      # letters of a name's line

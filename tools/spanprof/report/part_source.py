@@ -1,7 +1,7 @@
 """The source with heat: which lines the work and the span are of."""
+from spanprof.program_text import CALLED_FROM
 from spanprof.report.figures import badges, percent
 from spanprof.report.markup import breakable, join, note, section, tag
-from spanprof.text import CALLED_FROM
 
 MOST_FILES, MOST_LINES, AROUND = 6, 800, 3
 DARKEST = 0.45      # so that words on it can be read

@@ -85,7 +85,7 @@ def lanes_in_bins(view, program):
 
 
 def how_to_read(view):
-    why = ": " + view.without_account if view.without_account else ""
+    why = ": " + view.without_breakdown if view.without_breakdown else ""
     words = TIMED if view.run else tag("span", UNTIMED % why, class_="given")
     keys = join([join([tag("kbd", name), " ", what]) for name, what in KEYS], ", ")
     return details("How to read it", note(words), note(HANDS), note("Keys, once a timeline has the focus: ", keys, "."))

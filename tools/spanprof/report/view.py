@@ -4,9 +4,8 @@ from array import array
 from functools import cached_property
 from typing import List, NamedTuple
 
-from spanprof.account import account_beside, times_name
 from spanprof.answers import Answers
-from spanprof.diagnosis.tell import diagnosis_of
+from spanprof.diagnosis.output import diagnosis_of
 from spanprof.recording import folder_of, open_recording
 from spanprof.report.colours import BARS
 from spanprof.report.figures import DECLARED, MEASURED, RECORDED, Figures
@@ -16,6 +15,7 @@ from spanprof.report.true_times import true_times_beside
 from spanprof.report.units import Units
 from spanprof.source import Sources
 from spanprof.source_lines import OF_A_STATEMENT, line_of, stretches
+from spanprof.time_breakdown import recorded_breakdown, times_name
 
 COLOURS = len(BARS)
 
@@ -109,7 +109,7 @@ class View:
     @cached_property
     def account(self):
         """Of the recorded run; None without a timed document beside the text, for the reason that is kept."""
-        found, self.without_account = account_beside(self.answers)
+        found, self.without_breakdown = recorded_breakdown(self.answers)
         if found:
             name = times_name(self.answers.path)
             self.answers.asked += ["spanprof_large account%s < %s" % (words, name)

@@ -18,8 +18,8 @@ def write(path, words):
     return path
 
 
-def recording(folder, name="mine", schema=1, **files):
-    """A whole one; other files of it may have other words, or none where that is None."""
+def recording(folder, name="mine", schema=1, facts=(), **files):
+    """A whole one; other files of it may have other words, or none where that is None. `facts` are of its run."""
     path = os.path.join(folder, name + ".spanprof")
     words = {"program.tasks": TEXT, "times": TIMES, "regions": REGIONS, **files}
     words = {file: text for file, text in words.items() if text is not None}
@@ -27,5 +27,6 @@ def recording(folder, name="mine", schema=1, **files):
         write(os.path.join(path, file), text)
     write(os.path.join(path, "log", "head"), "")
     sums = {file: hashlib.sha256(text.encode()).hexdigest() for file, text in words.items()}
-    write(os.path.join(path, "recording.json"), json.dumps({"schema": schema, "unit": "us", "files": sums}))
+    told = {"schema": schema, "unit": "us", "files": sums, **dict(facts)}
+    write(os.path.join(path, "recording.json"), json.dumps(told))
     return path

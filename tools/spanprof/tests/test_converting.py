@@ -20,8 +20,8 @@ class Converters(InFolder):
         return converting.convert(self.converter(words), "a/log", "b", dict(os.environ, **dict(variables)))
 
     def test_what_it_tells(self):
-        told = self.convert("echo \"{\\\"told\\\": \\\"$1 $2 ${LD_PRELOAD-none}\\\"}\"", {"LD_PRELOAD": "/x.so"})
-        self.assertEqual(told, [{"told": "a/log b none"}])
+        told = self.convert("echo \"{\\\"message\\\": \\\"$1 $2 ${LD_PRELOAD-none}\\\"}\"", {"LD_PRELOAD": "/x.so"})
+        self.assertEqual(told, [{"message": "a/log b none"}])
 
     def test_why_it_failed(self):
         for words, what in (("exit 3", "its converter ended with status 3"),
@@ -29,7 +29,7 @@ class Converters(InFolder):
                                            "short"),
                             ("kill -XFSZ $$", "its converter died: a file would be longer than `ulimit -f` allows"),
                             ("kill -ABRT $$", "its converter died: signal 6")):
-            self.assertEqual(self.convert(words), [{"told": "fault", "log": "a/log", "what": what}])
+            self.assertEqual(self.convert(words), [{"message": "fault", "log": "a/log", "what": what}])
 
     def into(self, folder, words):
         return converting.convert_into(self.converter(words), "a/log", folder, dict(os.environ))
@@ -44,8 +44,8 @@ class Converters(InFolder):
     def test_texts_come_into_the_folder(self):
         folder = recording(self.folder)
         told = self.into(folder, 'echo new > $2.tasks; echo off > $2.off\n'
-                                 'echo "{\\"told\\": \\"text\\", \\"file\\": \\"$2.tasks\\"}"')
-        self.assertEqual(told, [{"told": "text", "file": os.path.join(folder, "program.tasks")}])
+                                 'echo "{\\"message\\": \\"text\\", \\"file\\": \\"$2.tasks\\"}"')
+        self.assertEqual(told, [{"message": "text", "file": os.path.join(folder, "program.tasks")}])
         self.assertEqual(sorted(os.listdir(folder)), ["log", "off", "program.tasks", "recording.json"])
 
     def test_one_that_dies_changes_nothing(self):
@@ -57,8 +57,8 @@ class Converters(InFolder):
         self.assertTrue(open_recording(folder).text)
 
     def test_a_line_that_is_cut(self):
-        told = self.convert("printf '{\"told\": \"te'; kill -9 $$")
-        self.assertEqual([one["told"] for one in told], ["fault"])
+        told = self.convert("printf '{\"message\": \"te'; kill -9 $$")
+        self.assertEqual([one["message"] for one in told], ["fault"])
 
 
 class Regions(InFolder):

@@ -2,8 +2,8 @@ import random
 import unittest
 from fractions import Fraction
 
-from spanprof.account import Row, Rows
 from spanprof.idle import idle_by_place, rounded
+from spanprof.time_breakdown import Row, Rows
 
 # of the worked program of docs/MODEL.md: thread, ready, begin and end of each segment
 WORKED = [Row(0, 0, 0, 5), Row(0, 5, 6, 9), Row(0, 5, 9, 11), Row(1, 11, 12, 13)]

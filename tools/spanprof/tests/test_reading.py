@@ -7,8 +7,8 @@ from unittest import mock
 from spanprof import client, folders
 from spanprof.errors import Fault
 from spanprof.head import OLDER, UNREAD, Head, read_head, said, with_function
+from spanprof.program_text import has_loops
 from spanprof.tests.columns import segments_of
-from spanprof.text import has_loops
 
 TEXT = """\
 # recorded: {"program": "sort", "date": "2026-11-24T00:31:07Z", "threads": 4, "clock": "cpu", "unit": "250 ns"}

@@ -1,8 +1,8 @@
 import unittest
 
+from spanprof.program_text import Segment
 from spanprof.source_lines import Stretch, after_directive, line_of, statement_end, stretch_of
 from spanprof.tests.columns import code_of
-from spanprof.text import Segment
 
 CODE = code_of([Segment(0, "", "", ""), Segment(1, "a.c:5", "", ""), Segment(0, "", "creating a task", "a.c:5"),
                 Segment(0, "", "taskwait", "a.c:9")])

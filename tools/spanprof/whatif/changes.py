@@ -6,7 +6,7 @@ A change counts in `count` what it has changed.
 from array import array
 from collections import Counter
 
-from spanprof.text import BLOCKS
+from spanprof.program_text import BLOCKS
 from spanprof.whatif.statements import MOST, as_statements
 
 
@@ -115,22 +115,25 @@ class InForInout(OfTasks):
 
 def handed_on(found, place):
     """The names that a task of a place holds to write right behind another one of it that has them at another position
-    of its list, as tasks do that hold what is their neighbours'."""
-    last, out = {}, set()
+    of its list, as tasks do that hold what is their neighbours'; or behind the one before it that has them at the same
+    position, and writes something else too, as tasks do that read the same."""
+    last, before, out = {}, {}, set()
     having = found.of_kind(lambda one: one.kind == "task" and one.items)
     for number in filter(having.__contains__, found.row):
         one = found.known[-number]
-        for position, (kind, name) in enumerate(one.items):
-            mine = position if kind == "inout" and one.name == place else None
-            if mine is not None and last.get(name, mine) not in (None, mine):
-                out.add(name)
-            last[name] = mine
+        is_there = one.name == place
+        mine = {name: at for at, (kind, name) in enumerate(one.items) if kind == "inout" and is_there}
+        is_other = mine.keys() != before.keys()
+        out.update(name for name, at in mine.items() if last.get(name) is not None and
+                   (last[name] != at or is_other and before.get(name) == at))
+        last.update((name, mine.get(name)) for _, name in one.items)
+        before = mine if is_there else before
     return out
 
 
 class ReadOnly(OfTasks):
-    """The tasks of a place have `in` for `inout` of what is their neighbours' too."""
-    what = "%d depend item%s changed to in: those of neighbours at %s"
+    """The tasks of a place have `in` for `inout` of what the ones before them have too."""
+    what = "%d depend item%s changed to in: those that tasks share at %s"
 
     def made_of(self, found):
         self.names = handed_on(found, self.place)

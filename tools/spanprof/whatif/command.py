@@ -1,23 +1,25 @@
 """spanprof-whatif: a recorded text with another shape or other costs, and what spanprof tells of it."""
 import argparse
 import os
+import shutil
+import sys
 import tempfile
 
 from spanprof import client
 from spanprof.command import Console, check_files, count, end_with
 from spanprof.errors import Fault
+from spanprof.marks import statements
 from spanprof.predict.predictions import changed_told
 from spanprof.recording import text_of
-from spanprof.marks import statements
 from spanprof.text_file import TextFile
 from spanprof.version import Version
 from spanprof.whatif.creating import costs_for
 from spanprof.whatif.listing import listing
 from spanprof.whatif.numbers import numbers_of
+from spanprof.whatif.output import as_json, lines, notes
 from spanprof.whatif.requests import Request, applied, changes
 from spanprof.whatif.statements import as_statements
 from spanprof.whatif.survey import survey
-from spanprof.whatif.tell import as_json, lines, notes
 from spanprof.whatif.texts import Text, version_of, write
 
 DESCRIPTION = """Changes a recorded program text as one might change the program, and compares work, span, and the
@@ -29,7 +31,7 @@ OPTIONS = (("factor", "PLACE=F", "multiply the cost of the code at PLACE by F"),
            ("drop-depend", "PLACE", "remove the depend items of the tasks there"),
            ("drop-name", "NAME", "remove this depend item from all tasks"),
            ("in-for-inout", "NAME", "make this depend item in for all tasks: they only read it"),
-           ("read-only", "PLACE", "make in what the tasks there hold of their neighbours: they only read it"),
+           ("read-only", "PLACE", "make in what the tasks there hold of those before them: they only read it"),
            ("defer", "PLACE", "defer the undeferred tasks there"),
            ("split", "PLACE=K", "divide the code at PLACE into K tasks in a group"),
            ("grain", "PLACE=COST", "the same, into tasks of at most COST each"),
@@ -56,7 +58,8 @@ def parse(words):
     add("--least", type=count(0, 10 ** 12), metavar="COST",
         help="neither split code that costs less nor make it a task (default: where a part would cost less than its "
         "creation)")
-    add("-o", "--output", metavar="CHANGED.tasks", help="write the changed text to this file")
+    add("-o", "--output", metavar="CHANGED.tasks",
+        help="write the changed text to this file; - is standard output, and the numbers go to standard error then")
     add("--places", action="store_true", help="list the places and depend items that can be changed")
     add("--json", action="store_true", help="print JSON")
     add("--version", action=Version)
@@ -92,7 +95,8 @@ def compare(chosen, text, before, path):
     times, predicted = changed_told(chosen.text, lambda before: changed(before, asked()), threads[0]) \
         if text.head.is_measured else ([], None)
     print(as_json(told, before, after, predicted) if chosen.json else
-          "\n".join([*told, *lines(before, after, text.head.unit), *times]))
+          "\n".join([*told, *lines(before, after, text.head.unit), *times]),
+          file=sys.stderr if chosen.output == "-" else sys.stdout)
 
 
 def answer(chosen):
@@ -105,7 +109,11 @@ def answer(chosen):
     if chosen.requests:
         with tempfile.TemporaryDirectory(prefix="spanprof-whatif-") as folder:
             before = numbers_of(TextFile(chosen.text), [min(chosen.threads or text.head.threads or 4, 1024)])
-            compare(chosen, text, before, chosen.output or os.path.join(folder, "changed.tasks"))
+            path = os.path.join(folder, "changed.tasks")
+            compare(chosen, text, before, path if chosen.output in (None, "-") else chosen.output)
+            if chosen.output == "-":
+                with open(path, encoding="utf-8") as file:
+                    shutil.copyfileobj(file, sys.stdout)
 
 
 def main(words):

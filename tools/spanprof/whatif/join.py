@@ -2,7 +2,7 @@
 from dataclasses import dataclass, field
 from typing import List
 
-from spanprof.text import Statement
+from spanprof.program_text import Statement
 from spanprof.whatif.shapes import Restructured
 
 

@@ -5,7 +5,7 @@ the code before it where that cost less.
 """
 from array import array
 
-from spanprof.text import BLOCKS, Statement, is_share, is_shared_out, where
+from spanprof.program_text import BLOCKS, Statement, is_share, is_shared_out, where
 from spanprof.whatif.changes import Change
 from spanprof.whatif.statements import of_stream
 

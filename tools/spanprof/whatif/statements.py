@@ -7,7 +7,7 @@ from array import array
 from itertools import compress
 
 from spanprof.marks import ENDS, after_words
-from spanprof.text import BEGINNING, BLOCKS, HEADER, Segment, Statement, construct, line
+from spanprof.program_text import BEGINNING, BLOCKS, HEADER, Segment, Statement, construct, line
 
 MOST = 2 ** 63 - 1      # that a number may be, far beyond what spanprof takes
 

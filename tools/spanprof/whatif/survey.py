@@ -5,7 +5,7 @@ Tasks that the program does not make, and the groups of its loops, are none that
 from collections import Counter
 from dataclasses import dataclass, field
 
-from spanprof.text import is_programs, is_share, is_shared_out
+from spanprof.program_text import is_programs, is_share, is_shared_out
 from spanprof.whatif.statements import as_statements
 
 

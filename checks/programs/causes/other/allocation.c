@@ -3,7 +3,7 @@
 #include <stdio.h>
 #include <stdlib.h>
 
-enum { rows = 400000, width = 64, colours = 8192 };
+enum { rows = 2000000, width = 64, colours = 8192 };
 
 static int pixel(int row, int column) { return (unsigned)(row * 7919 + column * column * 31) % colours; }
 

@@ -5,6 +5,7 @@ import unittest
 import unittest.mock
 
 import build
+import operators
 import own_tests
 import sources
 import table
@@ -77,43 +78,68 @@ class Building(unittest.TestCase):
                 sources.run(["sh", "-c", "echo bad luck; exit 1"], folder, pathlib.Path(folder) / "log")
 
 
+class Operators(unittest.TestCase):
+    SOURCE = """void
+GOMP_taskwait (void)
+{
+  struct gomp_task *task = 0;
+  if (task == NULL)
+    return;
+  task->waits = true;
+  gomp_mutex_lock (&lock);
+  again:
+}
+""".split("\n")
+
+    def test_each_operator(self):
+        seen = {change.operator: change.new for change in operators.changes_of(self.SOURCE) if change.number in (4, 6)}
+        self.assertEqual(seen, {"negate": ("  if (!(task == NULL))",), "drop": ("  ;",),
+                                "swap": ("  task->waits = false;",),
+                                "move": ("  gomp_mutex_lock (&lock);", "  task->waits = true;")})
+
+    def test_declarations_labels_and_code_for_devices_stay(self):
+        self.assertEqual({change.number for change in operators.changes_of(self.SOURCE)}, {4, 6, 7})
+        other = [line.replace("GOMP_taskwait", "GOMP_target_ext") for line in self.SOURCE]
+        self.assertEqual(list(operators.changes_of(other)), [])
+
+    def test_few_of_a_function(self):
+        changes = [("task.c", change) for change in operators.changes_of(self.SOURCE)]
+        self.assertEqual(len(list(operators.chosen(changes, 1, 9))), operators.MOST_OF_FUNCTION)
+        self.assertEqual(len(list(operators.chosen(changes, 1, 1))), 1)
+
+    def test_a_patch_can_be_read(self):
+        with tempfile.TemporaryDirectory() as folder:
+            tree, patches = pathlib.Path(folder), pathlib.Path(folder) / "patches"
+            for name in operators.FILES:
+                (tree / "libgomp" / name).parent.mkdir(parents=True, exist_ok=True)
+                (tree / "libgomp" / name).write_text("\n".join(self.SOURCE))
+            operators.main([folder, str(patches), "--count", "2"])
+            self.assertEqual(len(mutants_of("gomp", folder=patches)), 2)
+            self.assertIn("+++ b/libgomp/", next(patches.iterdir()).read_text())
+
+
 class Tables(unittest.TestCase):
     MUTANTS = {"lost": {"rule": "once", "breaks": "yes"}, "slow": {"rule": "once", "breaks": "no: slower"},
                "early": {"rule": "taskwait", "breaks": "yes"}, "detached": {"rule": "detach", "breaks": "yes"}}
 
-    def seen(self, *campaigns):
-        return {"campaigns": list(campaigns), "ways": ["hung"]}
+    @staticmethod
+    def seen(*programs):
+        return {"failed": {name: [2, "free", "hung"] for name in programs}, "ways": ["hung"]}
 
     def row(self, title, seen, own=()):
-        return next(row for row in table.rows(self.MUTANTS, seen, dict(own), 5) if row[0] == title)[1:]
-
-    def test_caught(self):
-        self.assertTrue(table.is_caught(self.seen(["a", "b"]), 5))
-        self.assertTrue(table.is_caught(self.seen(["a"], [], ["a"], [], ["a"]), 5))
-        self.assertFalse(table.is_caught(self.seen(["a"], [], ["a"], [], []), 5))
-        self.assertFalse(table.is_caught(self.seen(["a"], ["b"]), 5))
-
-    def test_reports_are_put_together(self):
-        first = {"early": {"campaigns": [["a"]], "ways": ["hung"], "seconds": 3, "tried": [7]}}
-        more = {"early": {"campaigns": [["b"]], "ways": ["taskwait"], "seconds": 4, "tried": [9]}}
-        self.assertEqual(table.put_together([first, more]),
-                         {"early": {"campaigns": [["a"], ["b"]], "ways": ["hung", "taskwait"], "seconds": 7,
-                                    "tried": [7, 9]}})
+        return next(row for row in table.rows(self.MUTANTS, seen, dict(own)) if row[0] == title)[1:]
 
     def test_rows(self):
-        seen = {"lost": self.seen(["a", "b"]), "slow": self.seen([]), "early": self.seen([], []),
-                "detached": self.seen(["c"])}
-        self.assertEqual(self.row("once", seen), [1, 1, 0, "", "", 1, 0])
-        self.assertEqual(self.row("taskwait", seen, {"early": ["x"]}.items()), [1, 0, 0, "", "`early`", 1, 0, 0])
-        self.assertEqual(self.row("**all**", seen), [3, 1, 0, "`detached`", "`early`", 1, 0])
-        often = {"early": self.seen(["a"], [], ["b"], ["a"])}
-        self.assertEqual(self.row("taskwait", often), [1, 0, 1, "", "", 0, 0])
+        seen = {"lost": self.seen("a", "b"), "slow": self.seen(), "early": self.seen(), "detached": self.seen("c")}
+        self.assertEqual(self.row("once", seen), [1, 1, "", 1, 0])
+        self.assertEqual(self.row("taskwait", seen, {"early": ["x"]}.items()), [1, 0, "`early`", 1, 0, 0])
+        self.assertEqual(self.row("**all**", seen), [3, 2, "`early`", 1, 0])
 
     def test_what_breaks_nothing_and_was_refused(self):
-        self.assertEqual(self.row("once", {"slow": self.seen(["a"])}), [0, 0, 0, "", "", 1, 1])
+        self.assertEqual(self.row("once", {"slow": self.seen("a")}), [0, 0, "", 1, 1])
 
     def test_a_row_for_each_mutant(self):
-        rows = list(table.by_name(self.MUTANTS, {"lost": self.seen(["a"], ["b"])}, {"lost": ["x", "y"]}))
+        rows = list(table.by_name(self.MUTANTS, {"lost": self.seen("a", "b")}, {"lost": ["x", "y"]}))
         self.assertEqual(rows, [["`lost`", "once", "yes", 2, "hung", 2]])
 
 

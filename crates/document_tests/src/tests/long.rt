@@ -82,6 +82,26 @@ fn whatif(rt: HostRuntime) -> Result<(), Fail> {
     Ok(())
 }
 
+/// The root at place 0, and each task at one of two others.
+fn placed(alloc: Global) -> Result<String, Fail> {
+    let mut document = begun(alloc)?;
+    for task in 0..5_000u32 {
+        let place = 1 + task % 2;
+        write!(document, "0 {place}\n")?;
+    }
+    document.push_str("0\n")?;
+    Ok(document)
+}
+
+#[test]
+fn places(rt: HostRuntime) -> Result<(), Fail> {
+    let document = placed(rt.alloc())?;
+    let text =
+        "place,segments,work,on_path,path,slack\n0,5001,0,1,0,0\n1,2500,2500,1,1,0\n2,2500,2500,0,0,0\n";
+    assert!(&rt; command_gives(&rt, "places", &[], document.as_str(), text, Status::Done)?);
+    Ok(())
+}
+
 #[test]
 fn account(rt: HostRuntime) -> Result<(), Fail> {
     let document = timed_run(rt.alloc())?;

@@ -230,6 +230,7 @@ fn table_text(alloc: Global) -> Result<Vec<u8>, AllocFault> {
     Table::new(alloc, &["threads", "end"])?
         .with_row(&[Some(1), None])?
         .with_row(&[Some(u64::MAX), Some(0)])?
+        .with_list(alloc, &[Some(3)], &[1, 22])?
         .into_text()
 }
 
@@ -246,7 +247,7 @@ pub(super) fn rows<H: AllocGlobal + Abort>(rt: &H, supply: &mut Supply) -> Resul
     };
     assert_eq!(rt;
         text.as_slice(),
-        b"threads,end\n1,\n18446744073709551615,0\n".as_slice()
+        b"threads,end\n1,\n18446744073709551615,0\n3,1 22\n".as_slice()
     );
     Ok(())
 }

@@ -36,6 +36,7 @@ bool has_section(const File &file, const char *name) {
          });
 }
 
+// Once, while recording begins. The file is mapped and not read into memory, since programs may be large.
 bool program_has_lines() {
   int file = open("/proc/self/exe", O_RDONLY | O_CLOEXEC);
   struct stat status;
@@ -51,8 +52,10 @@ bool program_has_lines() {
 }
 }  // namespace
 
+// Empty until `find_lines`, and for good where the program has no lines.
 CodeRange code_with_lines;
 
+// Before any record: `place_of` reads the range without a lock.
 void find_lines() {
   if (program_has_lines()) code_with_lines = code_around(reinterpret_cast<const void *>(getauxval(AT_ENTRY)));
 }

@@ -80,6 +80,7 @@ Here &begin_here(bool in_a_part) {
   return this_here;
 }
 
+// Both ask the recorded runtime: by name the call could reach another one, with teams of its own.
 unsigned most_threads_here() {
   static const auto count = reinterpret_cast<int (*)()>(own_function("omp_get_max_threads"));
   return static_cast<unsigned>(count());

@@ -3,6 +3,7 @@
 #include <cstdint>
 
 namespace {
+// Only the list itself and depend objects are read, never what an item's address names: the program may have freed it.
 struct List {
   explicit List(void **depend) : is_short(number(depend[0])) {
     count = number(depend[is_short ? 0 : 1]);
@@ -37,6 +38,7 @@ ompt_dependence_t item_of_object(void *const *object) {
 }
 }  // namespace
 
+// In the order of gcc's list: items that write, that exclude each other, that read, and then depend objects.
 std::vector<ompt_dependence_t> items_of(void **depend) {
   List list(depend);
   std::vector<ompt_dependence_t> out;

@@ -11,6 +11,8 @@ ompt_wait_id_t name_of(const void *lock) { return reinterpret_cast<ompt_wait_id_
 const char unnamed_critical = 0, all_atomics = 0;
 
 // `here` first: a program may call for a lock before anything else of OpenMP.
+// While the lock is held others may wait for it: `on_lock_got` reads the counter, and nothing more is done until it is
+// released. Only `took` makes its records with the lock held, since it learns of it no sooner.
 template <class Own, class... Lock>
 void take(ompt_mutex_t kind, const void *name, const void *place, Own own, Lock... lock) {
   here();
@@ -23,7 +25,7 @@ template <class Own, class... Lock>
 void leave(ompt_mutex_t kind, const void *name, Own own, Lock... lock) {
   Release when = release_begins();
   own(lock...);
-  on_let_go(kind, name_of(name), when);
+  on_release(kind, name_of(name), when);
 }
 
 // A lock that is held now, without a wait.
@@ -50,6 +52,7 @@ Held *held(const void *lock) {
   return nullptr;
 }
 
+// Where all places are used the lock is recorded as got, and never as left.
 void hold(void *lock) {
   for (Held &one : held_here)
     if (!one.times) return void(one = {lock, 1});
@@ -82,6 +85,8 @@ void leave_once(void *lock, Own own) {
 }
 }  // namespace
 
+// Every entry calls the runtime's function exactly once, and hands on its answer, whatever the recorder can do: without
+// a log, or once recording has stopped, the callbacks return at once.
 #define LOCKED(begin, end, kind, name)     \
   ENTRY void begin() {                     \
     ENTER(begin);                          \
@@ -120,6 +125,7 @@ ENTRY void GOMP_critical_name_end(void **lock) {
 LOCK(omp_set_lock, omp_test_lock, omp_unset_lock)
 LOCK(omp_set_lock_, omp_test_lock_, omp_unset_lock_)
 
+// Only the first of a thread's calls and its last release are recorded.
 #define NEST_LOCK(set, test, unset)            \
   ENTRY void set(void *lock) {                 \
     ENTER(set, lock);                          \

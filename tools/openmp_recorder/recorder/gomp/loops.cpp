@@ -9,6 +9,7 @@
 namespace {
 using Unsigned = unsigned long long;
 
+// All of this file runs on the thread that gets the chunk, and changes nothing but that thread's `Here`.
 void tell_chunk(ompt_dispatch_t kind, uint64_t turns) {
   // The callback reads it at once and keeps no pointer.
   DispatchedChunk chunk{0, turns};
@@ -81,6 +82,7 @@ void end_divided() {
 #define TAKES_Unsigned bool is_up,
 #define GIVES_Unsigned is_up,
 
+// Each entry begins the loop before the runtime's call, and after it reports the chunk, or the end where there is none.
 #define START(name, Turn)                                                                           \
   ENTRY bool name(TAKES_##Turn Turn from, Turn to, Turn step, Turn chunk, Turn *first, Turn *end) { \
     ENTER(name, GIVES_##Turn from, to, step, chunk, first, end);                                    \

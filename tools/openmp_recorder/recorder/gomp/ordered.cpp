@@ -6,7 +6,7 @@
 #include <vector>
 
 #include "callbacks.hpp"
-#include "told.hpp"
+#include "record_kind.hpp"
 #include "here.hpp"
 #include "own.hpp"
 
@@ -36,6 +36,7 @@ void hand_on(void (*wait)(Turn, ...), const Turn *turn, std::index_sequence<Loop
 ompt_wait_id_t name_of_order() { return reinterpret_cast<ompt_wait_id_t>(&this_here.counts) | 1; }
 }  // namespace
 
+// As a lock, whose wait counts as no code: the thread holds it while no other turn is in such a part.
 ENTRY void GOMP_ordered_start() {
   ENTER(GOMP_ordered_start);
   here();
@@ -48,7 +49,7 @@ ENTRY void GOMP_ordered_end() {
   ENTER(GOMP_ordered_end);
   Release when = release_begins();
   own_GOMP_ordered_end();
-  on_let_go(order, name_of_order(), when);
+  on_release(order, name_of_order(), when);
 }
 
 ENTRY void GOMP_doacross_post(long *turn) {

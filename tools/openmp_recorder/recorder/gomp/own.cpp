@@ -10,7 +10,7 @@
 #include "callers.hpp"
 #include "life.hpp"
 #include "log_form.hpp"
-#include "say.hpp"
+#include "notice.hpp"
 
 CodeRange recorded_callers;
 
@@ -24,6 +24,7 @@ int find_path(dl_phdr_info *module, size_t, void *path) {
 }
 
 // RTLD_NOLOAD throughout: a second runtime in the process would have threads and teams of its own.
+// The handle of what is chosen is never closed, so the runtime stays loaded as long as its functions are called here.
 void *module_of(const void *code) {
   Dl_info info;
   return code && dladdr(code, &info) ? dlopen(info.dli_fname, RTLD_LAZY | RTLD_NOLOAD) : nullptr;
@@ -56,6 +57,7 @@ void *runtime_by_name() {
   return library ? library : RTLD_NEXT;
 }
 
+// Runs once, under the guard of the static in `own_library`: other threads wait, and see `recorded_callers` afterwards.
 void *choose_runtime(const void *place) {
   void *called = runtime_called_by(place);
   bool is_of_all = !called || dlsym(RTLD_NEXT, every_runtime_has);
@@ -63,6 +65,7 @@ void *choose_runtime(const void *place) {
   return called ? called : runtime_by_name();
 }
 
+// The place of the first call of all counts, and those of later calls do not.
 void *own_library(const void *place = nullptr) {
   static void *const library = choose_runtime(place);
   return library;
@@ -73,6 +76,8 @@ struct LastCaller {
   CodeRange code;
   void *library = nullptr;
 };
+// Of that storage model, since otherwise a thread's first access allocates: a program's allocator may use OpenMP's
+// locks.
 __attribute__((tls_model("initial-exec"))) thread_local LastCaller last_caller;
 }  // namespace
 
@@ -86,14 +91,15 @@ void *llvms_function(const char *name, const void *place) {
 void *others_function(const char *name, const void *place) {
   if (!last_caller.code.has(place)) last_caller = {code_around(place), runtime_called_by(place)};
   if (!last_caller.library || last_caller.library == own_library()) return nullptr;
-  tell_unseen(log_form::unseen_runtime);
+  report_unseen(log_form::unseen_runtime);
   return dlsym(last_caller.library, name);
 }
 
+// It locks the loader, so each entry keeps the answer in a static.
 void *own_function(const char *name) {
   void *function = dlsym(own_library(), name);
   if (function) return function;
   // The call cannot be carried out, and to return would change what the program computes.
-  say(std::string("the runtime has no ") + name + ", which the program calls");
+  notice(std::string("the runtime has no ") + name + ", which the program calls");
   abort();
 }

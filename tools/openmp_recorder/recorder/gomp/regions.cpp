@@ -38,6 +38,7 @@ void end_part(Here &own, const Team &team, bool is_master) {
   on_sync(ompt_sync_region_barrier_implicit_parallel, ompt_scope_begin, nullptr, &implicit_task, team.place);
 }
 
+// The thread's state is that of no other part: whatever a thread of the runtime kept from its last region goes.
 void begin_part(Here &own, Team &team) {
   own.task = &implicit_task;
   own.in_team = true;
@@ -100,6 +101,7 @@ void begin_apart(Region *region, Own own_start, unsigned threads, Asked... asked
 }
 }  // namespace
 
+// In these entries the region lies on the stack: when the runtime's call returns, all threads have left its code.
 ENTRY void GOMP_parallel(Code code, void *data, unsigned threads, unsigned flags) {
   ENTER(GOMP_parallel, code, data, threads, flags);
   Region region(code, data, threads, PLACE);

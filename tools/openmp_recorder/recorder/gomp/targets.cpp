@@ -20,6 +20,7 @@ struct Target {
 };
 
 // What the runtime is handed: first ours, and then what the program maps.
+// The runtime copies the three lists before its call returns, also for a task that runs later.
 struct Mapped {
   Mapped(Target *first, size_t count, void **address, size_t *size, unsigned short *kind)
       : addresses{first}, sizes{0}, kinds{given_by_value} {
@@ -39,6 +40,7 @@ Target &target_of(void *addresses) {
   return target;
 }
 
+// The thread's state is put back as a whole: the code may begin regions, which change each part of it.
 void run_outside_of_teams(void *of) {
   Target &target = *reinterpret_cast<Target *>(static_cast<char *>(of) - sizeof(Head));
   Here &own = here();
@@ -50,12 +52,14 @@ void run_outside_of_teams(void *of) {
 }
 
 // No task of its own: only what it waited for is recorded.
+// On the thread of the call and before that returns, so `Target` may lie on its stack.
 void run_at_once(void *addresses) {
   Target &target = target_of(addresses);
   if (target.head.waits) tell_waited_for();
   run_outside_of_teams(target.head.data());
 }
 
+// Of a task that the runtime discards nothing is called, and its `Target` stays: the runtime gives no sign of that.
 void run_later(void *addresses) {
   std::unique_ptr<Target> target(&target_of(addresses));
   run_task(&target->head);

@@ -44,6 +44,8 @@ uint64_t turns_of(const Loop<unsigned long long> &of) {
 }
 
 // How many tasks it becomes, or one less.
+// The runtime decides how many it makes; this must never be more than one too few, since the room on the stack for
+// copies goes by it.
 template <class Turn>
 uint64_t least_tasks(const Loop<Turn> &of, uint64_t threads) {
   uint64_t turns = turns_of(of);
@@ -59,6 +61,7 @@ void copy_deferred(void *to, void *from) {
   given->copy_to(to);
 }
 
+// Of undeferred ones each is told when it starts, so the copy alone is due here.
 void copy_undeferred(void *to, void *from) { static_cast<const Given *>(from)->copy_to(to); }
 
 enum class Way {
@@ -71,8 +74,8 @@ template <class Turn>
 Way way_of(const Loop<Turn> &of, bool is_undeferred) {
   if (of.copier) return Way::Copied;
   uint64_t threads = threads_here(), least = least_tasks(of, threads);
-  if (is_undeferred || least > deferred_for_thread * threads) return Way::InPlace;
   uint64_t bytes = start_of_data(of.alignment) + static_cast<uint64_t>(of.bytes) + bytes_of_task;
+  if (is_undeferred || least > deferred_for_thread * threads) return bytes < most_bytes ? Way::InPlace : Way::Untold;
   return (least + 1) * bytes < most_bytes ? Way::Copied : Way::Untold;
 }
 
@@ -93,6 +96,8 @@ void call(Own own, const Loop<Turn> &of, Code code, void *data, Copier copier, l
   own(code, data, copier, bytes, aligned(of.alignment), of.flags, of.tasks, of.priority, of.from, of.to, of.step);
 }
 
+// `given` and the room of `alloca` must live until the runtime's call returns, so that call is made here and in no
+// helper that returns before. Between the two `on_work` the converter takes all creations for those of the loop.
 template <class Own, class Turn>
 void make_tasks(Own own_loop, const Loop<Turn> &of, const void *place) {
   Here &own = here();
@@ -142,6 +147,7 @@ void make_group(Own own_loop, Loop<Turn> of, const void *place) {
   on_sync(ompt_sync_region_taskgroup, ompt_scope_end, nullptr, own.task, place);
 }
 
+// There must be one group, as without the recorder: where the runtime would open it, it is asked for here.
 template <class Own, class Turn>
 void loop(Own own_loop, const Loop<Turn> &of, const void *place) {
   if (!(of.flags & loop_without_group)) return make_group(own_loop, of, place);

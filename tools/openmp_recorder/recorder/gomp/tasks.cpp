@@ -6,6 +6,7 @@
 #include "waits.hpp"
 
 namespace {
+// OMP_CANCELLATION cannot change during a run, so the runtime is asked once.
 bool is_cancellation_on() {
   static const bool is_on = reinterpret_cast<int (*)()>(own_function("omp_get_cancellation"))();
   return is_on;
@@ -18,6 +19,7 @@ void tell_start(Here &own, Head &head) {
   on_schedule(own.task, ompt_task_switch, &head.task);
 }
 
+// The runtime calls it on the creating thread, before `GOMP_task` returns.
 void copy(void *to, void *from) { static_cast<const Given *>(from)->copy_to(to); }
 
 // The program's arguments: handed on as they are but for the function, its data, their copier, size and alignment.
@@ -62,6 +64,7 @@ void make_task(Own own_task, const Asked &of, const void *place) {
 void no_code(void *) {}
 }  // namespace
 
+// The task is recorded as made, with its items, before the runtime knows of it: afterwards it may have ended.
 void tell_task(Here &own, Head &head, void **depend) {
   bool is_undeferred = head.flags & ompt_task_undeferred;
   if (depend && is_undeferred) {  // it is waited for, by whatever code the thread runs then

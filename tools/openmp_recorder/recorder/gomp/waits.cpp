@@ -5,10 +5,13 @@
 #include "own.hpp"
 #include "waits.hpp"
 
+// The beginning of a wait is recorded before the runtime's call, and its end after it. In between the thread may run
+// tasks: `run_task` puts `Here::task` back, so both records name the same task.
 void begin_group(const void *place) {
   on_sync(ompt_sync_region_taskgroup, ompt_scope_begin, nullptr, here().task, place);
 }
 
+// It allocates, so it comes before the runtime's call. `none` lies on this stack: the callbacks keep no pointer to it.
 void tell_wait_for(void **depend, int flags, const void *place) {
   std::vector<ompt_dependence_t> items = items_of(depend);
   ompt_data_t none = {0};
@@ -37,6 +40,8 @@ void wait_for_all(const void *place) {
 }
 
 namespace {
+// Four records around the runtime's call, as LLVM's runtime makes them: the wait ends before its group does. The last
+// two are made by a destructor, so that no way out of an entry skips them: the group would stay open.
 class GroupEnd {
  public:
   explicit GroupEnd(const void *of) : place(of) { tell(ompt_scope_begin); }
@@ -52,6 +57,7 @@ class GroupEnd {
   }
 };
 
+// As gcc's code numbers them; the program must get the runtime's own answer, since it decides whether to leave.
 enum { loop_or_sections = 2 | 4, region = 1, group = 8 };
 
 int flags_of(int which, bool is_asked) {
@@ -98,6 +104,8 @@ ENTRY void GOMP_taskgroup_reduction_register(uintptr_t *reductions) {
   own_GOMP_taskgroup_reduction_register(reductions);
 }
 
+// The construct ends before its barrier, and the barrier once the runtime's call has returned, whether it was cancelled
+// or not: the answer is the runtime's.
 #define BARRIER(answer, name, kind) \
   ENTRY answer name() {             \
     ENTER(name);                    \

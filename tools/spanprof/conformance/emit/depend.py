@@ -1,6 +1,6 @@
 """The `depend` clauses of a task in C: plain ones, with iterators, or by depend objects."""
 from spanprof.conformance.emit.forms import kind_in_c
-from spanprof.conformance.generate.text import item_runs
+from spanprof.conformance.generate.text_writer import item_runs
 
 
 def follows(item, run):

@@ -1,12 +1,12 @@
 """Writes a program as C with OpenMP tasks. To test another language, write its like of this file and of harness/."""
 from spanprof.conformance.data import DATA
 from spanprof.conformance.emit.depend import Objects, clauses
-from spanprof.conformance.emit.loops import head_of, head_of_taskloop, written_chunks
 from spanprof.conformance.emit.forms import (addends, adds, chunks_of, form_of, has_sum, is_cancelled, is_detached,
                                              is_of_regions, is_target, is_wait_for_items)
 from spanprof.conformance.emit.locations import Locations
+from spanprof.conformance.emit.loops import head_of, head_of_taskloop, written_chunks
 from spanprof.conformance.generate.program import Group, Loop, Task, Wait, Work, segment_count
-from spanprof.conformance.generate.text import text_of
+from spanprof.conformance.generate.text_writer import text_of
 
 TEMPLATE = DATA / "harness" / "program.c.in"
 WAITED_FOR, CREATES = 1, 2  # what the harness delays: see delays.c

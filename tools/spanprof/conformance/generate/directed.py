@@ -2,7 +2,7 @@
 from spanprof.conformance.data import DATA
 from spanprof.conformance.emit.forms import kind_in_c
 from spanprof.conformance.generate.program import Task, nodes
-from spanprof.conformance.generate.reader import read_program
+from spanprof.conformance.generate.text_reader import read_program
 
 FOLDER = DATA / "directed"
 

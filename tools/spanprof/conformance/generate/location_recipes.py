@@ -13,14 +13,14 @@ class LocationRecipes(Recipes):
 
     def table(self):
         """More locations than a runtime has room for at first, below the root or another task; or in several tasks."""
-        if self.rng.random() < .4 and "loop" not in self.without:
+        if self.rng.random() < .4:
             tasks = [self.gated(GATED * place) for place in range(self.rng.choice((2, 3, 4)))]
             return (*tasks, Wait())
         turns, apart = self.rng.choice((12, 40, 150, 300)), self.rng.choice((0, 1, 13, 31, 61))
         body = [self.over(turns, [("out", 0)], Work(self.rng.choice((1, 20, 100))))]
         for _ in range(self.rng.randint(1, 2)):
             places = [(self.rng.choice(self.kinds), 0)] + [("in", apart)] * (apart > 0 and self.rng.random() < .7)
-            body.append(self.over(turns, places, undeferred=self.may("if(0)", .3)))
+            body.append(self.over(turns, places, undeferred=self.may(.3)))
         return self.around(body) if self.rng.random() < .5 else (task(*body, Wait()), Wait())
 
     def gated(self, first):
@@ -33,23 +33,19 @@ class LocationRecipes(Recipes):
 
     def over(self, turns, places, *body, undeferred=False):
         """A task for each turn, with items of these kinds at the turn's place and so many places further."""
-        if "loop" in self.without:
-            return task(*body, items=[item(kind, "x", place) for kind, place in places], undeferred=undeferred)
         items = [Item(kind, "x", Index("i", place)) for kind, place in places]
         return Loop("i", 1, turns, (task(*body, items=items, undeferred=undeferred),))
 
     def probes(self):
         """In each of several tasks a few locations that a small table keeps in one another's places: the last one is
         still written while the others have ended, for which it waits perhaps; later tasks look for each."""
-        var = None if "loop" in self.without else "i"
-        places = [Index(var, place) for place in self.rng.sample(APART, self.rng.randint(2, 4))]
+        places = [Index("i", place) for place in self.rng.sample(APART, self.rng.randint(2, 4))]
         fast = [task(items=[Item("out", "x", place)]) for place in places[:-1]]
         slow = task(Work(LONG // 2), items=[Item("out", "x", places[-1])])
-        ended = self.readers(places[:-1], True) if self.may("if(0)", .8) else []
+        ended = self.readers(places[:-1], True) if self.may(.8) else []
         order = places[::-1] if self.rng.random() < .8 else places
-        ways = (True, False) if "if(0)" not in self.without else (False,)
-        both = [task(*fast, slow, *ended, *self.readers(order, undeferred)) for undeferred in ways]
-        return (*([Loop("i", 1, 33, tuple(both))] if var else both), Wait())
+        both = [task(*fast, slow, *ended, *self.readers(order, undeferred)) for undeferred in (True, False)]
+        return (Loop("i", 1, 33, tuple(both)), Wait())
 
     def readers(self, places, undeferred):
         return [task(items=[Item("in", "x", place)], undeferred=undeferred) for place in places]
@@ -59,8 +55,6 @@ class LocationRecipes(Recipes):
         turns, cost = self.rng.choice((20, 40, 100)), self.rng.choice((1, 5, 15, 40))
         writer = task(Work(cost), items=[item("out")])
         readers = self.loop(turns, task(*self.rng.choice(((), (), (Work(1),), (task(),))), items=[item("in")]))
-        if "loop" in self.without:
-            return self.around([writer, readers])
         return self.around([Loop("j", 1, STREAM // (2 * turns + 2), (writer, readers))])
 
     def members(self):
@@ -70,12 +64,10 @@ class LocationRecipes(Recipes):
         for _ in range(self.rng.randint(3, 7)):
             kind, count = self.rng.choice(("in", "out", *self.sets, *self.sets)), self.rng.choice((1, 2, 2, 3, 6))
             sets += self.one_set(kind, count, self.rng.randrange(2 * count))
-        if "loop" in self.without:
-            return self.around(sets)
         return self.around([Loop("i", 1, self.rng.choice((1, 2, 6)), tuple(sets))])
 
     def one_set(self, kind, count, slow):
         """So many tasks with an item of this kind, of which the one with this number is slow."""
         items, clauses = ([item("inoutset")], (kind,)) if kind == "mutexinoutset" else ([item(kind)], ())
         return [task(*([Work(200)] if number == slow else self.rng.choice(((), (), (Work(5),)))), items=items,
-                     undeferred=self.may("if(0)", .08), clauses=clauses) for number in range(count)]
+                     undeferred=self.may(.08), clauses=clauses) for number in range(count)]

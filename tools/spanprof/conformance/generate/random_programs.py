@@ -9,11 +9,6 @@ from spanprof.conformance.generate.program import Group, Index, Item, Loop, Task
 
 NAMES = ("a", "b", "c", "d")
 MOST_ITEMS = 6
-# What random programs may be told to do without, beside the kinds of items.
-CONSTRUCTS = ("if(0)", "final", "loop", "repeated item", "mergeable", "priority", "taskyield", "taskloop", "parallel",
-              "taskwait with depend", "depobj", "iterator", "detach", "depend(mutexinoutset)", "num_tasks",
-              "grainsize", "strict", "taskloop of any size", "reduction", "copied", "target",
-              "cancel")
 
 
 @dataclass(frozen=True)
@@ -67,15 +62,15 @@ RECIPES = {"many": LocationRecipes.crowd, "fan": LocationRecipes.fan, "rounds": 
 
 
 class Generator:
-    def __init__(self, rng, shape, kinds, without):
-        self.rng, self.shape, self.without = rng, shape, without
+    def __init__(self, rng, shape, kinds):
+        self.rng, self.shape = rng, shape
         self.kinds = [kind for kind in ("in", "out", "inout", "inoutset", "in", "inoutset") if kind in kinds]
         self.knows_exclusion = "mutexinoutset" in kinds
         self.names = NAMES[:rng.choice((1, 2, 2, 4))]
         self.left = rng.choice((10, 25, 60, 120))
 
     def program(self):
-        if not self.shape.regions or "parallel" in self.without:
+        if not self.shape.regions:
             return self.body()
         return tuple(self.region() for _ in range(self.rng.choice((1, 1, 2, 3))))
 
@@ -96,7 +91,7 @@ class Generator:
     def statement(self, depth, loops):
         calls = (self.task, self.wait, self.group, self.loop, self.pause, self.work)
         made = self.rng.choices(calls, self.shape.weights)[0]
-        no_loop = "loop" in self.without or len(loops) == self.shape.loops
+        no_loop = len(loops) == self.shape.loops
         if depth >= self.shape.deepest or made == self.loop and no_loop:
             made = self.work
         return made(depth, loops)
@@ -108,14 +103,14 @@ class Generator:
         return Wait()
 
     def pause(self, _depth, _loops):
-        return Group((), "taskyield" if self.chance("taskyield", .8) else "taskgroup")
+        return Group((), "taskyield" if self.chance(.8) else "taskgroup")
 
     def group(self, depth, loops):
         body = self.body(depth + 1, loops)
-        return Group(body, "reduction" if addends(body) and self.chance("reduction", .2) else "taskgroup")
+        return Group(body, "reduction" if addends(body) and self.chance(.2) else "taskgroup")
 
     def loop(self, depth, loops):
-        if self.chance("taskloop", .3):
+        if self.chance(.3):
             return self.task_loop(depth, loops)
         var, first, last = self.turns(loops)
         return Loop(var, first, last, self.body(depth + 1, (*loops, var)))
@@ -127,34 +122,34 @@ class Generator:
     def task_loop(self, depth, loops):
         """A taskloop, with its group or without."""
         var, first, last = self.turns(loops)
-        task = Task(False, self.chance("final", self.shape.final), (), self.body(depth + 1, (*loops, var)),
+        task = Task(False, self.chance(self.shape.final), (), self.body(depth + 1, (*loops, var)),
                     self.clauses())
         form = "taskloop" + self.chunks()
         if self.rng.random() < .5:
             return Loop(var, first, last, (task,), form)
-        form += " reduction" * (form == "taskloop" and self.chance("reduction", .3))
+        form += " reduction" * (form == "taskloop" and self.chance(.3))
         return Group((Loop(var, first, last, (task,)),), form)
 
     def chunks(self):
         """How many turns the tasks of a taskloop get: one each where nothing is said."""
-        if self.chance("taskloop of any size", .15):
+        if self.chance(.15):
             return " any"
-        clause = next((clause for clause in ("num_tasks", "grainsize") if self.chance(clause, .25)), "")
-        strict = "strict:" if self.chance("strict", .3) else ""
+        clause = next((clause for clause in ("num_tasks", "grainsize") if self.chance(.25)), "")
+        strict = "strict:" if self.chance(.3) else ""
         return clause and f" {clause}({strict}{self.rng.choice((1, 2, 3, 5, 8))})"
 
     def task(self, depth, loops):
-        undeferred = self.chance("if(0)", self.shape.undeferred)
+        undeferred = self.chance(self.shape.undeferred)
         items = self.items(loops)
-        if undeferred and items and self.chance("taskwait with depend", .3):
+        if undeferred and items and self.chance(.3):
             return Task(True, False, items, (), ("taskwait",))
-        if not undeferred and "if(0)" not in self.without and self.chance("detach", .04):
+        if not undeferred and self.chance(.04):
             return self.detached(items)
-        if not undeferred and self.chance("target", .04):
+        if not undeferred and self.chance(.04):
             return Task(False, False, items, (self.work(0, ()),), ("target",))
-        final = self.chance("final", self.shape.final)
+        final = self.chance(self.shape.final)
         clauses = self.clauses()
-        if items and self.knows_exclusion and self.chance("depend(mutexinoutset)", .15):
+        if items and self.knows_exclusion and self.chance(.15):
             items, clauses = (replace(items[0], kind="inoutset"), *items[1:]), (*clauses, "mutexinoutset")
         return Task(undeferred, final, items, self.body(depth + 1, loops), clauses + self.way_of_items(items))
 
@@ -165,24 +160,22 @@ class Generator:
 
     def way_of_items(self, items):
         """By which construct the items of a task are written in C."""
-        way = next((way for way in ("depobj", "iterator") if items and self.chance(way, .08)), None)
+        way = next((way for way in ("depobj", "iterator") if items and self.chance(.08)), None)
         return (way,) if way else ()
 
     def clauses(self):
         """Clauses that change nothing of what must precede what."""
-        clauses = ("mergeable",) if self.chance("mergeable", .1) else ()
-        clauses += ("copied",) if self.chance("copied", .08) else ()
-        return clauses + ((f"priority({self.rng.randint(0, 9)})",) if self.chance("priority", .15) else ())
+        clauses = ("mergeable",) if self.chance(.1) else ()
+        clauses += ("copied",) if self.chance(.08) else ()
+        return clauses + ((f"priority({self.rng.randint(0, 9)})",) if self.chance(.15) else ())
 
-    def chance(self, construct, likely):
-        return construct not in self.without and self.rng.random() < likely
+    def chance(self, likely):
+        return self.rng.random() < likely
 
     def items(self, loops):
         count = min(MOST_ITEMS, int(self.rng.expovariate(1 / self.shape.items)))
         items = [Item(self.rng.choice(self.kinds), self.rng.choice(self.names), self.index(loops))
                  for _ in range(count)]
-        if "repeated item" in self.without:
-            items = list({item.place: item for item in items}.values())
         return tuple(items)
 
     def index(self, loops):
@@ -208,14 +201,14 @@ def seeds_in_turn(first, count):
     return (next(seeds[name]) for name in itertools.islice(itertools.cycle(names), count))
 
 
-def random_program(seed, kinds, without=()):
-    """The name of its shape or form, and the program: of items of these kinds, without these constructs."""
+def random_program(seed, kinds):
+    """The name of its shape or form, and the program, of items of these kinds."""
     rng = random.Random(seed)
     name = rng.choice([*SHAPES, *RECIPES])
     if name in RECIPES:
-        return name, RECIPES[name](LocationRecipes(rng, kinds, without))
+        return name, RECIPES[name](LocationRecipes(rng, kinds))
     least, most = SHAPES[name].sizes
     while True:
-        body = Generator(rng, SHAPES[name], kinds, without).program()
-        if least <= segment_count(body) <= most or "loop" in without and segment_count(body) > 2:
+        body = Generator(rng, SHAPES[name], kinds).program()
+        if least <= segment_count(body) <= most:
             return name, body

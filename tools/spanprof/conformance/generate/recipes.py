@@ -17,21 +17,19 @@ def item(kind, name="a", place=None):
 
 
 class Recipes:
-    """Makes programs by one random generator. Items are of these kinds; constructs in `without` are left out."""
+    """Makes programs by one random generator. Items are of these kinds."""
 
-    def __init__(self, rng, kinds, without):
-        self.rng, self.without = rng, without
+    def __init__(self, rng, kinds):
+        self.rng = rng
         self.kinds = [kind for kind in ("in", "out", "inout") if kind in kinds]
-        self.sets = ["inoutset"] * ("inoutset" in kinds)
-        if "mutexinoutset" in kinds and "depend(mutexinoutset)" not in without:
-            self.sets.append("mutexinoutset")
+        self.sets = [kind for kind in ("inoutset", "mutexinoutset") if kind in kinds]
 
-    def may(self, construct, likely):
-        return construct not in self.without and self.rng.random() < likely
+    def may(self, likely):
+        return self.rng.random() < likely
 
-    def loop(self, turns, *body):
-        """So many turns, or the body once where there are to be no loops."""
-        return Loop("i", 1, turns, body) if "loop" not in self.without else Group(body)
+    @staticmethod
+    def loop(turns, *body):
+        return Loop("i", 1, turns, body)
 
     def small(self):
         """The body of one of many tasks: mostly nothing, or a child, or two and a wait for them."""
@@ -39,16 +37,16 @@ class Recipes:
                                 (task(), task(), Wait())))
 
     def priority(self):
-        return (f"priority({self.rng.randint(1, 9)})",) if self.may("priority", .3) else ()
+        return (f"priority({self.rng.randint(1, 9)})",) if self.may(.3) else ()
 
     def later(self):
         """A task that waits for earlier ones on the location, and has to do so whatever came between."""
         kind = self.rng.choice(self.kinds)
-        if self.may("if(0)", .3):
-            if self.may("taskwait with depend", .4):
+        if self.may(.3):
+            if self.may(.4):
                 return task(items=[item(kind)], undeferred=True, clauses=("taskwait",))
             return task(items=[item(kind)], undeferred=True)
-        final = self.may("final", .2)
+        final = self.may(.2)
         return task(*self.rng.choice(((), (Work(1),), (task(Work(1)), Work(1)))), items=[item(kind)], final=final,
                     clauses=self.priority())
 
@@ -76,15 +74,13 @@ class Recipes:
         """Many tasks that wait for one slow task, perhaps in a group, and then others that wait for all of these."""
         turns = self.rng.choice((1, 7, 13, 40, 120))
         reader = task(*self.small(), items=[item("in")])
-        if self.may("target", .25):
+        if self.may(.25):
             reader = task(Work(1), items=[item("in")], clauses=("target",))
         readers = self.loop(turns, reader)
         if self.rng.random() < .5:
             readers = Group((readers,))
         body = [task(Work(LONG), items=[item("out")]), readers,
                 *(self.later() for _ in range(self.rng.randint(1, 4)))]
-        if "loop" in self.without:
-            return self.around(body)
         return self.around([Loop("j", 1, self.rng.choice((1, 2, 4)), tuple(body))])
 
     def rounds(self):
@@ -93,8 +89,6 @@ class Recipes:
         apart = self.rng.choice((1, 1, 4, 8))
         turns = max(8, min(300, ROUNDS // apart // segment_count(body)))
         many = Loop("i", 1, turns, body)
-        if "loop" in self.without:
-            return body
         return (many,) if apart == 1 else (Loop("j", 1, apart, (task(many),)), Wait())
 
     def hurry(self):
@@ -103,10 +97,10 @@ class Recipes:
                                  (task(items=[item("out")]), task(items=[item("in")]))))
         wait = task(items=[item("out")], undeferred=True)
         body = self.rng.choice(((*tasks, Wait()), (*tasks, Wait()), (Group(tasks),),
-                                (*tasks, wait if "if(0)" not in self.without else Wait())))
+                                (*tasks, wait)))
         apart = self.rng.choice((1, 2, 3, 3))
         many = self.loop(HURRIED // apart // segment_count(body), *body)
-        return (many,) if apart == 1 or "loop" in self.without else (Loop("j", 1, apart, (task(many),)), Wait())
+        return (many,) if apart == 1 else (Loop("j", 1, apart, (task(many),)), Wait())
 
     def round(self):
         """Some tasks, and one of the statements that wait for them."""
@@ -119,9 +113,9 @@ class Recipes:
             return (*tasks, Wait())
         if chance < .75:
             return (Group(tuple(tasks)),)
-        written = ("taskwait",) if self.may("taskwait with depend", .4) else ()
+        written = ("taskwait",) if self.may(.4) else ()
         wait = task(items=[item("out", "a", 0), item("in", "a", 1)], undeferred=True, clauses=written)
-        return (*tasks, wait) if "if(0)" not in self.without else (*tasks, Wait())
+        return (*tasks, wait)
 
     def paced(self, pace):
         """Work that takes a random time up to the pace of a round, so that one thing ends as another begins."""
@@ -137,8 +131,6 @@ class Recipes:
     def cancelled(self):
         """Groups of which a task is cancelled, one after another, among tasks that are not in them. These are over when
         a group begins: a task that is left out does not wait for what it depends on."""
-        if "cancel" in self.without:
-            return self.makers()
         body = [task(Work(self.rng.choice((1, 20))), items=[item("out")])]
         for _ in range(self.rng.choice((1, 2, 6))):
             body += [Wait(), self.cancelled_group(), task(items=[item("in")])]
@@ -149,7 +141,7 @@ class Recipes:
         tasks = [task(*self.small(), items=[item(self.rng.choice(self.kinds))] if self.rng.random() < .4 else [])
                  for _ in range(self.rng.choice((2, 5, 9)))]
         tasks.append(Group((task(Work(5)), task())))
-        if self.may("loop", .4):
+        if self.may(.4):
             tasks.append(Loop("i", 1, self.rng.choice((20, 100)), (task(),)))
         canceller = task(Work(self.rng.choice((0, 5))), clauses=("cancels",))
         tasks.insert(self.rng.randrange(len(tasks)), canceller)
@@ -159,6 +151,4 @@ class Recipes:
     def makers(self):
         """Tasks side by side that create tasks of one group all at once."""
         inner = Loop("i", 1, self.rng.choice((20, 60, 120)), (task(*self.rng.choice(((), (), (task(),)))),))
-        if "loop" in self.without:
-            return (Group((task(task()), task(task()))), Work(1))
         return (Group((Loop("j", 1, self.rng.choice((2, 4, 8)), (task(inner),)),)), Work(1))

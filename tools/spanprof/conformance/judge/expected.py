@@ -1,6 +1,6 @@
 """Failures that are expected, by a file: a line for each kind, with words `NAME=PATTERN`, and then what is known of it.
 
-    family=gomp kind=crashed setting=priorities : found/priority_child_above_parent.md
+    family=gomp kind=crashed setting=priorities : found/priority_child_above_parent.c
 
 A failure is expected where each of a line's patterns, as the shell has them, fits it. Names are family (gomp or kmp),
 runtime (its file), kind, rule, tasks, program, setting, threads, and has, which fits where one of the constructs of the

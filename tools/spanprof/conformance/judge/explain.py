@@ -1,8 +1,8 @@
 """Says in words what a failed run broke."""
 from dataclasses import dataclass
 
+from spanprof.conformance.generate.text_reader import read_program
 from spanprof.conformance.judge import chunks, exclusion, tied
-from spanprof.conformance.generate.reader import read_program
 from spanprof.conformance.judge.rules import RULES, rule_of
 from spanprof.conformance.judge.segments import Table, conflict
 from spanprof.conformance.judge.standing import Standing, without_places

@@ -19,19 +19,19 @@ RULES = {
     "taskwait": Rule("a taskwait waits for all children created so far (taskwait construct)", "15.5"),
     "taskgroup": Rule("the end of a group waits for all tasks created inside and for those below them (taskgroup "
                       "construct)", "15.4"),
-    "once": Rule("a task runs once, and its code in one piece from one scheduling point to the next", "12.5 and 12.9"),
+    "once": Rule("a task runs once, and its code in one piece from one scheduling point to the next", "12.5 and 12.10"),
     "iterations": Rule("a taskloop runs each of its iterations once, and no other", "12.6"),
     "chunks": Rule("`grainsize` and `num_tasks` say how many tasks a taskloop has, and of how many iterations",
                    "12.6.1 and 12.6.2"),
     "reduction": Rule("a reduction leaves what all tasks have added", "5.5.8 to 5.5.10"),
     "data": Rule("a task has the values that its `firstprivate` items had at its creation", "5.4.4"),
     "memory": Rule("a task sees what those have written for which it waited", "1.4.4 and 15.8"),
-    "tied": Rule("a tied task goes on on the thread that began it", "12.9"),
-    "constraint": Rule("a thread begins a tied task only below each tied task that is suspended there", "12.9"),
+    "tied": Rule("a tied task goes on on the thread that began it", "12.10"),
+    "constraint": Rule("a thread begins a tied task only below each tied task that is suspended there", "12.10"),
     "exclusion": Rule("siblings with `mutexinoutset` items on one location run one at a time", "15.9.5"),
     "event": Rule("a task with `detach` is complete once its code has ended and its event is fulfilled", "12.5.2"),
     "cancel": Rule("tasks of a cancelled group that have begun end, and the others may be left out", "16.1"),
-    "end": Rule("each task runs, each wait ends, and so does the program", "12.9, 15.3 to 15.5"),
+    "end": Rule("each task runs, each wait ends, and so does the program", "12.10, 15.3 to 15.5"),
     "region": Rule("the end of a region waits for all tasks of its team", "15.3.2"),
 }
 # By the kind of a failure, or by the words before the colon where a program sees a wrong value itself.

@@ -29,7 +29,6 @@ def tested(options, bench, settings):
              "tasks": ", ".join(options.tasks),
              "directed programs": options.match if options.match != "*" else "",
              "random programs": str(options.programs),
-             "left out of random programs": ", ".join(options.without),
              "left out, as the compiler lacks a kind of item": lacking(options, toolchain.kinds)}
     return {name: fact for name, fact in facts.items() if fact}
 
@@ -43,7 +42,7 @@ def of_mutants(options, bench, settings):
             "tasks": ", ".join(options.tasks), "random programs": str(options.programs),
             "directed programs": options.match,
             "texts of directed programs": hashlib.sha256(texts).hexdigest(),
-            "left out of random programs": ", ".join(options.without), "seconds": str(options.seconds)}
+            "seconds": str(options.seconds)}
 
 
 def lacking(options, kinds):

@@ -16,12 +16,13 @@ def verdict(results):
 
 
 def publish(names, report):
-    """Prints the tables, and the small programs where no report is asked for; writes the reports that are, names with
-    commas."""
+    """Prints the tables, where no report is asked for also how hard each rule was tried and the small programs; writes
+    the reports that are, names with commas."""
     results = report.results
-    for lines in (tables.summary(results, ["all"]), coverage_lines(report), tables.expected(results),
+    for lines in (tables.summary(results, ["all"]), [] if names else coverage_lines(report), tables.expected(results),
                   tables.kinds_of_failure(results)):
-        print("\n".join([*lines, ""]))
+        if lines:
+            print("\n".join([*lines, ""]))
     if not names:
         for number, one in enumerate(report.found, 1):
             print("\n".join(reproducer(number, one, "FILE")))

@@ -2,12 +2,12 @@
 import collections
 from dataclasses import asdict
 
+from spanprof.conformance.generate.text_reader import read_program
+from spanprof.conformance.generate.text_writer import text_of
 from spanprof.conformance.judge.cases import Case, Failure
 from spanprof.conformance.judge.verdicts import Verdict
-from spanprof.conformance.run.launch import Conditions, Log
-from spanprof.conformance.generate.reader import read_program
 from spanprof.conformance.report.results import Group, Outcome, Results
-from spanprof.conformance.generate.text import text_of
+from spanprof.conformance.run.launch import Conditions, Log
 
 
 def as_json(results):

@@ -85,15 +85,13 @@ def mutant_line(name, meaning, results):
     return line_of((f"`{name}`", meaning, len(programs), seen, first_few(programs), f"{results.seconds:.0f}"))
 
 
-BUILT_HEADS = ("mutant", "rule", "breaks it", "campaigns", "programs", "seen as", "programs that caught it", "seconds")
+BUILT_HEADS = ("mutant", "rule", "breaks it", "tried", "seen as", "programs that caught it", "seconds")
 
 
-def built_line(mutant, caught):
+def built_line(mutant, campaign):
     """The row of one runtime that was built from a changed source."""
-    programs = caught.programs()
-    return line_of((f"`{mutant.name}`", mutant.rule, mutant.breaks.split(":")[0],
-                    f"{caught.times()} of {len(caught.campaigns)}", len(programs), "; ".join(caught.ways()),
-                    first_few(programs), f"{caught.seconds():.0f}"))
+    return line_of((f"`{mutant.name}`", mutant.rule, mutant.breaks.split(":")[0], campaign.tried,
+                    "; ".join(campaign.ways()), first_few(sorted(campaign.failed)), f"{campaign.seconds:.0f}"))
 
 
 def matrix(caught):

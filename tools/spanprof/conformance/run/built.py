@@ -4,8 +4,6 @@ import json
 import pathlib
 from dataclasses import dataclass
 
-from spanprof.conformance.judge.verdicts import Missing
-
 
 @dataclass(frozen=True)
 class Built:
@@ -26,14 +24,11 @@ class Built:
         return {**plain, "LD_PRELOAD": f"{self.library} {before}" if before else str(self.library)}
 
 
-def built_in(folder, only=()):
-    """The runtime as it is, if it is there, and the mutants of a folder by rule and name: all, or some names alone."""
+def built_in(folder):
+    """The runtime as it is, if it is there, and the mutants of a folder by rule and name."""
     folder = pathlib.Path(folder).resolve()
     described = json.loads((folder / "mutants.json").read_text())
-    unknown = sorted(set(only) - set(described))
-    if unknown:
-        raise Missing(f"no mutant {', '.join(unknown)} in {folder}")
     mutants = [Built(name, *(fields[key] for key in ("words", "rule", "breaks")), folder / f"{name}.so")
-               for name, fields in described.items() if name in only or not only]
+               for name, fields in described.items()]
     plain = [Built("none", "nothing", "", "no", folder / "none.so")]
     return [one for one in plain + sorted(mutants, key=lambda m: (m.rule, m.name)) if one.library.exists()]

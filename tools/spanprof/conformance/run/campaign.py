@@ -16,6 +16,7 @@ from spanprof.conformance.generate.variants import in_variant
 
 KINDS_IN_ORDER = {self_checking.VARIANT: 0, "tied": 1}
 MOST_BUILT = 400  # programs that are there at once
+TICK = 5  # seconds after which progress is told though no case has ended
 DIRECTED_UNIT, RANDOM_UNIT = 100_000, 1_000  # nanoseconds for a cost of 1
 
 
@@ -39,10 +40,10 @@ def self_checking_cases(pattern="*"):
     return self_checking.cases(lambda name: fnmatch.fnmatchcase(name, pattern))
 
 
-def random_cases(seeds, kinds, variants, without):
+def random_cases(seeds, kinds, variants):
     """Cases of random programs. Each is named for its shape and the seed that makes it."""
     for seed in seeds:
-        shape, body = random_program(seed, kinds, without)
+        shape, body = random_program(seed, kinds)
         yield from cases_of(f"{shape}-{seed}", body, variants, RANDOM_UNIT)
 
 
@@ -58,14 +59,21 @@ def telling_first(cases):
 
 
 class Running:
-    """Cases that are tried side by side on a bench, in their order, as long as there is time."""
+    """Cases that are tried side by side on a bench, in their order, as long as there is time; `tick` is called now and
+    then."""
 
-    def __init__(self, bench, plan, jobs, seconds):
-        self.bench, self.plan, self.jobs, self.over = bench, plan, jobs, time.monotonic() + seconds
+    def __init__(self, bench, plan, jobs, seconds, tick):
+        self.bench, self.plan, self.jobs, self.over, self.tick = bench, plan, jobs, time.monotonic() + seconds, tick
         self.pool, self.running = concurrent.futures.ThreadPoolExecutor(jobs), {}
 
     def is_over(self):
         return time.monotonic() > self.over
+
+    def in_time(self, all_conditions):
+        """The first of some conditions, and others as long as there is time."""
+        for number, conditions in enumerate(all_conditions):
+            if number == 0 or not self.is_over():
+                yield conditions
 
     def begin(self, cases):
         """Begins as many as may run; programs that were built are forgotten now and then, when none runs."""
@@ -77,14 +85,15 @@ class Running:
             case = next(cases, None)
             if case is None:
                 return
-            self.running[self.pool.submit(self.bench.try_case, case, self.plan.conditions(case))] = case
+            self.running[self.pool.submit(self.bench.try_case, case, self.in_time(self.plan.conditions(case)))] = case
 
     def outcomes(self, cases):
         """Each case with its tallies, as it ends."""
         try:
             self.begin(cases)
             while self.running:
-                done, _ = concurrent.futures.wait(self.running, return_when=concurrent.futures.FIRST_COMPLETED)
+                done, _ = concurrent.futures.wait(self.running, TICK, return_when=concurrent.futures.FIRST_COMPLETED)
+                self.tick()
                 for future in done:
                     yield self.running.pop(future), future.result()
                 self.begin(cases)
@@ -95,10 +104,12 @@ class Running:
 def tried(bench, cases, plan, jobs, seconds=math.inf, count=0):
     """Each of the cases, which are so many, with its tallies, as it ends; each is run as the plan says. What may only
     have been slow comes last, after a second try. No case is begun after so many seconds, and none tried again."""
-    progress, slow, running = Progress(count), [], Running(bench, plan, jobs, seconds)
+    progress, slow = Progress(count), []
+    running = Running(bench, plan, jobs, seconds, progress.tick)
     for case, tallies in running.outcomes(iter(cases)):
-        progress.add(tallies)
-        if doubtful(tallies):
+        is_slow = doubtful(tallies)
+        progress.add([] if is_slow else tallies)
+        if is_slow:
             slow.append((case, tallies))
         else:
             yield case, tallies
@@ -106,7 +117,9 @@ def tried(bench, cases, plan, jobs, seconds=math.inf, count=0):
                         else bench.try_case(case, [conditions])[0], bench.sure_hangs)
     for number, (case, tallies) in enumerate(slow, 1):
         say(f"a hang that may only have been slow is tried again: {number} of {len(slow)}, {case.name}")
-        yield case, tries.settled(case, tallies)
+        settled = tries.settled(case, tallies)
+        progress.add_failures(settled)
+        yield case, settled
 
 
 def run_cases(bench, cases, plan, jobs, seconds=math.inf):

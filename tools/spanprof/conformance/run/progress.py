@@ -2,7 +2,7 @@
 import sys
 import time
 
-MINUTE, HALF_A_MINUTE = 60, 30
+MINUTE, HALF_A_MINUTE, SOON = 60, 30, 5
 TO_LINE_END = "\033[K"  # clears what is left of a longer line
 
 
@@ -19,30 +19,38 @@ def rough(seconds):
 
 class Progress:
     """How many cases are done, and about how long the others take if they are like these: a line of a terminal that
-    changes, or a line of a log each half minute. Each new kind of failure has a line of its own."""
+    changes, or a line of a log soon and then each half minute. Each new kind of failure has a line of its own."""
 
     def __init__(self, cases):
         self.cases, self.done, self.failed = cases, 0, 0
-        self.begun = self.reported = time.perf_counter()
-        self.kinds = set()
+        self.begun = time.perf_counter()
+        self.next, self.kinds = self.begun + SOON, set()
 
     def add(self, tallies):
         self.done += 1
+        self.add_failures(tallies)
+        self.show(self.done == self.cases)
+
+    def add_failures(self, tallies):
         failures = [failure for tally in tallies for failure in tally.failures]
         self.failed += bool(failures)
         for failure in failures:
             self.report(failure)
-        is_last = self.done == self.cases
-        left = "" if is_last else f", about {rough(self.seconds_left())} left"
-        self.show(f"{self.done} of {self.cases} cases, {self.failed} with failures{left}", is_last)
 
-    def show(self, words, is_last):
+    def tick(self):
+        """No case has ended, perhaps for long."""
+        if not sys.stderr.isatty():
+            self.show(False)
+
+    def show(self, is_last):
+        left = "" if is_last or not self.done else f", about {rough(self.seconds_left())} left"
+        words = f"{self.done} of {self.cases} cases, {self.failed} with failures{left}"
         if sys.stderr.isatty():
             say(f"\r{words}{TO_LINE_END}", "\n" if is_last else "")
             return
         at = time.perf_counter()
-        if is_last or at - self.reported >= HALF_A_MINUTE:
-            self.reported = at
+        if is_last or at >= self.next:
+            self.next = at + HALF_A_MINUTE
             print(words, file=sys.stderr, flush=True)
 
     def report(self, failure):

@@ -5,6 +5,9 @@ OpenMP 5.2, and `// env:` the variables that it needs. Status 0: as the standard
 prints says what was seen and what is right.
 """
 import collections
+import math
+import os
+import pathlib
 import re
 import subprocess
 import time
@@ -22,10 +25,12 @@ FOLDER = DATA / "self_checking"
 VARIANT = "self-checking"
 INCLUDED = '#include "expect.h"\n'
 RUNS = 2                # on each number of threads; each run has rounds of its own
-LOOKS, APART = 5, 0.1   # at the processor time of a program that hangs, and the seconds between them
+LOOKS, APART = 5, 0.1   # at the threads of a program that hangs, and the seconds between them
 MOST_LINES = 3
+SOONER, LONGEST = 3, 12  # a third of the time is enough where a program sleeps, and many times as long is given
 BROKEN_DOWN = ("internal compiler error", "PLEASE submit a bug report")
-TICKS = slice(11, 13)   # of the fields behind a process's name in /proc: its time in user and in system code
+TICKS = slice(11, 13)   # of the fields behind a thread's name in /proc: its time in user and in system code
+SLEEPS = "S"            # the first of these fields; a thread that waits for a processor, or has ended, has another
 
 
 @dataclass(frozen=True)
@@ -84,8 +89,12 @@ def try_case(bench, case, all_conditions):
         program = bench.toolchain.build_alone(source(case.name), case.name, path_of(case.name).suffix)
     except BuildFailed as refused:
         return [not_built(case, c, str(refused)) for c in all_conditions]
-    told = read(path_of(case.name))
-    return [tally(bench, case, told, program, conditions) for conditions in all_conditions]
+    told, tallies = read(path_of(case.name)), []
+    for conditions in all_conditions:
+        tallies.append(tally(bench, case, told, program, conditions))
+        if tallies[-1].expected:    # what is known takes no more time
+            break
+    return tallies
 
 
 def not_built(case, conditions, said):
@@ -131,14 +140,27 @@ def run(program, told, conditions, environment):
     variables.update(told.variables, OMP_NUM_THREADS=str(conditions.threads))
     with subprocess.Popen([*words, str(program)], stdout=subprocess.PIPE, stderr=subprocess.PIPE, text=True,
                           errors="replace", env={**environment, **variables}) as process:
-        try:
-            written, complaints = process.communicate(timeout=conditions.timeout)
-        except subprocess.TimeoutExpired:
-            how = "asleep" if is_asleep(process.pid) else "busy"
+        ended, how = ended_in(process, conditions.timeout)
+        if not ended:
             process.kill()
             process.communicate()
             return Verdict("hung", how)
-    return verdict_on(process.returncode, written, complaints)
+    return verdict_on(process.returncode, *ended)
+
+
+def ended_in(process, seconds):
+    """What a process has written when it ends, or how it hangs: for a part of so many seconds all its threads sleep, or
+    it has taken them as time and as processor time, or many times as long where others have the processors."""
+    begun = time.monotonic()
+    while True:
+        try:
+            return process.communicate(timeout=seconds / SOONER), ""
+        except subprocess.TimeoutExpired:
+            took = time.monotonic() - begun
+            if is_asleep(process.pid):
+                return None, "asleep"
+            if took > LONGEST * seconds or min(took, processor_time(process.pid)) > seconds:
+                return None, "busy"
 
 
 def verdict_on(status, written, complaints):
@@ -150,14 +172,28 @@ def verdict_on(status, written, complaints):
     return Verdict("crashed", breakdown("", status, complaints))
 
 
+def looked_at(pid):
+    """The states of a process's threads, and the processor time that each has taken."""
+    stats = [path.read_text().rpartition(")")[2].split() for path in pathlib.Path(f"/proc/{pid}/task").glob("*/stat")]
+    return {fields[0] for fields in stats}, [fields[TICKS] for fields in stats]
+
+
+def processor_time(pid):
+    """In seconds, of all threads of a process so far; endless where it has ended."""
+    try:
+        return sum(map(int, sum(looked_at(pid)[1], []))) / os.sysconf("SC_CLK_TCK")
+    except OSError:
+        return math.inf
+
+
 def is_asleep(pid):
-    """Whether a process takes no processor time at some looks."""
-    def ticks():
-        with open(f"/proc/{pid}/stat", encoding="utf-8") as file:
-            return file.read().rpartition(")")[2].split()[TICKS]
-    first = ticks()
-    for _ in range(LOOKS):
-        time.sleep(APART)
-        if ticks() != first:
-            return False
+    """Whether each thread of a process sleeps, at some looks."""
+    try:
+        first = looked_at(pid)
+        for _ in range(LOOKS):
+            time.sleep(APART)
+            if first[0] != {SLEEPS} or looked_at(pid) != first:
+                return False
+    except OSError:     # one has ended
+        return False
     return True

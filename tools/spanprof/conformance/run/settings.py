@@ -29,7 +29,7 @@ SETTINGS = {
     "unlogged": Setting("threads share no counter of events; values and ends are judged", {"CONFORMANCE_LOG": "none"}),
     "hurried": Setting("threads share no counter of events, and sleep at once wherever they wait",
                        {"CONFORMANCE_LOG": "none", "GOMP_SPINCOUNT": "0", "KMP_BLOCKTIME": "0"}),
-    "interrupted": Setting("threads are held up at random moments, also inside the runtime",
+    "interrupted": Setting("threads are delayed at random moments, also inside the runtime",
                            {"CONFORMANCE_INTERRUPTS": "1", "GOMP_SPINCOUNT": "0", "KMP_BLOCKTIME": "0"}),
     "orphaned": Setting("outside of any parallel region", {"CONFORMANCE_TEAM": "orphaned"}),
     "nested": Setting("in a region inside another one", {"CONFORMANCE_TEAM": "nested"}),

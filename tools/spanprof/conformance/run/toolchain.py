@@ -166,11 +166,15 @@ class Toolchain:
                 return f"{' '.join(told)} ({path})" if told else path
         return path
 
+    @functools.cached_property
+    def library(self):
+        """A program that names its runtime library."""
+        return self.build_text(LIBRARY, "library", ["-ldl"])
+
     def runtime(self, environment):
         """The file of the runtime library that programs load."""
         try:
-            program = self.build_text(LIBRARY, "library", ["-ldl"])
-            done = subprocess.run([program], capture_output=True, text=True, env=environment, check=False)
+            done = subprocess.run([self.library], capture_output=True, text=True, env=environment, check=False)
             return str(pathlib.Path(done.stdout.strip()).resolve())
         except BuildFailed:
             return "unknown"

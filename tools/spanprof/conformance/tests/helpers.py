@@ -1,10 +1,10 @@
 """What several tests need: programs, failures and a bench that runs nothing."""
 import collections
 
+from spanprof.conformance.generate.text_reader import read_program
 from spanprof.conformance.judge.cases import Case, Failure, Plan, Tally
 from spanprof.conformance.judge.verdicts import Verdict
 from spanprof.conformance.run.launch import Conditions, Log
-from spanprof.conformance.generate.reader import read_program
 
 PLAN = Plan(threads=(2, 4), runs=3, seed=1, timeout=5, settings=("free",))
 

@@ -65,7 +65,7 @@ class Stopping(Quiet):
     """A test is stopped after two programs, and the same command goes on."""
 
     def run_all(self, bench):
-        options = types.SimpleNamespace(seed=1, programs=3, tasks=["tied"], without=["loop"], match="in_final", jobs=1,
+        options = types.SimpleNamespace(seed=1, programs=3, tasks=["tied"], match="in_final", jobs=1,
                                         seconds=math.inf)
         with contextlib.closing(Journal({"seed": "1"}, self.folder)) as journal:
             return commands.run_all(options, bench, PLAN, journal)

@@ -1,7 +1,6 @@
 """The words of the command line."""
 import contextlib
 import io
-import math
 import unittest
 
 from spanprof.conformance.commands import COMMANDS
@@ -27,7 +26,7 @@ class Options(unittest.TestCase):
         self.assertEqual((run.settings, mutants.settings), ([], []))  # those for the runtime
         self.assertEqual(run.expected, [USUAL])
         self.assertEqual(run.tasks, ["tied", "untied", "mixed"])
-        self.assertEqual((run.programs, mutants.programs, run.seconds, run.report), (100, 20, math.inf, ""))
+        self.assertEqual((run.programs, mutants.programs, run.seconds, run.report), (20, 20, 300, ""))
 
     def test_each_command_is_called(self):
         for name, call in COMMANDS.items():
@@ -37,11 +36,10 @@ class Options(unittest.TestCase):
             self.assertTrue(call.__doc__, name)
 
     def test_lists(self):
-        options = parsed("run --cc gcc --threads 3,64 --settings pinned,free --tasks mixed --without loop,if(0)")
+        options = parsed("run --cc gcc --threads 3,64 --settings pinned,free --tasks mixed")
         self.assertEqual(options.threads, (3, 64))
         self.assertEqual(options.settings, ["pinned", "free"])
         self.assertEqual(options.tasks, ["mixed"])
-        self.assertEqual(options.without, ["loop", "if(0)"])
 
     def test_numbers(self):
         options = parsed("run --cc gcc --programs 0 --seed 0 --jobs 1")

@@ -10,7 +10,7 @@ from spanprof.diagnosis.tests.worked import TEXT, facts, place, program
 from spanprof.errors import Fault
 from spanprof.head import read_head
 from spanprof.marks import statements
-from spanprof.text import Statement
+from spanprof.program_text import Statement
 from spanprof.whatif.requests import Request
 from spanprof.whatif.statements import of_stream
 from spanprof.whatif.survey import survey
@@ -38,6 +38,12 @@ class Candidates(unittest.TestCase):
         one = place(TASKS)
         one.items.update({("inout", "a0"): 2, ("inout", "a1"): 8, ("inout", "a2"): 8})
         one.moving.update({("inout", "a1"), ("inout", "a2")})
+        self.assertEqual(list(module.readers(facts([one])))[-1], single("read-only", TASKS))
+
+    def test_items_that_take_turns_beside_those_of_each_task(self):
+        one = place(TASKS)
+        one.items.update({("inout", "a0"): 4, ("inout", "a1"): 4, **{("inout", "b%d" % i): 1 for i in range(8)}})
+        one.positions.update((item, int(item[1][0] == "b")) for item in one.items)
         self.assertEqual(list(module.readers(facts([one])))[-1], single("read-only", TASKS))
 
     def test_serial_code_of_one_function_is_divided_together(self):

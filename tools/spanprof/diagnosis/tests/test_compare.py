@@ -1,10 +1,10 @@
 import unittest
 
-from spanprof.diagnosis.lock_times import Held
 from spanprof.diagnosis.compare import as_json, compared, is_slower, lines, matched_by, spread_of
 from spanprof.diagnosis.diagnose import diagnose
+from spanprof.diagnosis.lock_times import Held
 from spanprof.diagnosis.names import Names
-from spanprof.diagnosis.tell import Told
+from spanprof.diagnosis.output import Output
 from spanprof.diagnosis.tests.worked import MS, facts, place
 
 
@@ -13,7 +13,7 @@ def told(line, starved, **more):
     one, two = place("task at a.c:%d" % line), place("task at a.c:%d" % (line + 5), cost=20 * MS)
     run = facts([two, one], starved=starved, starved_by={one.name: starved},
                 functions={"a.c:%d" % line: "tone", "a.c:%d" % (line + 5): "tone"}, **more)
-    return Told(diagnose(run), Names(run, None))
+    return Output(diagnose(run), Names(run, None))
 
 
 class Compared(unittest.TestCase):
@@ -42,14 +42,14 @@ class Compared(unittest.TestCase):
     def test_what_was_predicted(self):
         before = told(9, 0)
         run = facts([place("task at a.c:9")], at_locks=200 * MS, locks=[Held("a.c:7", "critical", 9, 1, 200 * MS)])
-        before = Told(diagnose(run), Names(run, None))
+        before = Output(diagnose(run), Names(run, None))
         found = lines(compared(before, told(9, 0, elapsed=60 * MS)))
         self.assertIn("predicted  50.0 ms for: do less in critical at a.c:7: a copy for each thread", found)
 
     def test_a_place_that_only_one_has(self):
         run = facts([place("task at a.c:9"), place("task at b.c:3")])
         after = facts([place("task at a.c:9")])
-        found = compared(Told(diagnose(run), Names(run, None)), Told(diagnose(after), Names(after, None)))
+        found = compared(Output(diagnose(run), Names(run, None)), Output(diagnose(after), Names(after, None)))
         self.assertEqual([(one.before, one.after) for one in found.places if not one.after], [("task at b.c:3", None)])
         self.assertIn("b.c:3, gone: 10.0 ms -> 0 ns of the run", "\n".join(lines(found)))
 

@@ -50,6 +50,11 @@ class Diagnoses(unittest.TestCase):
         told = diagnose(found)
         self.assertEqual([(loss.kind, loss.place, loss.time) for loss in told.causes], [("serial", after[0], 120 * MS)])
 
+    def test_all_tasks_that_run_immediately_are_one_cause(self):
+        some = [place(TASKS, undeferred=8), place("after creating a task at image.c:25", undeferred=8)]
+        told = diagnose(facts(some, starved=200 * MS, starved_by={one.name: 100 * MS for one in some}))
+        self.assertEqual([(loss.kind, loss.time) for loss in told.causes], [("undeferred", 200 * MS)])
+
     def test_a_needless_dependence_comes_before_a_split(self):
         found = idle(TASKS)
         found.places[TASKS].items[("inout", "a0")] = 8

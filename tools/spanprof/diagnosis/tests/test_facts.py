@@ -2,16 +2,16 @@ import json
 import os
 import tempfile
 import unittest
+from collections import Counter
 from types import SimpleNamespace
 from unittest import mock
 
-from spanprof.account import Account, Row, Rows
 from spanprof.diagnosis import facts as module
-from spanprof.diagnosis.calls import Sampled, calls_of
+from spanprof.diagnosis.calls import RUNTIME, Sampled, calls_of
 from spanprof.diagnosis.diagnose import diagnose
 from spanprof.diagnosis.facts import (Facts, elapsed_in, function_in, inner_regions, nested_threads, of_those_at_once,
                                       off_by_segment, regions_of, runtime_name, set_meta, set_off, set_ranks,
-                                      starting_shares, stolen_share)
+                                      set_waiting, starting_shares, stolen_share, used_by_others)
 from spanprof.diagnosis.lock_times import Held, locks_of
 from spanprof.diagnosis.places import AFTER_REGION, OWN, SERIAL
 from spanprof.diagnosis.sentences import sure_words
@@ -20,6 +20,7 @@ from spanprof.errors import Fault
 from spanprof.head import read_head
 from spanprof.recording import open_recording
 from spanprof.regions import Program, Region, program_of
+from spanprof.time_breakdown import TimeBreakdown, Row, Rows
 
 HEAD = """# recorded: {"program": "image", "threads": 2, "clock": "wall", "unit": "us"}
 # whole program: {"regions": 1}
@@ -71,8 +72,8 @@ class OfText(unittest.TestCase):
 
     def test_what_runs_before_the_programs_first_function_is_its_start(self):
         begins = place("the beginning", SERIAL, cost=100 * MS, pieces=1, tasks=0)
-        ran = {("_GLOBAL__sub_I_main", "Table::Table"): 60000, ("dl_start@ld-linux.so.2",): 16000,
-               ("main", "read"): 16000}
+        ran = {("_GLOBAL__sub_I_main", "Table::Table"): 60000, ("dl_start@ld-linux.so.2",): 12000,
+               ("main", "PMPI_Init"): 4000, ("main", "read"): 16000}
         found = facts([begins], starved=300 * MS, starved_by={begins.name: 300 * MS},
                       calls=Sampled({begins.name: ran}, {}))
         module.set_starting(found)
@@ -99,6 +100,12 @@ class Recorded(unittest.TestCase):
         self.assertEqual(stolen_share({"host_processors": 4, "stolen_ns": 20}, 100), 0.05)
         self.assertEqual(stolen_share({"host_processors": 4, "stolen_ns": None}, 100), 0.0)
         self.assertEqual(stolen_share({}, 100), 0.0)
+
+    def test_what_other_programs_used(self):
+        usage = {"user_ns": 70, "system_ns": 20}
+        self.assertEqual(used_by_others({"busy_ns": 100, "stolen_ns": 5}, usage), 15)
+        self.assertEqual(used_by_others({"busy_ns": 80}, usage), 0)
+        self.assertIsNone(used_by_others({"stolen_ns": 5}, usage))
 
     def test_the_threads_that_a_run_could_have_had(self):
         self.assertEqual(facts(threads=2).target, 4)
@@ -162,7 +169,7 @@ class Starting(unittest.TestCase):
 
     def test_threads_that_only_took_turns_are_not_idle(self):
         rows = [Row(0, 0, 0, 10), Row(5, 10, 10, 30), Row(0, 30, 30, 40)]
-        found = Account(8, 50, 40, 0, 240, 120, rows=Rows.of(rows), places=["a", "b", "c"])
+        found = TimeBreakdown(8, 50, 40, 0, 240, 120, rows=Rows.of(rows), places=["a", "b", "c"])
         one = of_those_at_once(found, 2)
         self.assertEqual((one.threads, one.delayed, one.starved, one.outside), (2, 0, 40, 20))
         self.assertEqual(sum(one.parts.values()), 2 * 50)
@@ -174,6 +181,15 @@ class Starting(unittest.TestCase):
         self.assertEqual(run.calls, Sampled({"the beginning": {("main", "MPI_Init"): 9000}},
                                             {"the beginning": {("main", "MPI_Allreduce"): 8000}}))
         self.assertEqual(run.asleep_by, {"the beginning": 8 * MS})
+
+    def test_samples_of_threads_that_wait_for_locks_are_none_of_code(self):
+        """Of 140 ms that samples saw 100 are code, and 10 of these in the runtime."""
+        ran = {("main", RUNTIME): 50000, ("main",): 90000}
+        for at_locks, left in ((40, 10000), (500, 10000), (20, 30000), (0, 50000)):
+            run = facts([place("task at a.c:9", cost=100 * MS)], at_locks=at_locks * MS,
+                        calls=Sampled({"task at a.c:9": Counter(ran)}, {}))
+            set_waiting(run)
+            self.assertEqual(run.calls.ran["task at a.c:9"], {("main", RUNTIME): left, ("main",): 90000})
 
     def test_a_region_of_one_thread_is_alone_without_those_inside_it(self):
         outer, inner, alone = (Region(i, 0, *times, 0, 0, 0, i > 1, "a.c:%d" % i) for i, times in

@@ -4,7 +4,7 @@ import os
 import unittest
 
 from spanprof.diagnosis.calls import RUNTIME, Sampled
-from spanprof.diagnosis.causes import BY_KIND, TABLE
+from spanprof.diagnosis.causes import BY_KIND, NAMES, TABLE
 from spanprof.diagnosis.diagnose import diagnose
 from spanprof.diagnosis.facts import Region
 from spanprof.diagnosis.library_locks import set_library_locks
@@ -101,6 +101,14 @@ class Kinds(unittest.TestCase):
 
     def test_undeferred(self):
         self.assertEqual(self.first(starved_at(place(TASKS, undeferred=8))), "undeferred")
+
+    def test_undeferred_tasks_are_not_too_small(self):
+        cut = small(undeferred=3980)        # from the first levels on
+        self.assertEqual(self.first(facts([cut], starved=200 * MS)), "undeferred")
+        self.assertEqual(self.first(starved_at(cut)), "undeferred")
+        cut.undeferred = 3600               # late enough for 400 that threads can share
+        self.assertNotIn(self.first(facts([cut], starved=200 * MS)), ("undeferred", "small_tasks"))
+        self.assertNotIn(self.first(facts([cut], starved=10 * MS)), ("undeferred", "small_tasks"))
 
     def test_loop_schedule(self):
         turns = place("turns of the loop at image.c:9", SHARE, uneven=200 * MS)
@@ -213,6 +221,11 @@ class Kinds(unittest.TestCase):
         self.assertEqual([(one.kind, one.time // MS) for one in in_code_losses(found) if one.time], [("lock", 3)])
         found.locks = []
         self.assertEqual([one.kind for one in in_code_losses(found) if one.time], ["small_tasks"])
+        own = place(OWN + " at image.c:20", OF_THREADS, pieces=4000, tasks=0)
+        found = facts([own], calls=Sampled({own.name: took[TASKS]}, {}),
+                      regions=[Region("image.c:20", 4, MS, times=1000)])
+        self.assertEqual([(one.kind, one.time // MS) for one in in_code_losses(found) if one.time],
+                         [("small_regions", 30)])
 
     def test_a_lock_inside_the_library(self):
         own = place(OWN + " at image.c:20", OF_THREADS, cost=320 * MS, pieces=4, longest=80 * MS)
@@ -245,6 +258,14 @@ class Kinds(unittest.TestCase):
         run = delayed_at(place(TASKS), nested=16)       # of which no more than four were seen at once
         self.assertEqual(self.first(run), "too_many_threads")
 
+    def test_affinity(self):
+        """The machine's processors were idle for longer than the threads waited for them."""
+        shared = facts([place(TASKS)], preempted=200 * MS, others=20 * MS, regions=[Region("image.c:20", 4, 90 * MS)])
+        self.assertEqual([(one.kind, one.place, one.time) for one in diagnose(shared).causes],
+                         [("affinity", "image.c:20", 200 * MS)])
+        self.assertEqual(self.first(delayed_at(place(TASKS), preempted=60 * MS, others=10 * MS)), "affinity")
+        self.assertEqual(self.first(delayed_at(place(TASKS), preempted=60 * MS, others=50 * MS)), "machine")
+
     def test_machine(self):
         self.assertEqual(self.first(facts([place(TASKS)], preempted=200 * MS)), "machine")
 
@@ -260,6 +281,9 @@ class Table(unittest.TestCase):
     def test_each_kind_has_a_test(self):
         for cause in TABLE:
             self.assertTrue(hasattr(Kinds, "test_" + cause.kind), cause.kind)
+
+    def test_each_kind_has_a_short_name(self):
+        self.assertEqual({cause.kind for cause in TABLE} - set(NAMES), {"efficient"})
 
     def test_each_kind_is_in_the_manual(self):
         with open(MANUAL, encoding="utf-8") as file:

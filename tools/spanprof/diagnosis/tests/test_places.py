@@ -1,6 +1,6 @@
 import unittest
 
-from spanprof.diagnosis.places import OF_THREADS, OWN, SERIAL, SHARE, TASK, in_text, lines_between
+from spanprof.diagnosis.places import (OF_THREADS, OWN, SERIAL, SHARE, TASK, in_text, is_by_a_turn, lines_between)
 from spanprof.diagnosis.tests.worked import TEXT, program
 from spanprof.tests.columns import segments_of
 
@@ -34,6 +34,16 @@ class Places(unittest.TestCase):
             "a, b, x", "b, c, y", "c, d, z"))
         found = program(text).places["task at a.c:3"]
         self.assertEqual((found.moving, found.moving_at), ({("inout", "b"), ("inout", "c")}, {0, 1}))
+
+    def test_items_that_several_tasks_have_while_each_has_one_of_its_own(self):
+        def read_at(*items):
+            lines = "".join("task depend(inout: %s) {  # a.c:3\nwork 1\n}\n" % one for one in items)
+            return program("omptasks 1\n" + lines).places["task at a.c:3"].read_at
+        frames = ["%s%d" % ("ab"[number // 4], number) for number in range(8)]
+        self.assertEqual(read_at(*("%s, x%s" % (name[0], name) for name in frames)), {0})
+        self.assertEqual(read_at(*("x%s, %s" % (name, name[0]) for name in frames)), {1})
+        self.assertEqual(read_at(*(name[0] for name in frames)), set())
+        self.assertEqual(read_at(*("%s, x%s" % (name[0], name[0]) for name in frames)), set())
 
     def test_threads_code_has_its_region(self):
         lines = ["omptasks 1\n"]
@@ -73,6 +83,17 @@ class Places(unittest.TestCase):
         region = "taskgroup {  # a.c:2\n" + part % (turns % 5 + turns % 3) + part % (turns % 6) + part % "" + "}\n"
         found = program("omptasks 1\n" + 2 * region).places["turns of the loop at a.c:3"]
         self.assertEqual(found.uneven, 2 * (24 - 14))
+
+    def test_a_turn_more_than_others(self):
+        for costs, is_one in (([20, 10, 12, 8], True), ([10, 9], True), ([30, 20, 21, 19], False),
+                              ([9, 10, 8], True), ([9, 10, 8, 9], False), ([10, 30, 50, 70], False),
+                              ([20, 15, 10, 5], False)):
+            self.assertEqual(is_by_a_turn(costs, 4), is_one, costs)
+        lines = ["omptasks 1\n", "taskgroup {  # a.c:3\n"]
+        for cost in (20, 10, 10, 10):
+            lines += ["task {  # one of the region's threads\n", "work %d\n" % cost, "}\n"]
+        own = program("".join([*lines, "}\n"])).places[OWN + " at a.c:3"]
+        self.assertEqual((own.uneven, own.by_a_turn), (30, 30))
 
     def test_each_segment_has_a_name_and_a_cost(self):
         found = program()

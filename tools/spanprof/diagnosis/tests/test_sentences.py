@@ -86,7 +86,7 @@ class Named(unittest.TestCase):
         one = self.facts.places[TASKS]
         self.assertEqual(self.names.item(one, ("inout", "a0")), "inout: tab[f(0, 1)]")
         self.assertEqual(self.names.item(one, ("inout", "a2")), "out: d[0]")
-        self.assertEqual(Names(self.facts, None).item(one, ("inout", "a2")), "inout: the same item")
+        self.assertEqual(Names(self.facts, None).item(one, ("inout", "a2")), "inout: one item")
 
     def test_items_of_a_directive(self):
         self.assertEqual(items_in("depend(USES: a) depend(inout: b)"), {})
@@ -173,7 +173,7 @@ class Sentences(unittest.TestCase):
 
     def test_in_place_of_what_is_contended(self):
         found = [Suspect("", "a.c:9", True), Suspect("part[me]", "a.c:9")]
-        self.assertEqual(list(map(str, found)), ["the atomic at a.c:9", "part[me] next to other threads' (a.c:9)"])
+        self.assertEqual(list(map(str, found)), ["the atomic at a.c:9", "part[me] next to others' (a.c:9)"])
         self.assertEqual([one.instead for one in found + [Suspect("", "a.c:9")]], [
             "a reduction in place of the atomic at a.c:9", "a local copy of part[me] (a.c:9), written back once",
             "a local copy of what a.c:9 writes, written back once"])
@@ -217,7 +217,7 @@ class Sentences(unittest.TestCase):
         lines = short_lines(diagnose(run), Names(run, SOURCES))
         self.assertEqual(lines[1:3], [
             "lost  20 %  memory allocation in tone (image.c:12): 20 % of the code in parallel",
-            "do    allocate once, outside of the loop, or per thread                    100 ms -> 80.0 ms or less"])
+            "do    allocate once, outside of the loop, or per thread                      100 ms -> about 80.0 ms"])
 
     def test_serial_code_is_told_by_the_lines_that_samples_saw(self):
         run = found()
@@ -289,6 +289,15 @@ class Sentences(unittest.TestCase):
             step = Step(kind, TASKS if option == "in-for-inout" else change.place, 2, 1, 1, 1, 1.0, change)
             self.assertEqual(change_sentence(run, Names(run, SOURCES), step), told)
 
+    def test_what_takes_turns_is_told_of_all_tasks(self):
+        run = found()
+        one = run.places[TASKS]
+        one.items = Counter({("inout", "a%d" % number): 4 for number in range(2)})
+        one.items.update({("inout", "b%d" % number): 1 for number in range(8)})
+        one.positions = {item: int(item[1][0] == "b") for item in one.items}
+        self.assertRegex(lost_sentence(run, Names(run, SOURCES), Loss("dependence", TASKS, 9)),
+                         r"are serial: all have depend\(inout: tab\[f\(0, 1\)\]\)$")
+
     def test_tasks_outside_of_regions_want_one(self):
         run, step = found(tasks_in_regions=False), Step("undeferred", TASKS, 2, 1, 1, 1, 1.0, single("defer", TASKS))
         self.assertEqual(change_sentence(run, Names(run, SOURCES), step),
@@ -359,6 +368,11 @@ class Sentences(unittest.TestCase):
         run = facts([place(OWN + " at image.c:9", OF_THREADS)], few_turns={"image.c:9": [5, 4]})
         step = Step("loop_schedule", OWN + " at image.c:9", 2, 1, 1, 1, 1.0, None)
         self.assertIn("schedule(dynamic) at ", change_sentence(run, Names(run, SOURCES), step))
+        run.places[OWN + " at image.c:9"].uneven = run.places[OWN + " at image.c:9"].by_a_turn = MS
+        self.assertEqual(change_sentence(run, Names(run, SOURCES), step),
+                         "schedule(dynamic) at image.c:9, or collapse loops")
+        self.assertIn("few iterations, or uneven ones", lost_sentence(run, Names(run, SOURCES), Loss(
+            "loop_schedule", OWN + " at image.c:9", MS)))
 
     def test_several_waits_by_their_lines(self):
         names = Names(facts(), None)

@@ -1,8 +1,11 @@
 import unittest
+from types import SimpleNamespace
 
 from spanprof.diagnosis.calls import Sampled
-from spanprof.diagnosis.sleeps import by_call, words_of_sleep
-from spanprof.diagnosis.tests.worked import facts
+from spanprof.diagnosis.names import Names
+from spanprof.diagnosis.places import OF_THREADS, OWN
+from spanprof.diagnosis.sleeps import by_call, place_of_sleep, sleeper, words_of_sleep
+from spanprof.diagnosis.tests.worked import facts, place
 
 PLACE = "the beginning"
 READS, WRITES = ("main", "load", "read@libc.so.6"), ("main", "save", "write")
@@ -28,6 +31,32 @@ class Sleeps(unittest.TestCase):
 
     def test_without_samples(self):
         self.assertEqual(self.words({}), "for files, a network or other locks")
+
+
+class Sleepers(unittest.TestCase):
+    SOURCE = ["static void nap(void)", "{", "    while (!done())", "        usleep(5);   // not usleep(9)", "}", "",
+              "static void wait(void) {", "    usleep(7);", "    usleep(8);", "}", "#pragma omp parallel", "work();"]
+
+    def named(self, slept, ran):
+        own = place(OWN + " at a.c:11", OF_THREADS, pieces=4)
+        run = facts([own], calls=Sampled({own.name: ran}, {own.name: slept}))
+        return Names(run, SimpleNamespace(lines_of=lambda _: self.SOURCE)), own.name
+
+    def test_not_the_function_that_ran_most(self):
+        slept, ran = {("main", "nap", "usleep@libc.so.6"): 9000}, {("main", "work", "step"): 90000}
+        names, own = self.named(slept, ran)
+        self.assertEqual((sleeper(names, own), place_of_sleep(names, own)), ("nap", "a.c:4"))
+        within = {("main", "work", "step", "nap", "usleep@libc.so.6"): 9000}
+        self.assertEqual(sleeper(*self.named(within, ran)), "step (called by work)")
+        self.assertEqual(sleeper(*self.named({}, ran)), "step (called by work)")
+        self.assertEqual(sleeper(*self.named(slept, {})), "code (a.c:12)")
+
+    def test_the_lines_of_the_call(self):
+        lines = [place_of_sleep(*self.named({(*calls, "usleep@libc.so.6"): 9000}, {})) for calls in (
+            ("main", "wait"), ("main",), ("main", "nap"))]
+        self.assertEqual(lines, ["a.c:8 and 9", "a.c:11", "a.c:4"])
+        self.assertEqual(place_of_sleep(*self.named({("main", "nap", "read@libc.so.6"): 9000}, {})), "a.c:11")
+        self.assertEqual(place_of_sleep(*self.named({}, {})), "a.c:11")
 
 
 if __name__ == "__main__":

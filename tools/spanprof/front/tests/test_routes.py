@@ -21,7 +21,7 @@ class Routes(unittest.TestCase):
             self.assertEqual(to(words, ["mine.tasks"]), Route(PROGRAM, words.split()), words)
 
     def test_of_texts_of_any_size(self):
-        for words in ("bounds --upto 3", "account", "account --rows", "graph", "whatif --listed"):
+        for words in ("bounds --upto 3", "account", "account --rows", "graph", "places", "whatif --listed"):
             self.assertEqual(to(words), Route(LARGE, words.split()), words)
 
     def test_tools(self):

@@ -3,7 +3,7 @@ import os
 import unittest
 from unittest import mock
 
-from spanprof.diagnosis.tell import told_of
+from spanprof.diagnosis.output import output_of
 from spanprof.imports.command import main, name_of
 from spanprof.recording import TEXT, open_recording
 from spanprof.tests.in_folder import InFolder, answered
@@ -65,7 +65,7 @@ class Command(InFolder):
     def test_the_diagnosis_names_tasks_as_they_are_and_asks_for_no_other_run(self):
         self.told()
         with mock.patch.dict(os.environ, SPANPROF_LARGE=os.path.join(self.folder, "program")):
-            lines = told_of(open_recording(self.recording)).lines()
+            lines = output_of(open_recording(self.recording)).lines()
         self.assertIn("mine: 4.00 ms on 2 threads of StarPU.", lines[0])
         self.assertFalse([line for line in lines if "--full" in line or "task at" in line])
 

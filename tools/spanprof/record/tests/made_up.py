@@ -1,8 +1,8 @@
 """What the tests make up in place of programs, compilers and answers."""
 from dataclasses import dataclass, field
 
+from spanprof.program_text import Segment
 from spanprof.tests.columns import code_of, rows_of
-from spanprof.text import Segment
 
 LDD_GCC = """\
 \tlinux-vdso.so.1 (0x00007ff521519000)

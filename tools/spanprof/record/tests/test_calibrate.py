@@ -17,7 +17,7 @@ class Calibrating(unittest.TestCase):
         self.assertTrue(parse(["--calibrate"]).calibrate)
         with contextlib.redirect_stderr(io.StringIO()) as told, self.assertRaises(SystemExit) as ended:
             parse(["--calibrate", "--", "./mine"])
-        self.assertEqual(ended.exception.code, 125)
+        self.assertEqual(ended.exception.code, 2)
         self.assertIn("--calibrate takes no program", told.getvalue())
 
     def test_numbers_of_threads(self):

@@ -15,7 +15,7 @@ echo "$SPANPROF_WHOLE $SPANPROF_UNIT $SPANPROF_REGION" > $2.asked
 printf '%s' > $2.tasks
 echo times > $2.timed
 echo times > $2.times
-echo "{\\"told\\": \\"text\\", \\"file\\": \\"$2.tasks\\", \\"tasks\\": 3, \\"segments\\": 5, \\"work\\": 9, \\"unit\\": \\"us\\"}"
+printf '{"message": "text", "file": "%%s.tasks", "tasks": 3, "segments": 5, "work": 9, "unit": "us"}\\n' "$2"
 """
 
 

@@ -2,14 +2,14 @@ import os
 import tempfile
 import unittest
 
-from spanprof.record.host import Host, facts_of_host, host_now, sockets, stolen_in
+from spanprof.record.host import Host, facts_of_host, host_now, sockets, stolen_and_busy
 
 
 class Stolen(unittest.TestCase):
     def test_of_a_line(self):
-        self.assertEqual(stolen_in("cpu  1 2 3 4 5 6 7 80 9 10\n"), 80)
-        self.assertIsNone(stolen_in("cpu  1 2 3 4\n"))
-        self.assertIsNone(stolen_in(""))
+        self.assertEqual(stolen_and_busy("cpu  1 2 3 4 5 6 7 80 9 10\n"), (80, 19))
+        self.assertEqual(stolen_and_busy("cpu  1 2 3 4\n"), (None, None))
+        self.assertEqual(stolen_and_busy(""), (None, None))
 
     def test_of_no_file(self):
         self.assertIsNone(host_now("/nowhere/stat").stolen)
@@ -17,12 +17,13 @@ class Stolen(unittest.TestCase):
     def test_grows(self):
         first, last = host_now(), host_now()
         self.assertGreaterEqual(last.stolen, first.stolen)
+        self.assertGreaterEqual(last.busy, first.busy)
 
 
 class Between(unittest.TestCase):
     def test_suspended_and_stolen(self):
-        found = facts_of_host(Host(5, 100), Host(3 * 10 ** 9 + 5, 700))
-        self.assertEqual((found["suspended_ns"], found["stolen_ns"]), (3 * 10 ** 9, 600))
+        found = facts_of_host(Host(5, 100, 20), Host(3 * 10 ** 9 + 5, 700, 50))
+        self.assertEqual((found["suspended_ns"], found["stolen_ns"], found["busy_ns"]), (3 * 10 ** 9, 600, 30))
 
     def test_clocks_that_are_read_one_after_the_other(self):
         self.assertEqual(facts_of_host(Host(500, None), Host(900, 7))["suspended_ns"], 0)

@@ -159,7 +159,7 @@ class Words(unittest.TestCase):
         for words in [[], ["--"]] + [options.split() + ["--", "x"] for options in wrong]:
             with mock.patch("sys.stderr"), self.assertRaises(SystemExit) as end:
                 parse(words)
-            self.assertEqual(end.exception.code, 125, words)
+            self.assertEqual(end.exception.code, 2, words)
 
 
 if __name__ == "__main__":

@@ -30,7 +30,7 @@ class Options(unittest.TestCase):
         told = io.StringIO()
         with contextlib.redirect_stderr(told), self.assertRaises(SystemExit) as ended:
             parse([*words, "--", "./mine"])
-        self.assertEqual(ended.exception.code, 125)
+        self.assertEqual(ended.exception.code, 2)
         return told.getvalue()
 
     def test_no_numbers(self):

@@ -8,11 +8,11 @@ from unittest import mock
 
 from spanprof.errors import Fault
 from spanprof.record import command, session
-from spanprof.record.runs import record_often
+from spanprof.record.messages import Messages
 from spanprof.record.run import Ended
+from spanprof.record.runs import record_often
 from spanprof.record.runtime import Chosen
 from spanprof.record.session import Recorded
-from spanprof.record.told import Told
 from spanprof.recording import Recording, open_recording
 from spanprof.tests.in_folder import InFolder
 from spanprof.tests.recordings import TEXT, recording, write
@@ -31,15 +31,17 @@ class Earlier(InFolder):
 
 
 class Reasons(unittest.TestCase):
-    def why(self, status=0, loaded=True, things=()):
-        return session.why_nothing(status, Told(loaded, list(things)), "/tmp/mine")
+    def why(self, status=0, loaded=True, things=(), has_runtime=True):
+        recorded = mock.Mock(out="/tmp/mine", has_runtime=has_runtime)
+        return session.why_nothing(status, Messages(loaded, list(things)), recorded)
 
     def test_each(self):
-        nothing = {"told": "no tasks", "inside": False}
+        nothing = {"message": "no tasks", "inside": False}
         self.assertEqual(self.why(status=-11, things=[nothing]),
                          "the program ended by SIGSEGV; no parallel region with tasks")
         self.assertEqual(self.why(things=[nothing]), "no parallel region with tasks")
-        self.assertIn("no OpenMP runtime loaded the recorder", self.why(loaded=False))
+        self.assertEqual(self.why(loaded=False), "the program met no construct of OpenMP")
+        self.assertIn("was it compiled with -fopenmp?", self.why(loaded=False, has_runtime=False))
         self.assertIn("reported no reason", self.why())
 
     def test_the_recorder_comes_before_the_runtime(self):
@@ -69,7 +71,7 @@ class Runs(InFolder):
         made = session.Session.__new__(session.Session)
         made.options = argparse.Namespace(runs=runs, force=False, json=None, full=False, command=["./m"])
         made.out, made.notes, made.rank = os.path.join(self.folder, "mine"), [], None
-        made.converter = "/convert"
+        made.converter, made.has_runtime = "/convert", True
         left, times = iter(statuses), iter(times)
 
         def run(out):
@@ -82,7 +84,7 @@ class Runs(InFolder):
 
     def convert(self, program, log, folder, variables):
         write(os.path.join(folder, "program.tasks"), TEXT)
-        return [{"told": "text", "file": os.path.join(folder, "program.tasks")}]
+        return [{"message": "text", "file": os.path.join(folder, "program.tasks")}]
 
     def record(self, made, convert=None):
         told = io.StringIO()
@@ -114,11 +116,11 @@ class Runs(InFolder):
     def test_nothing(self):
         recorded, told = self.record(self.session([4]))
         self.assertEqual((recorded.status, recorded.found, self.names()), (4, [], []))
-        self.assertIn("nothing is recorded: no OpenMP runtime loaded the recorder", told)
+        self.assertIn("nothing is recorded: the program met no construct of OpenMP", told)
 
     def test_a_converter_that_dies(self):
         """The log stays, and no tool reads a text."""
-        fault = {"told": "fault", "log": "", "what": "its converter died: signal 6"}
+        fault = {"message": "fault", "log": "", "what": "its converter died: signal 6"}
         recorded, told = self.record(self.session([0]), lambda *_: [fault])
         self.assertEqual((recorded.found, self.names()), ([], ["mine.spanprof"]))
         self.assertIn("the run is recorded, and its text is not made: ", told)
@@ -163,6 +165,7 @@ class Statuses(unittest.TestCase):
 
     def test_what_goes_wrong_here(self):
         self.assertEqual(self.status(Recorded(0)), 125)
+        self.assertEqual(self.status(Recorded(0, ["a"], Messages(True, [{"message": "stopped"}]))), 125)
         self.assertEqual(self.status(Recorded(0, ["a"]), Fault("spanprof span: out of memory")), 125)
         self.assertEqual(self.status(Fault("no such program", 127)), 127)
         self.assertEqual(self.status(KeyboardInterrupt), -2)

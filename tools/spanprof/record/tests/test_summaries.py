@@ -11,9 +11,9 @@ from spanprof.answers import take_runs
 from spanprof.client import HOW
 from spanprof.errors import Fault
 from spanprof.record import summaries
+from spanprof.record.messages import Messages
 from spanprof.record.session import Recorded
 from spanprof.record.tests.made_up import Answers, Head
-from spanprof.record.told import Told
 from spanprof.remarks import remark_of
 from spanprof.tests.in_folder import InFolder
 from spanprof.tests.recordings import TEXT, recording
@@ -42,7 +42,7 @@ class Printed(InFolder):
                          work=argparse.Namespace(name="mine"))
         with mock.patch("spanprof.record.summaries.Answers", side_effect=self.answered), \
                 contextlib.redirect_stderr(io.StringIO()) as told:
-            summaries.print_summaries(made, Recorded(0, list(folders), Told(True, list(things))))
+            summaries.print_summaries(made, Recorded(0, list(folders), Messages(True, list(things))))
         return told.getvalue().splitlines()
 
     def test_one_of_the_whole_program(self):
@@ -58,17 +58,20 @@ class Printed(InFolder):
         self.assertEqual(self.told(folder, all=False),
                          ["now: spanprof-report %s" % folder, "a note"])
         self.assertEqual(self.told(recording(self.folder))[-1], "losses        9 % code")
+        counted = {"counters": {"cycles": 2, "instructions": 3}}
+        self.assertEqual(self.told(recording(self.folder, facts=counted))[-1],
+                         "counters      1.50 instructions per cycle (measured)")
         self.diagnosed.return_value = None, "no diagnosis: no program"
         self.assertEqual(self.told(recording(self.folder), all=False)[-1], "              no diagnosis: no program")
 
     def test_a_remark_of_its_text_is_told_once(self):
         self.heads["mine.spanprof"] = {"remarks": [remark_of(TURNS)]}
-        told = self.told(recording(self.folder), things=[{"told": "remark", "name": "mine", "remark": TURNS}])
+        told = self.told(recording(self.folder), things=[{"message": "remark", "name": "mine", "remark": TURNS}])
         self.assertEqual("\n".join(told).count("chunk with more iterations than pieces"), 1)
 
     def test_its_own_text_is_no_news(self):
         folder = recording(self.folder)
-        told = self.told(folder, things=[{"told": "text", "file": os.path.join(folder, "program.tasks")}])
+        told = self.told(folder, things=[{"message": "text", "file": os.path.join(folder, "program.tasks")}])
         self.assertEqual(told[-1], "warnings      a note")
 
     def test_several_runs(self):
@@ -95,7 +98,7 @@ class Printed(InFolder):
 
     def test_no_diagnosis_of_what_was_recorded_in_part(self):
         self.diagnosed.side_effect = lambda _, is_cut: (None, "no diagnosis") if is_cut else self.fail("diagnosed")
-        stopped = {"told": "stopped", "why": "full", "recorded": 1500000}
+        stopped = {"message": "stopped", "why": "full", "recorded": 1500000}
         told = self.told(recording(self.folder), things=[stopped], all=False)
         self.assertEqual(told, ["mine.spanprof: a note",
                                 "mine.spanprof: the disk was full 1.5 ms after recording began, and what followed is "
@@ -129,7 +132,7 @@ class Beyond(InFolder):
         with mock.patch("spanprof.client.takes_any_size", return_value=takes_any_size), \
                 mock.patch("spanprof.record.summaries.Answers", side_effect=Fault(fault)), \
                 contextlib.redirect_stderr(io.StringIO()) as told:
-            found = summaries.print_summaries(made, Recorded(0, [folder], Told(True, [])))
+            found = summaries.print_summaries(made, Recorded(0, [folder], Messages(True, [])))
         self.assertIsNone(found)
         return told.getvalue().splitlines()
 

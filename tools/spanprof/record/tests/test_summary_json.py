@@ -3,14 +3,14 @@ import os
 import tempfile
 import unittest
 
-from spanprof.account import Account, Row, Rows
 from spanprof.errors import Fault
 from spanprof.record.summary_json import run_json, summary_json, write_json
 from spanprof.record.tests.made_up import Answers
+from spanprof.time_breakdown import TimeBreakdown, Row, Rows
 
 
 def account():
-    return Account(1, 9, 9, 0, 0, 0, rows=Rows.of([Row(0, 0, 0, 9)]), places=["the beginning"])
+    return TimeBreakdown(1, 9, 9, 0, 0, 0, rows=Rows.of([Row(0, 0, 0, 9)]), places=["the beginning"])
 
 
 class Told(unittest.TestCase):

@@ -3,11 +3,11 @@ import json
 import re
 from functools import cached_property
 
-from spanprof.account import account_of
 from spanprof.head import read_head
+from spanprof.program_text import has_loops
 from spanprof.recording import document, open_recording
 from spanprof.segment_table import read_code
-from spanprof.text import has_loops
+from spanprof.time_breakdown import breakdown_of
 
 ROWS_OF_A_CURVE = 64
 
@@ -130,8 +130,8 @@ class Program(Sums):
     def found(self):
         """The account of the run beside the text, asked anew."""
         text = self.answer("show") if has_loops(self.text) else self.text
-        return account_of(read_head(self.text), self.line("work", "span"), self.timed,
-                          list(read_code(text.split("\n"), "the text").places))
+        return breakdown_of(read_head(self.text), self.line("work", "span"), self.timed,
+                            list(read_code(text.split("\n"), "the text").places))
 
     def account(self, what, number=None):
         if number is None:

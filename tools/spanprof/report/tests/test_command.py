@@ -62,7 +62,7 @@ class Command(unittest.TestCase):
     def test_the_diagnosis_as_json(self):
         out, told = io.StringIO(), mock.Mock()
         told.json.return_value = {"schema": 1}
-        with contextlib.redirect_stdout(out), mock.patch("spanprof.report.command.told_of", return_value=told):
+        with contextlib.redirect_stdout(out), mock.patch("spanprof.report.command.output_of", return_value=told):
             main([self.copied(), "--json"])
         self.assertEqual(json.loads(out.getvalue()), {"schema": 1})
         self.assertFalse(os.path.exists(self.out("mesh.html")))
@@ -71,6 +71,8 @@ class Command(unittest.TestCase):
         mesh = worked.path("mesh.tasks")
         self.assertIn("'0' is not a whole number from 1 to 1024", self.refused(mesh, "-o", "x", "--threads", "0"))
         self.assertIn("are for different files", self.refused(mesh, "-o", "x", "--trace", "./x"))
+        self.assertIn("--with is for a page", self.refused(mesh, "--with", mesh, "--json"))
+        self.assertIn("compared in lines, or by --json", self.refused(mesh, mesh, "-o", "x"))
         self.assertIn("unrecognized arguments: --js", self.refused(mesh, "--js"))
         self.assertEqual(self.refused(""), "spanprof-report: '': no such file\n")
         self.assertEqual(self.refused("no.tasks", "-o", "x"), "spanprof-report: no.tasks: no such file\n")

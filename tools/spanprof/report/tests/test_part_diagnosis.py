@@ -6,8 +6,8 @@ from spanprof.diagnosis.changes import single
 from spanprof.diagnosis.diagnose import Diagnosis, diagnose
 from spanprof.diagnosis.losses import Loss, code_on_one, losses
 from spanprof.diagnosis.names import Names
+from spanprof.diagnosis.output import Output
 from spanprof.diagnosis.plan import Step
-from spanprof.diagnosis.tell import Told
 from spanprof.diagnosis.tests.test_sentences import SOURCES, TASKS, found
 from spanprof.diagnosis.tests.worked import MS
 from spanprof.report.part_diagnosis import first_screen, has_room, parts
@@ -19,7 +19,7 @@ def told():
              Step("serial", "the beginning", 60 * MS, 40 * MS, 30 * MS, 50 * MS, 1.0,
                   single("split", "the beginning=4"))]
     lost = losses(run)
-    return Told(Diagnosis(run, lost, lost[:1], steps, steps, code_on_one(run, lost)), Names(run, SOURCES))
+    return Output(Diagnosis(run, lost, lost[:1], steps, steps, code_on_one(run, lost)), Names(run, SOURCES))
 
 
 def words_in(html):
@@ -42,9 +42,9 @@ class Screens(unittest.TestCase):
     def test_the_gain_of_a_kind_without_which_code_is_cheaper_too_is_no_bound(self):
         run, lost = found(), [Loss("memory", TASKS, 100 * MS)]
         steps = [Step("memory", TASKS, 100 * MS, 75 * MS, 75 * MS, 90 * MS)]
-        shown = words_in(first_screen(Told(Diagnosis(run, lost, lost, steps, steps), Names(run, SOURCES))))
+        shown = words_in(first_screen(Output(Diagnosis(run, lost, lost, steps, steps), Names(run, SOURCES))))
         for words in ("75.0 msafter the first change, estimated", "100 ms → about 75.0 ms (−25 %)",
-                      "about 0 nsat best: all threads busy"):
+                      "0 nsat best, estimated: all threads busy"):
             self.assertIn(words, shown)
 
     def test_the_bar_is_the_whole(self):
@@ -66,8 +66,8 @@ class Screens(unittest.TestCase):
 
     def test_without_a_change(self):
         run = found(threads=1, asked=1)
-        self.assertIn("record on more", words_in(first_screen(Told(diagnose(run), Names(run, None)))))
-        self.assertTrue(first_screen(Told(Diagnosis(run, [Loss("lock", "", 9)]), Names(run, None))))
+        self.assertIn("record on more", words_in(first_screen(Output(diagnose(run), Names(run, None)))))
+        self.assertTrue(first_screen(Output(Diagnosis(run, [Loss("lock", "", 9)]), Names(run, None))))
 
 
 if __name__ == "__main__":

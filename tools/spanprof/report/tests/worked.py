@@ -70,7 +70,7 @@ class Patched:
     def __init__(self):
         kept = Kept()
         self.patches = [mock.patch("spanprof.client.ask", kept), mock.patch("spanprof.client.pieces", pieces_of(kept)),
-                        mock.patch("spanprof.account.ask", kept.of_times),
+                        mock.patch("spanprof.time_breakdown.ask", kept.of_times),
                         mock.patch("spanprof.report.view.true_times_beside", true_times_beside),
                         mock.patch("spanprof.report.view.diagnosis_of", return_value=None)]
 
@@ -133,14 +133,14 @@ def noting(out, ask, key_of):
 
 def asked_now():
     """All that the pages and their comparison ask of spanprof and spanprof_large, with what they answer."""
-    from spanprof import account, client
+    from spanprof import client, time_breakdown
     from spanprof.report.tests.compare import differences
     out = {}
     asked = noting(out, client.ask, key)
-    of_times = account.ask if client.takes_any_size() else Kept().of_times     # that program need not be there
+    of_times = time_breakdown.ask if client.takes_any_size() else Kept().of_times     # that program need not be there
     times = noting(out, of_times, lambda words, file: key(["account", *words], document(file)))
     with mock.patch("spanprof.client.ask", asked), mock.patch("spanprof.client.pieces", pieces_of(asked)), \
-            mock.patch("spanprof.account.ask", times), \
+            mock.patch("spanprof.time_breakdown.ask", times), \
             mock.patch("spanprof.report.view.true_times_beside", true_times_beside), \
             mock.patch("spanprof.report.view.diagnosis_of", return_value=None):
         for names in pages():

@@ -1,6 +1,6 @@
 """Small texts that the tests change."""
 from spanprof.marks import statements
-from spanprof.text import text_lines
+from spanprof.program_text import text_lines
 
 SORT = """\
 # recorded: {"program": "sort", "threads": 2, "clock": "cpu", "unit": "us"}

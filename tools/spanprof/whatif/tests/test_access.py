@@ -1,7 +1,7 @@
 import unittest
 
 from spanprof.marks import statements
-from spanprof.text import text_lines
+from spanprof.program_text import text_lines
 from spanprof.whatif.creating import Costs
 from spanprof.whatif.requests import Request, applied, changes
 from spanprof.whatif.survey import survey

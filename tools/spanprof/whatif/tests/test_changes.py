@@ -48,7 +48,24 @@ class OneThing(unittest.TestCase):
         self.assertEqual(changed(NEIGHBOURS, read), " ".join("task depend(%s) { work 1 }" % items for items in (
             "inout: a) depend(in: b) depend(inout: x", "in: b) depend(inout: c, y", "in: x) depend(inout: a",
             "in: y) depend(inout: b", "inout: a) depend(in: b) depend(inout: x")))
-        self.assertEqual(read.words(), "3 depend items changed to in: those of neighbours at task at a.c:3")
+        self.assertEqual(read.words(), "3 depend items changed to in: those that tasks share at task at a.c:3")
+
+    def test_what_tasks_in_a_row_read_while_each_writes_an_item_of_its_own(self):
+        def text(tasks):
+            return "omptasks 1\n" + "".join("task depend(%s) {  # a.c:%d\nwork 1\n}\n" % pair for pair in tasks)
+        read = ReadOnly("task at a.c:3")
+        frames = (("inout: f", 2), ("inout: f, x", 3), ("inout: f, y", 3), ("inout: g", 2), ("inout: g, z", 3),
+                  ("inout: g, u", 3))
+        self.assertEqual(changed(text(frames), read), " ".join("task depend(%s) { work 1 }" % items for items in (
+            "inout: f", "in: f) depend(inout: x", "in: f) depend(inout: y", "inout: g", "in: g) depend(inout: z",
+            "in: g) depend(inout: u")))
+        chains = (("inout: f", 3), ("inout: f", 3), ("inout: g", 3), ("inout: g", 3))
+        sums = (("in: x) depend(inout: f", 3), ("in: y) depend(inout: f", 3), ("in: x) depend(inout: g", 3))
+        sweeps = (("inout: f, x", 3), ("inout: g, y", 3), ("inout: f, x", 3), ("inout: g, y", 3))
+        others = (("inout: f, x", 3), ("inout: f", 2), ("inout: f, y", 3))
+        for tasks in (chains, sums, sweeps, others):
+            changed(text(tasks), read)
+            self.assertEqual(read.names, set())
 
     def test_changes_one_after_the_other_go_by_the_places_of_the_text(self):
         after = changed(SORT, DropWait("taskwait at sort.c:10"), Factor("after taskwait at sort.c:10", 2))

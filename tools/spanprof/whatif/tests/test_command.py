@@ -89,6 +89,13 @@ proved of the text, and of the changed text: spanprof has read both
         self.assertEqual(self.told("--cutoff", "1")[2], "spanprof-whatif: spanprof curve: error: BadWord\n")
         self.assertTrue(out.endswith("spanprof has read both; there was too little memory for a greedy schedule\n"))
 
+    def test_the_changed_text_on_standard_output(self):
+        status, out, errors = self.told("--cutoff", "1", "-o", "-")
+        self.assertEqual(status, 0)
+        self.assertIn("omptasks 1", out)
+        self.assertRegex(errors, "(?m)^span  ")
+        self.assertNotIn("span  ", out)
+
     def test_a_place_list(self):
         self.assertIn("waits (--drop-wait):", self.told("--places")[1])
 

@@ -1,7 +1,7 @@
 import unittest
 
 from spanprof.marks import statements
-from spanprof.text import text_lines
+from spanprof.program_text import text_lines
 from spanprof.whatif.join import Join
 from spanprof.whatif.shapes import Cutoff, Grain, OwnTask, Split
 from spanprof.whatif.tests.made_up import LOOPS, ROW, SORT, changed

@@ -11,5 +11,6 @@ returns c =
     let account = c.in_ok-command.ensures ∙ ap (and_then above) c.in_ok-account_command.ensures.app
     in
     let replay = c.in_ok-command-2.ensures ∙ ap₂ and_then account c.new.ensures.app in
-    IfOk-weaker c.with_command-3.result _ _ (λ command added. added
-    ∙ ap₂ and_then replay c.new-2.ensures.app) c.with_command-3.ensures
+    let check = c.in_ok-command-3.ensures ∙ ap₂ and_then replay c.new-2.ensures.app in
+    IfOk-weaker c.with_command-4.result _ _ (λ command added. added
+    ∙ ap₂ and_then check c.new-3.ensures.app) c.with_command-4.ensures

@@ -1,5 +1,5 @@
-use Rattle.std.proofs.Common.{arith, ◌∙◌, ◌-◌}
-use Rattle.large_documents.proofs.Members.{first_wait, wait_before}
+use Rattle.std.proofs.Common.{arith, ◌-◌}
+use Rattle.large_documents.proofs.Members.{first_wait}
 use Rattle.large_documents.proofs.run_tables.wait_at.Goals as goal
 
 pub returns-then-place-eq0 : goal.returns-then-place-eq0

@@ -2,9 +2,9 @@
 import re
 import unittest
 
-from spanprof.conformance.generate.constructs import constructs
 from spanprof.conformance.emit.tasks import CREATES, WAITED_FOR, Emitter, c_text, roles_of
-from spanprof.conformance.generate.reader import read_program
+from spanprof.conformance.generate.constructs import constructs
+from spanprof.conformance.generate.text_reader import read_program
 from spanprof.conformance.judge.segments import Table
 
 

@@ -2,13 +2,15 @@
 import unittest
 
 from spanprof.conformance.generate.constructs import constructs
-from spanprof.conformance.generate.random_programs import CONSTRUCTS, RECIPES, SHAPES, random_program, seeds_in_turn
 from spanprof.conformance.generate.program import C_KINDS, Task, nodes, segment_count
-from spanprof.conformance.generate.reader import read_program
-from spanprof.conformance.generate.text import text_of
+from spanprof.conformance.generate.random_programs import RECIPES, SHAPES, random_program, seeds_in_turn
+from spanprof.conformance.generate.text_reader import read_program
+from spanprof.conformance.generate.text_writer import text_of
 
 SEEDS = range(300)
-FEWER = range(60)   # for each construct
+CONSTRUCTS = ("if(0)", "final", "loop", "repeated item", "mergeable", "priority", "taskyield", "taskloop", "parallel",
+              "taskwait with depend", "depobj", "iterator", "detach", "depend(mutexinoutset)", "num_tasks",
+              "grainsize", "strict", "taskloop of any size", "reduction", "copied", "target", "cancel")
 
 
 class Generation(unittest.TestCase):
@@ -27,11 +29,6 @@ class Generation(unittest.TestCase):
         found = set().union(*(constructs(random_program(seed, C_KINDS)[1]) for seed in SEEDS))
         self.assertLessEqual({*CONSTRUCTS, "taskwait", "taskgroup", "if(0) with depend", "created by several threads",
                               *(f"depend({kind})" for kind in C_KINDS)}, found)
-
-    def test_what_is_left_out(self):
-        for left_out in CONSTRUCTS:
-            found = set().union(*(constructs(random_program(seed, C_KINDS, [left_out])[1]) for seed in FEWER))
-            self.assertNotIn(left_out, found)
 
     def test_seeds_in_turn(self):
         seeds = list(seeds_in_turn(7, 30))

@@ -2,21 +2,21 @@
 import random
 import unittest
 
-from spanprof.conformance.generate.constructs import constructs
 from spanprof.conformance.emit.forms import is_cancelled
-from spanprof.conformance.generate.random_programs import RECIPES
-from spanprof.conformance.generate.program import Group, Loop, Task, Wait, Work, nodes, segment_count
-from spanprof.conformance.generate.reader import read_program
+from spanprof.conformance.generate.constructs import constructs
 from spanprof.conformance.generate.location_recipes import GATED, LocationRecipes
+from spanprof.conformance.generate.program import Group, Loop, Task, Wait, Work, nodes, segment_count
+from spanprof.conformance.generate.random_programs import RECIPES
+from spanprof.conformance.generate.text_reader import read_program
+from spanprof.conformance.generate.text_writer import text_of
 from spanprof.conformance.judge.segments import Table
-from spanprof.conformance.generate.text import text_of
 
 KINDS = ("in", "out", "inout")
 SEEDS = range(40)
 
 
-def made(name, without=()):
-    return [RECIPES[name](LocationRecipes(random.Random(seed), KINDS, without)) for seed in SEEDS]
+def made(name):
+    return [RECIPES[name](LocationRecipes(random.Random(seed), KINDS)) for seed in SEEDS]
 
 
 def most_turns(body):
@@ -29,10 +29,6 @@ class Made(unittest.TestCase):
             for body in made(name):
                 self.assertEqual(read_program(text_of(body)), body, name)
                 self.assertLess(segment_count(body), 5000, name)
-
-    def test_without_loops(self):
-        for name in RECIPES:
-            self.assertFalse([node for body in made(name, ["loop"]) for node in nodes(body) if isinstance(node, Loop)])
 
     def test_no_sibling_is_under_way_where_a_cancelled_group_begins(self):
         for body in made("cancel"):
@@ -66,7 +62,7 @@ class Made(unittest.TestCase):
 
     def test_sets_of_tasks_one_after_another(self):
         kinds = {*KINDS, "inoutset", "mutexinoutset"}
-        bodies = [LocationRecipes(random.Random(seed), kinds, ()).members() for seed in SEEDS]
+        bodies = [LocationRecipes(random.Random(seed), kinds).members() for seed in SEEDS]
         found = set().union(*map(constructs, bodies))
         self.assertLessEqual({"depend(in)", "depend(out)", "depend(inoutset)", "depend(mutexinoutset)"}, found)
         self.assertNotIn("depend(inoutset)", set().union(*map(constructs, made("members"))))
@@ -112,7 +108,6 @@ class Made(unittest.TestCase):
         for body in made("cancel"):
             self.assertIn("cancel", constructs(body))
             self.assertTrue(any(task.cancellers for task in Table(body).tasks))
-        self.assertNotIn("cancel", set().union(*(constructs(body) for body in made("cancel", ["cancel"]))))
 
 
 if __name__ == "__main__":

@@ -1,12 +1,12 @@
 """Groups that are cancelled: which logs are completed, and how."""
 import unittest
 
-from spanprof.conformance.judge.discarding import completed, digest_without, without_discarded
 from spanprof.conformance.emit.tasks import Emitter
+from spanprof.conformance.generate.text_reader import read_program
+from spanprof.conformance.judge.discarding import completed, digest_without, without_discarded
+from spanprof.conformance.judge.segments import Table
 from spanprof.conformance.judge.verdicts import Record
 from spanprof.conformance.run.launch import Log
-from spanprof.conformance.generate.reader import read_program
-from spanprof.conformance.judge.segments import Table
 
 # Segments: 0 the root, 1 the one that cancels, 2 the root, 3 the other task, 4 the root, 5 after the group.
 GROUP = "omptasks 2 taskgroup { task { #: cancels\n work 1 } task { work 1 } }"

@@ -1,12 +1,12 @@
 """What is said of a run that was not accepted."""
 import unittest
 
+from spanprof.conformance.generate.text_reader import read_program
 from spanprof.conformance.judge.explain import CUT_SHORT, OF_EXCLUSIVE, explain
 from spanprof.conformance.judge.rules import RULES
+from spanprof.conformance.judge.segments import Table
 from spanprof.conformance.judge.verdicts import Verdict
 from spanprof.conformance.run.launch import Log
-from spanprof.conformance.generate.reader import read_program
-from spanprof.conformance.judge.segments import Table
 
 WORKED = "omptasks 1\nwork 5 task { work 3 } work 2 taskwait work 1\n"
 DEPENDENCE = "omptasks 1\ntask depend(out: x) { } task depend(in: x) { }\n"

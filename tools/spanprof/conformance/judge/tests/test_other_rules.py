@@ -49,7 +49,7 @@ class Rules(unittest.TestCase):
         self.assertEqual(rule_of("values", "the sum of a group"), "reduction")
         self.assertEqual(rule_of("unconstrained", "undeferred task of an untied one"), "constraint")
         self.assertEqual(rule_of("crashed", "signal 11"), "end")
-        self.assertIn("12.9", str(RULES[rule_of("moved", "moved")]))
+        self.assertIn("12.10", str(RULES[rule_of("moved", "moved")]))
 
     def test_at_stake(self):
         self.assertEqual(at_stake("refused", "taskwait"), PROMISE)

@@ -2,7 +2,7 @@
 import unittest
 
 from spanprof.conformance.generate.program import segment_count
-from spanprof.conformance.generate.reader import read_program
+from spanprof.conformance.generate.text_reader import read_program
 from spanprof.conformance.judge.segments import Need, Table, conflict
 
 

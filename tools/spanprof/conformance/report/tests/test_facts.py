@@ -20,7 +20,7 @@ class StubToolchain:
 
 
 def facts(settings=("free", "pinned"), **others):
-    options = types.SimpleNamespace(threads=(2, 4), runs=3, seed=7, tasks=["tied"], without=[], programs=9, match="*")
+    options = types.SimpleNamespace(threads=(2, 4), runs=3, seed=7, tasks=["tied"], programs=9, match="*")
     options.__dict__.update(others)
     bench = types.SimpleNamespace(toolchain=StubToolchain(), environment={"RUNTIME": "/lib/libgomp.so"})
     return tested(options, bench, settings)
@@ -36,16 +36,14 @@ class Facts(unittest.TestCase):
             "directed programs": "tree_*", "random programs": "9"})
 
     def test_of_mutants(self):
-        options = types.SimpleNamespace(threads=(2, 4), runs=3, seed=7, tasks=["tied"], without=[], match="*",
+        options = types.SimpleNamespace(threads=(2, 4), runs=3, seed=7, tasks=["tied"], match="*",
                                         timeout=3, programs=20, seconds=60)
         found = of_mutants(options, types.SimpleNamespace(toolchain=StubToolchain()), ["free"])
         self.assertEqual((found["threads"], found["random programs"], found["settings"]), ("2, 4", "20", "free"))
         self.assertEqual(len(found["texts of directed programs"]), 64)
 
     def test_what_is_left_out(self):
-        found = facts(without=["loop"])
-        self.assertEqual(found["left out of random programs"], "loop")
-        self.assertIn("depend_two_sets", found["left out, as the compiler lacks a kind of item"])
+        self.assertIn("depend_two_sets", facts()["left out, as the compiler lacks a kind of item"])
 
     def test_variables_of_the_caller(self):
         self.assertEqual(told_runtimes({"PATH": "/bin", "OMP_DYNAMIC": "true", "KMP_USE_YIELD": "2"}),

@@ -5,7 +5,6 @@ import tempfile
 import unittest
 
 from spanprof.conformance.run import built
-from spanprof.conformance.judge.verdicts import Missing
 
 DESCRIBED = {"late": {"words": "wakes late", "rule": "taskwait", "breaks": "no: slower"},
              "lost": {"words": "loses a task", "rule": "once", "breaks": "yes"},
@@ -13,25 +12,20 @@ DESCRIBED = {"late": {"words": "wakes late", "rule": "taskwait", "breaks": "no: 
 
 
 class Folder(unittest.TestCase):
-    def found(self, *only):
+    def found(self):
         with tempfile.TemporaryDirectory() as folder:
             folder = pathlib.Path(folder)
             (folder / "mutants.json").write_text(json.dumps(DESCRIBED))
             for name in ("none", "late", "lost"):
                 (folder / f"{name}.so").touch()
-            return built.built_in(folder, only)
+            return built.built_in(folder)
 
     def test_by_rule_and_name_after_the_runtime_as_it_is(self):
         self.assertEqual([one.name for one in self.found()], ["none", "lost", "late"])
         self.assertEqual([one.is_wrong for one in self.found()], [False, True, False])
 
-    def test_some_alone(self):
-        self.assertEqual([one.name for one in self.found("lost")], ["none", "lost"])
-        with self.assertRaisesRegex(Missing, "no mutant other"):
-            self.found("other")
-
     def test_environment(self):
-        mutant = self.found("lost")[1]
+        mutant = self.found()[1]
         self.assertEqual(mutant.environment({"A": "b"}), {"A": "b", "LD_PRELOAD": str(mutant.library)})
         self.assertEqual(mutant.environment({"LD_PRELOAD": "log.so"})["LD_PRELOAD"], f"{mutant.library} log.so")
 

@@ -1,8 +1,8 @@
 """Cases of a campaign, their conditions, and their running side by side."""
 import unittest
 
-from spanprof.conformance.run.campaign import (cases_of, directed_cases, random_cases, run_cases, self_checking_cases,
-                                               spread, telling_first)
+from spanprof.conformance.run.campaign import (Running, cases_of, directed_cases, random_cases, run_cases,
+                                               self_checking_cases, spread, telling_first)
 from spanprof.conformance.judge.cases import Plan
 from spanprof.conformance.generate.program import C_KINDS
 from spanprof.conformance.tests.helpers import PLAN, StubBench, body_of, case_of
@@ -28,9 +28,9 @@ class Cases(unittest.TestCase):
         self.assertEqual(directed_cases(set(C_KINDS), ["tied"])[1], [])
 
     def test_random_programs_are_named_for_their_seeds(self):
-        cases = list(random_cases(range(5, 8), set(C_KINDS), ["tied"], []))
+        cases = list(random_cases(range(5, 8), set(C_KINDS), ["tied"]))
         self.assertEqual([case.name.split("-")[1] for case in cases], ["5", "6", "7"])
-        self.assertEqual(cases, list(random_cases(range(5, 8), set(C_KINDS), ["tied"], [])))
+        self.assertEqual(cases, list(random_cases(range(5, 8), set(C_KINDS), ["tied"])))
 
 
 class Conditions(unittest.TestCase):
@@ -46,7 +46,7 @@ class Conditions(unittest.TestCase):
         self.assertEqual({plan.conditions(case_of(name))[0].setting for name in "abcdefgh"}, {"free", "pinned"})
 
 
-class Running(unittest.TestCase):
+class SideBySide(unittest.TestCase):
     def test_nothing_is_begun_after_the_time(self):
         bench = StubBench()
         self.assertEqual(run_cases(bench, [case_of("a"), case_of("b")], PLAN, 1, seconds=-1).runs, 0)
@@ -55,6 +55,10 @@ class Running(unittest.TestCase):
     def test_what_tells_most_comes_first_where_time_is_short(self):
         cases = [case_of("m", variant="mixed"), case_of("t"), *self_checking_cases("in_final")]
         self.assertEqual([case.variant for case in telling_first(cases)], ["self-checking", "tied", "mixed"])
+
+    def test_the_first_conditions_alone_where_time_is_over_meanwhile(self):
+        at = Running(StubBench(), PLAN, 1, -1, lambda: None)
+        self.assertEqual(list(at.in_time(PLAN.conditions(case_of("a")))), PLAN.conditions(case_of("a"))[:1])
 
     def test_all_cases_are_counted(self):
         cases = [case_of(name) for name in "abc"]

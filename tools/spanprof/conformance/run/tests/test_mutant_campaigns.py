@@ -4,7 +4,7 @@ import types
 import unittest
 
 from spanprof.conformance.run.built import Built
-from spanprof.conformance.run.mutant_campaigns import Campaign, Campaigns, Caught, cases_of_campaign, in_order
+from spanprof.conformance.run.mutant_campaigns import Campaigns, cases_of_campaign, in_order
 from spanprof.conformance.run.self_checking import is_self_checking
 from spanprof.conformance.tests.helpers import PLAN, StubBench, failure_of
 
@@ -13,8 +13,7 @@ LATE = Built("late", "wakes late", "taskwait", "no: slower", pathlib.Path("late.
 
 
 def options(**others):
-    usual = {"campaigns": 5, "programs": 3, "seed": 1, "jobs": 1, "without": [], "match": "in_final",
-             "seconds": 60, "tasks": ["tied"]}
+    usual = {"programs": 3, "seed": 1, "jobs": 1, "match": "in_final", "seconds": 60, "tasks": ["tied"]}
     return types.SimpleNamespace(**{**usual, **others})
 
 
@@ -35,75 +34,44 @@ class MutantBench(StubBench):
         return failure_of(case) if self.fails(case) else None
 
 
-def seen(*numbers):
-    """Campaigns in which so many programs failed."""
-    return Caught([Campaign({f"p{n}": [2, "free", "taskwait"] for n in range(number)}) for number in numbers])
-
-
 class OnMutants(unittest.TestCase):
-    def caught(self, fails, mutants=(LOST,), **others):
-        bench = MutantBench(fails)
-        kept = []
-        campaigns = Campaigns(bench, options(), PLAN, keep=lambda *one: kept.append(one), **others)
-        return dict((mutant.name, caught) for mutant, caught in campaigns.run(list(mutants))), bench, kept
+    def campaigns(self, fails, kept=()):
+        bench, keeps = MutantBench(fails), []
+        campaigns = Campaigns(bench, options(), PLAN, kept, lambda *one: keeps.append(one))
+        return {mutant.name: campaign for mutant, campaign in campaigns.run([LOST, LATE])}, bench, keeps
 
-    def test_until_half_of_the_campaigns_can_no_longer_fail(self):
-        caught, bench, kept = self.caught(lambda case: False)
-        self.assertEqual([one.tried for one in caught["lost"].campaigns], [4, 4, 4])
-        self.assertEqual(len({case.name for case in bench.tried}), 10)  # each campaign has random programs of its own
-        self.assertEqual([name for name, _ in kept], ["lost"] * 3)
+    def test_all_programs_where_none_fails(self):
+        seen, bench, keeps = self.campaigns(lambda case: False)
+        self.assertEqual([(one.tried, one.failed) for one in seen.values()], [(4, {}), (4, {})])
+        self.assertEqual(len({case.name for case in bench.tried}), 4)
+        self.assertEqual(sorted(name for name, _ in keeps), ["late", "lost"])
 
     def test_two_programs_are_enough(self):
-        caught, _, _ = self.caught(lambda case: True)
-        self.assertEqual([one.tried for one in caught["lost"].campaigns], [2])
-        self.assertEqual(caught["lost"].ways(), ["taskwait"])
-        self.assertTrue(caught["lost"].surely(5))
-
-    def test_one_campaign_where_nothing_is_broken(self):
-        caught, _, _ = self.caught(lambda case: True, (LOST, LATE))
-        self.assertEqual([one.tried for one in caught["late"].campaigns], [4])
-        self.assertFalse(caught["late"].surely(1))
+        seen, _, _ = self.campaigns(lambda case: True)
+        self.assertEqual((seen["lost"].tried, len(seen["lost"].failed), seen["lost"].ways()), (2, 2, ["taskwait"]))
+        self.assertEqual(seen["late"].failed, {})
 
     def test_goes_on_from_what_was_kept(self):
-        kept = [("lost", {"failed": {"p": [2, "free", "taskwait"]}, "tried": 3, "seconds": 1.5})] * 2
-        caught, bench, more = self.caught(lambda case: case.name.startswith("many-20"), kept=kept)
-        self.assertEqual([len(one.failed) for one in caught["lost"].campaigns], [1, 1, 1])
-        self.assertEqual((len(more), len(bench.tried), caught["lost"].times()), (1, 4, 3))
-        caught, bench, _ = self.caught(lambda case: True, kept=kept * 2)
-        self.assertEqual((caught["lost"].times(), bench.tried), (4, []))
-
-
-class WhatWasSeen(unittest.TestCase):
-    def test_two_programs_of_one_campaign_or_half_of_all(self):
-        self.assertTrue(seen(0, 2).surely(5))
-        self.assertTrue(seen(1, 0, 1, 0, 1).surely(5))
-        self.assertFalse(seen(1, 1).surely(5))
-
-    def test_settled(self):
-        self.assertTrue(seen(2).is_settled(5))
-        self.assertTrue(seen(1, 1, 1).is_settled(5))
-        self.assertFalse(seen(1, 0, 1, 0).is_settled(5))
-        self.assertTrue(seen(0, 1, 0, 0).is_settled(5))
-
-    def test_as_json(self):
-        found = seen(1).as_json()
-        self.assertEqual((found["campaigns"], found["ways"], found["tried"]), ([["p0"]], ["taskwait"], [0]))
+        kept = [("lost", {"failed": {"p": [2, "free", "taskwait"]}, "tried": 3, "seconds": 1.5})]
+        seen, bench, keeps = self.campaigns(lambda case: True, kept)
+        self.assertEqual((list(seen["lost"].failed), len(bench.tried)), (["p"], 4))
+        self.assertEqual([name for name, _ in keeps], ["late"])
 
 
 class Order(unittest.TestCase):
     def test_programs_of_the_rule_come_first(self):
-        cases = cases_of_campaign(options(match="*wait*", programs=0), {"in", "out"}, 0)
+        cases = cases_of_campaign(options(match="*wait*", programs=0), {"in", "out"})
         ordered = in_order(cases, "taskwait depend")
         alone = [case for case in ordered if is_self_checking(case)]
         names = [case.name for case in ordered[len(alone):]]
         first = [name for name in names if name.startswith("taskwait_depend")]
         self.assertEqual(ordered[:len(alone)], alone)
-        self.assertEqual(alone[0].name, "taskwait_depend")
+        self.assertIn(alone[0].name, ("taskwait_depend", "taskwait_depend_kinds"))
         self.assertEqual(names[:len(first)], first)
         self.assertEqual(len(first), 2)
 
     def test_tied_tasks_come_before_others(self):
-        cases = cases_of_campaign(options(tasks=["tied", "untied"]), {"in", "out"}, 0)
+        cases = cases_of_campaign(options(tasks=["tied", "untied"]), {"in", "out"})
         self.assertEqual([case.variant for case in in_order(cases, "once")],
                          ["self-checking"] + ["tied"] * 3 + ["untied"] * 3)
 

@@ -28,9 +28,18 @@ class Telling(unittest.TestCase):
     def test_the_end(self):
         self.assertEqual(self.said(1, 1, 30), f"\r1 of 1 cases, 0 with failures{TO_LINE_END}\n")
 
-    def test_a_log_has_a_line_each_half_minute_and_the_last(self):
-        lines = self.said(4, 4, 10, is_terminal=False).splitlines()
-        self.assertEqual([line.split(",")[0] for line in lines], ["2 of 4 cases", "4 of 4 cases"])
+    def test_a_log_has_a_line_soon_then_each_half_minute_and_the_last(self):
+        lines = self.said(6, 6, 10, is_terminal=False).splitlines()
+        self.assertEqual([line.split(",")[0] for line in lines], ["1 of 6 cases", "3 of 6 cases", "5 of 6 cases",
+                                                                  "6 of 6 cases"])
+
+    def test_a_log_has_a_line_where_no_case_ends(self):
+        with mock.patch("sys.stderr", new=io.StringIO()) as said:
+            progress = Progress(4)
+            progress.tick()
+            progress.next = progress.begun
+            progress.tick()
+        self.assertEqual(said.getvalue(), "0 of 4 cases, 0 with failures\n")
 
     def test_a_kind_of_failure_once(self):
         tally = Tally(PLAN, failures=[failure_of(case_of("b")), failure_of(case_of("c"))])

@@ -1,10 +1,11 @@
 import subprocess
+import time
 import unittest
 from types import SimpleNamespace
 
 from spanprof.conformance.run import self_checking
 from spanprof.conformance.judge.cases import Case
-from spanprof.conformance.judge.expected import Expectations
+from spanprof.conformance.judge.expected import Expectations, read_line
 from spanprof.conformance.judge.verdicts import Verdict
 from spanprof.conformance.run.launch import Conditions
 from spanprof.conformance.run.toolchain import BuildFailed
@@ -75,6 +76,22 @@ class Tries(unittest.TestCase):
         tally = self_checking.try_case(bench(script("exec sleep 60")), self.CASE, [conditions])[0]
         self.assertEqual([(failure.verdict, failure.rule) for failure in tally.failures],
                          [(Verdict("hung", "asleep"), "cancel_loop")])
+
+    def test_hangs_busy_once_it_has_had_the_time_of_a_processor(self):
+        conditions = Conditions(2, 8, 1, 0, 1)
+        tally = self_checking.try_case(bench(script("while :; do :; done")), self.CASE, [conditions])[0]
+        self.assertEqual([failure.verdict for failure in tally.failures], [Verdict("hung", "busy")])
+
+    def test_what_is_known_takes_no_more_time(self):
+        known = bench(script("echo 'turns: 12 was seen, 11 is right'; exit 1"))
+        known.expectations = Expectations("libgomp.so.1", [read_line("family=gomp program=cancel_loop : some.c")])
+        tallies = self_checking.try_case(known, self.CASE, [CONDITIONS, CONDITIONS])
+        self.assertEqual([dict(tally.expected) for tally in tallies], [{"some.c": self_checking.RUNS}])
+
+    def test_a_program_that_has_ended_does_not_sleep(self):
+        with subprocess.Popen(["true"]) as process:
+            time.sleep(.2)
+            self.assertFalse(self_checking.is_asleep(process.pid))
 
     def refused(self, said):
         def refuse(*_):

@@ -1,0 +1,53 @@
+"""What spanprof_large account tells of a timed document."""
+import re
+import subprocess
+
+from spanprof import client
+
+FAULTS = {
+    "NotTimed": "segment %s has no times",
+    "ThreadCount": "the run had more threads than the 1,024 that spanprof_large takes",
+    "Moments": "the region lasted longer than the 10^15 ns that spanprof_large takes",
+    "NoThread": "segment %s is on none of the threads",
+    "EndsEarly": "segment %s ends before it begins: the processors' clocks differ",
+    "OutOfTime": "segment %s is not within the region: the processors' clocks differ",
+    "TooSoon": "segment %s begins before segment %s, which it waits for, has ended: the processors' clocks differ, or "
+               "the runtime did not wait",
+    "NotApart": "segment %s begins while another one runs on its thread"}
+
+
+class NoBreakdown(Exception):
+    """Why there is none."""
+
+
+def in_words(line):
+    """An error line of the program, for people."""
+    name, *numbers = re.sub("^error: ", "", line).split() or [""]
+    fault = FAULTS.get(name)
+    if not fault or fault.count("%s") != len(numbers):
+        return "spanprof_large account: " + (line or "it ended without an answer")
+    return fault % tuple(numbers)
+
+
+def ask(words, path):
+    """What the program prints of the timed document in a file, with these words behind `account`."""
+    try:
+        with open(path, "rb") as document:
+            return answer(words, document)
+    except OSError as wrong:
+        raise NoBreakdown("%s: %s" % (path, wrong.strerror)) from wrong
+
+
+def answer(words, document):
+    """The same of an open file."""
+    if not client.takes_any_size():
+        raise NoBreakdown(client.HOW)
+    program = client.program()
+    try:
+        done = subprocess.run(program + ["account"] + list(words), stdin=document, capture_output=True, text=True,
+                              errors="replace", check=False)
+    except OSError as wrong:
+        raise NoBreakdown("spanprof_large: %s" % wrong) from wrong
+    if done.returncode:
+        raise NoBreakdown(in_words(done.stdout.strip()))
+    return done.stdout

@@ -1,0 +1,125 @@
+import os
+import tempfile
+import unittest
+from unittest import mock
+
+from spanprof.breakdown_program import NoBreakdown
+from spanprof.client import HOW
+from spanprof.head import Lock
+from spanprof.record.tests.made_up import Answers, Head
+from spanprof.remarks import remark_of
+from spanprof.tests.columns import code_of
+from spanprof.time_breakdown import TimeBreakdown, Blocked, recorded_breakdown, breakdown_of, divide_busy, times_name
+
+SUMS = "threads 2\nelapsed 14\nbusy 11\ndelayed 7\nstarved 8\noutside 2\n"
+ROWS = "segment,thread,ready,begin,end\n0,0,0,0,5\n1,0,5,6,9\n2,0,5,9,11\n3,1,11,12,13\n"
+
+
+def told(words, path):
+    """spanprof_large account of the worked run of docs/MODEL.md."""
+    return ROWS if words else SUMS
+
+
+def answers(work=11, **of_head):
+    made = Answers(work=work, head=Head(**dict(dict(threads=2, elapsed=14, unit="ns"), **of_head)))
+    made.code = code_of([*made.code, made.code[0]])
+    return made
+
+
+def divided(busy=100, work=60, **of_head):
+    return divide_busy(TimeBreakdown(2, 100, busy, 0, 0, 0), Head(**dict(dict(unit="ns"), **of_head)), work)
+
+
+class Asked(unittest.TestCase):
+    def account(self, made):
+        with mock.patch("spanprof.time_breakdown.ask", told):
+            return breakdown_of(made.head, made.work, "mine.timed", list(made.code.places))
+
+    def test_the_sums_and_the_rows(self):
+        found = self.account(answers())
+        self.assertEqual((found.busy, found.delayed, found.starved, found.outside), (11, 7, 8, 2))
+        self.assertEqual((found.whole, found.code, [column[3] for column in found.rows]), (28, 11, [1, 11, 12, 13]))
+
+    def test_by_place(self):
+        found = self.account(answers())
+        self.assertEqual(found.delayed_by, {"after a taskwait": 4, "the beginning": 2, "task at sort.c:9": 1})
+        self.assertEqual((sum(found.delayed_by.values()), sum(found.starved_by.values())), (7, 8))
+
+    def test_rows_of_another_run(self):
+        found = self.account(answers())
+        found.rows.begin[3] = 11
+        with self.assertRaisesRegex(AssertionError, "the rows have other sums"):
+            print(found.delayed_by)
+
+    def test_times_of_another_text(self):
+        made = answers()
+        made.code = code_of(list(made.code)[:-1])
+        with self.assertRaisesRegex(NoBreakdown, "there are times of 4 segments, and not of 3"):
+            self.account(made)
+
+    def test_lines_that_are_rounded_down(self):
+        self.assertEqual(self.account(answers(work=1, covered=1)).recorder, 10)
+        self.assertEqual(self.account(answers(work=1, covered=9)).recorder, 2)
+
+    def test_what_the_text_leaves_out(self):
+        self.assertEqual(self.account(answers(not_covered={"of this region": 3}, untimed=2)).left_out, 5)
+
+
+class Divided(unittest.TestCase):
+    LOCKS = [Lock("critical at a.c:3", 8, 75, 7), Lock("2 others together", 3, 4, 2)]
+
+    def test_by_the_wall_clock(self):
+        found, recorder = divided(clocks_differ={"by": 10}, slept={"by": 20}, locks=self.LOCKS)
+        self.assertEqual((found.preempted, found.asleep, found.at_locks, found.all), (10, 20, 9, 39))
+        self.assertEqual(recorder, 31)
+
+    def test_no_more_than_the_time_in_code(self):
+        found, recorder = divided(busy=25, work=0, clocks_differ={"by": 10}, slept={"by": 20}, locks=self.LOCKS)
+        self.assertEqual((found.preempted, found.asleep, found.at_locks, recorder), (10, 15, 0, 0))
+
+    def test_by_the_processors_clock(self):
+        found, recorder = divided(clock="cpu", clocks_differ={"by": 10}, locks=self.LOCKS)
+        self.assertEqual((found.preempted, found.asleep, found.at_locks, recorder), (21, 10, 9, 0))
+
+    def test_of_costs_that_leave_out_what_others_took(self):
+        found, recorder = divided(clock="own", taken_off={"by": 10}, slept={"by": 20}, locks=self.LOCKS)
+        self.assertEqual((found.preempted, found.asleep, found.at_locks, recorder), (10, 20, 9, 21))
+
+    def test_in_another_unit(self):
+        found, recorder = divided(busy=100000, work=60, unit="us", clocks_differ={"by": 10})
+        self.assertEqual((found.preempted, recorder), (10000, 40000))
+
+    def test_a_recording_that_tells_nothing(self):
+        self.assertEqual(divided(work=100), (Blocked(), 0))
+
+
+class Beside(unittest.TestCase):
+    def setUp(self):
+        kept = tempfile.TemporaryDirectory()
+        self.addCleanup(kept.cleanup)
+        self.made = answers()
+        self.made.path = os.path.join(kept.name, "mine.tasks")
+
+    def beside(self, has_program=True):
+        with mock.patch("spanprof.time_breakdown.ask", told), \
+                mock.patch("spanprof.client.takes_any_size", lambda: has_program):
+            found, why = recorded_breakdown(self.made)
+        return found and found.busy, why
+
+    def test_the_document_beside_the_text(self):
+        self.assertEqual(times_name(self.made.path), "")
+        for ending in (".tasks", ".timed"):
+            with open(self.made.path.removesuffix(".tasks") + ending, "w", encoding="utf-8"):
+                pass
+        self.assertEqual(self.beside(), (11, ""))
+        self.assertEqual(times_name(self.made.path), "mine.timed")
+
+    def test_why_there_is_none(self):
+        self.assertEqual(self.beside(), (None, ""))
+        self.assertEqual(self.beside(has_program=False), (None, HOW))
+        self.made.head.remarks = [remark_of({"remark": "unfinished task", "times": 1, "work": "low", "span": "low"})]
+        self.assertEqual(self.beside(), (None, "tasks did not run to their ends"))
+
+
+if __name__ == "__main__":
+    unittest.main()

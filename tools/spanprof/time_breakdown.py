@@ -1,0 +1,184 @@
+"""Where the time of a recorded run's threads went: the sums that spanprof_large tells of the timed document, and what
+the recording tells beside them. docs/MODEL.md has the words."""
+import os
+from array import array
+from dataclasses import dataclass, field
+from functools import cached_property
+from typing import List, NamedTuple, Optional
+
+from spanprof import client
+from spanprof.breakdown_program import NoBreakdown, ask
+from spanprof.idle import idle_by_place
+from spanprof.recording import document, open_recording
+from spanprof.remarks import UNFINISHED
+from spanprof.text_file import PIECE
+
+NO_TIMES_KEPT = "several of the program's threads meet regions, or it has more tasks and chunks than times are kept of"
+
+
+class Row(NamedTuple):
+    """When a segment was ready, began and ended, in nanoseconds since the region began."""
+    thread: int
+    ready: int
+    begin: int
+    end: int
+
+
+class Rows(NamedTuple):
+    """Of each segment the same, in columns."""
+    thread: array
+    ready: array
+    begin: array
+    end: array
+
+    @classmethod
+    def of(cls, rows):
+        return cls(*(array("q", column) for column in zip(*rows)))
+
+
+@dataclass
+class Blocked:
+    """Of the time in code, in nanoseconds: what was no code of the program."""
+    preempted: int = 0      # the system had put the thread off
+    asleep: int = 0         # the code slept, or waited by itself
+    at_locks: int = 0       # of OpenMP
+
+    @property
+    def all(self):
+        return self.preempted + self.asleep + self.at_locks
+
+
+@dataclass
+class TimeBreakdown:
+    """In nanoseconds, over all threads."""
+    threads: int
+    elapsed: int
+    busy: int
+    delayed: int
+    starved: int
+    outside: int
+    blocked: Blocked = field(default_factory=Blocked)
+    recorder: int = 0       # of the time in code, by the wall clock
+    by_processor: bool = False      # costs are read on that clock: then it is among what was preempted
+    of_whole: bool = False  # the program, and not of a region
+    left_out: int = 0       # code of the region that has no times here, and is idle
+    rows: Optional[Rows] = None
+    places: List[str] = field(default_factory=list)     # of the segments
+
+    @property
+    def whole(self):
+        return self.threads * self.elapsed
+
+    @property
+    def code(self):
+        return self.busy - self.blocked.all - self.recorder
+
+    @property
+    def parts(self):
+        """What the threads' time is made of; the parts add up to it."""
+        return {"code": self.code, "recorder": self.recorder, "preempted": self.blocked.preempted,
+                "asleep": self.blocked.asleep, "at locks": self.blocked.at_locks, "delayed": self.delayed,
+                "starved": self.starved, "outside": self.outside}
+
+    @cached_property
+    def idle(self):
+        """Delayed and starved time by place: the parts add up to the sums. Without rows there are no places."""
+        if not self.rows:
+            return {}, {}
+        found = idle_by_place(self.rows, self.places, self.threads)
+        assert [sum(parts.values()) for parts in found] == [self.delayed, self.starved], "the rows have other sums"
+        return found
+
+    @property
+    def delayed_by(self):
+        return self.idle[0]
+
+    @property
+    def starved_by(self):
+        return self.idle[1]
+
+
+def read_rows(table):
+    at = table.find("\n") + 1
+    heads, rows = table[:at].rstrip("\n").split(","), Rows(*(array("q") for _ in Rows._fields))
+    while at < len(table):
+        end = table.find("\n", at + PIECE) + 1 or len(table)
+        cells = table[at:end].replace("\n", ",").split(",")
+        for name, column in zip(Rows._fields, rows):
+            column.extend(map(int, cells[heads.index(name):-1:len(heads)]))
+        at = end
+    return rows
+
+
+def at_locks(head):
+    """How long threads waited for locks of OpenMP, in the text's unit."""
+    return sum(lock.waiting for lock in head.locks)
+
+
+def within(parts, whole):
+    """Each part is seen by itself; together they are no more than the whole."""
+    out = []
+    for part in parts:
+        out.append(max(0, min(part, whole - sum(out))))
+    return out
+
+
+def divide_busy(found, head, work):
+    """By the wall clock both clocks tell what held code up, and what segments lasted beyond their costs and their
+    waiting for locks is the recorder's, but for what costs leave out. By the processor's clock it is held up for as
+    long as it lasted beyond its costs, the recorder's time included."""
+    unit, taken_off = head.nanoseconds, head.taken_off.get("by", 0)
+    by = head.clocks_differ.get("by", taken_off)
+    beyond = min(max(found.busy - (work - head.untimed) * unit, 0), found.busy)
+    waiting = at_locks(head) * unit
+    if head.clock == "cpu":
+        asleep, waiting = within((by * unit, waiting), beyond)
+        return Blocked(beyond - asleep - waiting, asleep, waiting), 0
+    recorder = beyond - waiting - taken_off * unit
+    *parts, recorder = within((by * unit, head.slept.get("by", 0) * unit, waiting, recorder), found.busy)
+    return Blocked(*parts), recorder
+
+
+def breakdown_of(head, work, path, places=()):
+    """That of the timed document in a file, which is a run of the text. Without the places of its segments, as of a
+    long text, the rows are not asked for, and idle time has no places."""
+    found = TimeBreakdown(**client.named_numbers(ask([], path)), places=list(places))
+    if places:
+        found.rows = read_rows(ask(["--rows"], path))
+        if len(found.rows.thread) != len(places):
+            raise NoBreakdown("there are times of %d segments, and not of %d" % (len(found.rows.thread), len(places)))
+    # lines that are rounded to whole units may have less than the text covers
+    found.blocked, found.recorder = divide_busy(found, head, max(work, head.covered or 0))
+    found.by_processor = head.clock == "cpu"
+    found.of_whole = bool(head.whole)
+    found.left_out = (head.not_covered.get("of this region", 0) + head.untimed) * head.nanoseconds
+    return found
+
+
+def times_name(path):
+    """How the document of a text and its times is named to people; empty where it has none."""
+    recording = open_recording(path)
+    if recording.folder and recording.times:
+        return "text and times of " + recording.name
+    return os.path.basename(recording.times)
+
+
+def why_none(head):
+    """Why the converter wrote no timed document; empty where nothing is known."""
+    if any(remark.name in UNFINISHED for remark in head.remarks):
+        return "tasks did not run to their ends"
+    if head.whole and client.takes_any_size():
+        return NO_TIMES_KEPT
+    return "" if not head.elapsed or client.takes_any_size() else client.HOW
+
+
+def recorded_breakdown(answers):
+    """That of the timed document beside the text; or None, and why."""
+    recording = open_recording(answers.path)
+    if not recording.times or not answers.head.nanoseconds:
+        return None, why_none(answers.head)
+    try:
+        places = () if answers.is_long else list(answers.code.places)
+        return breakdown_of(answers.head, answers.work, document(recording), places), ""
+    except NoBreakdown as fault:
+        return None, str(fault)

@@ -1,0 +1,79 @@
+"""What is told of a text and its changed text, in lines and as JSON."""
+import json
+
+from spanprof.head import grouped
+from spanprof.proof import proved
+from spanprof.validity import speaks_of, why_not_of_more_threads
+
+RIGHT = (("drop-wait drop-depend drop-name in-for-inout read-only",
+          "whether the program stays right without it is for you to judge: no text says what its tasks read and write"),
+         ("split grain task",
+          "whether that code can be divided, or run in parallel to what follows it, is for you to judge"))
+HEADS = "%-22s %18s %18s %9s"
+
+
+def change(before, after):
+    """By how much it changes, in per cent of what it was."""
+    return "%+.1f %%" % (100 * (after - before) / before) if before else ""
+
+
+def pairs(before, after):
+    """Names, and the numbers of both."""
+    yield "segments", before.segments, after.segments
+    yield "work", before.work, after.work
+    yield "span", before.span, after.span
+    for p in before.on:
+        for name in ("least", "end", "bound"):
+            numbers = getattr(before.on[p], name), getattr(after.on[p], name)
+            if None not in numbers:
+                yield "%d threads, %s" % (p, name), *numbers
+
+
+def proof_words(before, after):
+    words = proved("proved of the text, and of the changed text: spanprof has read both")
+    has_ends = all(row.end is not None for numbers in (before, after) for row in numbers.on.values())
+    return words if has_ends else words + "; there was too little memory for a greedy schedule"
+
+
+def on_more_threads(head, threads):
+    """What the head has against numbers on so many threads."""
+    return ["on %d threads: %s" % (p, why_not_of_more_threads(head)) for p in threads if not speaks_of(head, p)]
+
+
+def yours_to_know(requests):
+    asked = {request.option for request in requests}
+    return [words for options, words in RIGHT if asked & set(options.split())]
+
+
+def notes(requests, made, costs, head, threads):
+    """What stands above the numbers."""
+    yield from ("changed: " + one.words() for one in made)
+    if any(hasattr(one, "creating") for one in made):
+        yield "a creation is assumed to cost %s: %s" % (grouped(costs.creating), costs.why)
+    yield from yours_to_know(requests)
+    yield from ("warning: " + remark for remark in head.remarks)
+    yield from on_more_threads(head, threads)
+
+
+def in_unit(unit):
+    """Of the costs; one that is a number of nanoseconds is a factor."""
+    return "in %s%s" % ("x " if unit[:1].isdigit() else "", unit) if unit else ""
+
+
+def lines(before, after, unit=""):
+    yield (HEADS % (in_unit(unit), "text", "changed text", "")).rstrip()
+    for name, was, now in pairs(before, after):
+        yield (HEADS % (name, grouped(was), grouped(now), change(was, now))).rstrip()
+    yield proof_words(before, after)
+
+
+def numbers_json(numbers):
+    return {"by": numbers.by, "segments": numbers.segments, "work": numbers.work, "span": numbers.span,
+            "threads": {str(p): row._asdict() for p, row in numbers.on.items()}}
+
+
+def as_json(told, before, after, predicted=None):
+    """Without a model of the machine no time is predicted."""
+    out = {"notes": list(told), "text": numbers_json(before), "changed text": numbers_json(after),
+           "proved": proof_words(before, after)}
+    return json.dumps({**out, "predicted": predicted} if predicted else out, indent=2)
