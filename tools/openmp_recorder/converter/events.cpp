@@ -72,7 +72,7 @@ void Events::put_rows(size_t count, const Taker &taker) {
   taker(piece.words());
 }
 
-void Events::tell(const Region &region, const Taker &taker) {
+void Events::print(const Region &region, const Taker &taker) {
   int64_t end = std::max(last, region.time.end - region.time.begin);
   for (const SegmentTime &time : times) end = std::max(end, time.end);
   size_t threads = std::max<size_t>(region.threads, workers());

@@ -24,7 +24,7 @@ class Events {
   size_t workers() const { return numbers.size(); }
   // What follows the text in a timed document: the times of all segments, on the threads of the region and those that
   // ran its tasks beside them.
-  void tell(const Region &region, const Taker &taker);
+  void print(const Region &region, const Taker &taker);
   std::vector<SegmentTime> times;  // of the last part
 
  private:

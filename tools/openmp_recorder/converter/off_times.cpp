@@ -33,11 +33,11 @@ void OffTimes::move(size_t from, const Task &of, const Task &to, unsigned first_
     if (all[i].task == &of) all[i].task = &to, all[i].segment += first_segment;
 }
 
-void OffTimes::let_go(std::size_t stretch, const Task &root, const Task &of_stretch) {
+void OffTimes::release(std::size_t stretch, const Task &root, const Task &of_stretch) {
   for (OffTime &one : all) {
     bool is_of_root = one.task == &root;
     if (is_of_root && one.segment >= of_stretch.segment) one.segment -= of_stretch.segment;
-    else if (is_of_root || (one.task && one.task->is_let_go)) {
+    else if (is_of_root || (one.task && one.task->is_released)) {
       one.stretch = static_cast<uint32_t>(stretch);
       one.in_stretch = (is_of_root ? of_stretch : *one.task).first_number;
       one.task = nullptr;

@@ -12,13 +12,13 @@ struct Region;
 
 // The thread gave its processor up, or another program had it, in nanoseconds.
 struct OffTime {
-  const Task *task;  // null where it is let go
+  const Task *task;  // null where it is released
   unsigned segment;  // counted within the task
   int64_t slept, preempted;
   uint32_t stack = 0, stands_for = 0;  // of a sample: the number of its calls, and microseconds
   uint32_t sample = 0;  // and of what it interrupted
   bool asleep = false;  // then
-  uint32_t stretch = none, in_stretch = none;  // with which its task was let go, and the number that this has there
+  uint32_t stretch = none, in_stretch = none;  // with which its task was released, and the number that this has there
   uint32_t number = none, pieces = 1;  // of the segment in the text, once that is written, and of its task
 };
 
@@ -28,8 +28,9 @@ class OffTimes {
   void add(const OffTime &one);
   // Those from a place in the list on that are of a task whose segments have become another one's.
   void move(size_t from, const Task &of, const Task &to, unsigned first_segment);
-  // Those of tasks that are let go, and of the first segments of the program's root, which are those of the stretch's.
-  void let_go(std::size_t stretch, const Task &root, const Task &of_stretch);
+  // Those of tasks that are released, and of the first segments of the program's root, which are those of the
+  // stretch's.
+  void release(std::size_t stretch, const Task &root, const Task &of_stretch);
   void take_back(std::size_t stretch, const std::vector<Task *> &tasks);
   void number(const Region &region);  // by the part of its text that was written last
 };

@@ -111,7 +111,7 @@ void Reporter::write_times(Region &region, Events &events, const std::string &na
   }
   std::string file = name + (recording.whole ? ".times" : ".timed");
   style.numbered = false;
-  auto times = [&](const Taker &taker) { events.tell(region, taker); };
+  auto times = [&](const Taker &taker) { events.print(region, taker); };
   auto behind = [&](const Taker &taker) { taker("---\n"), times(taker); };
   if (recording.whole ? write_file(file, times) : write_text(region, file, head, style, nullptr, nullptr, behind))
     line.put("times", file);

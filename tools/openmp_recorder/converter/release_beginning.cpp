@@ -44,16 +44,16 @@ bool Reader::is_ended_until(const Placed &end) {
 void Reader::release_beginning() {
   const Task &root = *run.whole->root;
   if (!may_release || run.whole->tasks.size() <= room) return;
-  size_t over = 0;
-  while (over < placed.size() && is_ended_until(placed[over])) over++;
-  // In a damaged log the root may have gone on before a region was over.
-  bool has_gone_on = over && run.whole->has_events && root.running && root.started < placed[over - 1].events;
-  if (over && !has_gone_on) release_until(placed[over - 1]);
+  size_t count = 0;
+  while (count < placed.size() && is_ended_until(placed[count])) count++;
+  // In a damaged log the root may have gone on before a region had ended.
+  bool has_gone_on = count && run.whole->has_events && root.running && root.started < placed[count - 1].events;
+  if (count && !has_gone_on) release_until(placed[count - 1]);
 }
 
-// In a damaged log a later region may have tasks that are let go.
+// In a damaged log a later region may have tasks that are released.
 void Reader::take_from_later(size_t first) {
-  auto is_gone = [](const Part &part) { return part.task->is_let_go; };
+  auto is_gone = [](const Part &part) { return part.task->is_released; };
   for (size_t i = first; i < begun.size(); i++) {
     Region &region = *begun[i];
     region.parts.erase(std::remove_if(region.parts.begin(), region.parts.end(), is_gone), region.parts.end());
@@ -61,10 +61,10 @@ void Reader::take_from_later(size_t first) {
       std::vector<Part> &left = region.left_in_groups.made();
       left.erase(std::remove_if(left.begin(), left.end(), is_gone), left.end());
     }
-    if (region.owner && region.owner->is_let_go) region.owner = run.whole->root;
+    if (region.owner && region.owner->is_released) region.owner = run.whole->root;
   }
   for (auto &[number, own] : implicit)
-    if (own.chunk && own.chunk->is_let_go) own.chunk = nullptr;
+    if (own.chunk && own.chunk->is_released) own.chunk = nullptr;
 }
 
 void Reader::release_until(const Placed &found) {
@@ -74,7 +74,7 @@ void Reader::release_until(const Placed &found) {
   stretch.tasks = run.whole->tasks.take(1, end.blocks);
   stretch.has_auxiliary = run.whole->has_auxiliary;
   stretch.has_events = run.whole->has_events;
-  for (Task &t : stretch.tasks) t.is_let_go = true;
+  for (Task &t : stretch.tasks) t.is_released = true;
   take_from_later(end.regions);
   forget(stretch.tasks);
   stretch.root = &stretch.tasks.emplace_front();
@@ -84,7 +84,7 @@ void Reader::release_until(const Placed &found) {
   take_events(stretch, end.events);
   end_stretch(stretch, end);
   run.whole->before->put(stretch);
-  run.whole->off.let_go(run.whole->before->count() - 1, *run.whole->root, *stretch.root);
+  run.whole->off.release(run.whole->before->count() - 1, *run.whole->root, *stretch.root);
   for (size_t i = chunks_gone; i < end.chunks; i++)
     if (Chunk &chunk = run.whole->chunk_list[i]; chunk.is_task) chunk.at = chunk.task->first_number;
   take_from_placed(end);
@@ -119,7 +119,7 @@ void Reader::take_events(Region &stretch, size_t end) {
     Event &event = events[i];
     bool is_of_root = event.task == root;
     if (is_of_root && i >= end) event.segment -= stretch.root->segment;
-    if (is_of_root ? i >= end : !event.task->is_let_go) continue;
+    if (is_of_root ? i >= end : !event.task->is_released) continue;
     stretch.events.push_back(
         {is_of_root ? stretch.root : event.task, event.at, event.segment, event.worker, event.start, event.taken_back});
     event.task = root, event.taken_back = true;

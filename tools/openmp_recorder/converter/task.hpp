@@ -62,7 +62,7 @@ struct Task {
   bool auxiliary = false;  // of a taskloop's, made by the runtime to make others
   bool of_loop = false;  // a taskloop's, or a chunk of a loop
   bool shown = true;  // it stands in the text
-  bool is_let_go = false;  // with the beginning of the whole program
+  bool is_released = false;  // with the beginning of the whole program
   Origin origin = Origin::Task;
   uint32_t pieces = 0;  // of a loop's chunk: so many tasks that share its cost stand for it; 0 for what is none
   unsigned segment = 0;  // the one that is open, counted within the task

@@ -120,7 +120,7 @@ std::string text_of(Region &region, const Style &style) {
 
 std::string told_times(const Region &region, Events events) {
   std::string out;
-  events.tell(region, [&](std::string_view piece) { out += piece; });
+  events.print(region, [&](std::string_view piece) { out += piece; });
   return out;
 }
 
