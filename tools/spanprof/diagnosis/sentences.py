@@ -232,10 +232,10 @@ def words_of_suspect(facts, names):
 def words_of_line(facts):
     """That in which code ran most, where no function has much of it."""
     at, ran = (together(found, found) for found in (facts.calls.at, facts.calls.ran))
-    line = max(at, key=at.get, default="")
-    if not line or at[line] < SHARES[-1] * sum(ran.values()):
+    line, whole = max(at, key=at.get, default=""), sum(ran.values())
+    if not whole or not line or at[line] < SHARES[-1] * whole:
         return ", as far as one run shows"
-    return ", %.0f %% of it at %s" % (100 * at[line] / sum(ran.values()), line)
+    return ", %.0f %% of it at %s" % (100 * at[line] / whole, line)
 
 
 def instead(names, place, name):

@@ -164,6 +164,8 @@ class Sentences(unittest.TestCase):
         self.assertIn("100 % of it in tone", short_lines(diagnose(run), Names(run, SOURCES))[2])
         run.calls = Sampled({TASKS: {("main", "[libc.so.6]"): 9 * 4000}}, {}, {}, {TASKS: {"image.c:9": 18000}})
         self.assertIn("50 % of it at image.c:9", short_lines(diagnose(run), Names(run, SOURCES))[2])
+        run.calls = Sampled({TASKS: {("main", "[libc.so.6]"): 0}}, {}, {}, {TASKS: {"image.c:9": 18000}})
+        self.assertIn("as far as one run shows", short_lines(diagnose(run), Names(run, SOURCES))[2])
 
     def test_what_went_wrong_has_a_line(self):
         run = found()
