@@ -6,6 +6,7 @@
 #include <cerrno>
 #include <cstring>
 #include <stdexcept>
+#include <utility>
 
 #include "message.hpp"
 
@@ -65,11 +66,16 @@ void NewFile::put(std::string_view piece) {
   good = good && fwrite(piece.data(), 1, piece.size(), file) == piece.size();
 }
 
+NewFile::~NewFile() {
+  if (file) fclose(file), remove(unfinished(name).c_str());
+}
+
 bool NewFile::end() {
-  if (file && fclose(file)) good = false;
+  bool is_there = file;
+  if (is_there && fclose(std::exchange(file, nullptr))) good = false;
   if (good && !rename(unfinished(name).c_str(), name.c_str())) return true;
   int why = errno;
-  if (file) remove(unfinished(name).c_str()), remove(name.c_str());
+  if (is_there) remove(unfinished(name).c_str()), remove(name.c_str());
   Message("unwritten").put("file", name).put("why", std::string(std::strerror(why)));
   return false;
 }

@@ -35,6 +35,7 @@ class NewFile {
  public:
   explicit NewFile(const std::string &called);
   NewFile(const NewFile &) = delete;
+  ~NewFile();  // without an end, as where what is to be written cannot be had, nothing stays
   void put(std::string_view piece);
   bool end();  // whether all is written; else a word is said, and no part of it stays
 

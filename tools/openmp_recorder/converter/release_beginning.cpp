@@ -51,8 +51,10 @@ void Reader::release_beginning() {
   if (count && !has_gone_on) release_until(placed[count - 1]);
 }
 
-// In a damaged log a later region may have tasks that are released.
+// In a damaged log a later region may have tasks that are released, or they may have made others since.
 void Reader::take_from_later(size_t first) {
+  for (const Task &t : run.whole->tasks)
+    if (t.parent && t.parent->is_released) refuse("a task makes another after its region has ended");
   auto is_gone = [](const Part &part) { return part.task->is_released; };
   for (size_t i = first; i < begun.size(); i++) {
     Region &region = *begun[i];

@@ -265,7 +265,8 @@ void Reader::put_chunk_back(ImplicitTask &own) {
 
 // Its creation is the part's last step, and so is the group, where it is the first.
 void Reader::take_chunk_out(ImplicitTask &own, Task &t) {
-  if (t.steps.size() < 2 || t.steps.back().kind != Kind::Create) refuse("a chunk is none of its loop");
+  bool is_last = t.steps.size() > 1 && t.steps.back().kind == Kind::Create && t.steps.back().child() == own.last->task;
+  if (!is_last) refuse("a chunk is none of its loop");
   t.steps.pop_back();
   t.children--;
   t.segment--;

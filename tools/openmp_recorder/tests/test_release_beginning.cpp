@@ -1,5 +1,6 @@
 // The beginning of the whole program that is let go.
 #include "head.hpp"
+#include "log_damage.hpp"
 #include "span.hpp"
 #include "stretches.hpp"
 #include "program_text.hpp"
@@ -179,4 +180,31 @@ TEST(regions_of_many_names_are_let_go_each_by_itself) {
   }
   EXPECT(made.text().size() > 1000, true);
   EXPECT(made.released().whole->before->chunks.size() > 30, true);
+}
+
+namespace {
+std::string why_refused(Program &made) {
+  try {
+    made.released();
+  } catch (const DamagedLog &damage) {
+    return damage.what();
+  }
+  return {};
+}
+}  // namespace
+
+TEST(a_task_that_makes_another_after_its_region_is_damage) {
+  Program made(2);
+  made.create(0, 1, 50).run(1, 2, 50, 5);
+  close_region(made.after(5), 1, 1);
+  made.create(0, 50, 60);
+  begin_region(made, 2, 11);
+  EXPECT_PART(why_refused(made), "after its region has ended");
+}
+
+TEST(a_chunk_after_which_its_part_has_made_a_task_is_damage) {
+  Program made(2);
+  made.add(0, RecordKind::Divided, 5, 1, 0, 50).add(0, RecordKind::Chunk, 2).after(5);
+  made.create(1, 1, 60).create(0, 1, 61);
+  EXPECT_PART(why_refused(made), "none of its loop");
 }

@@ -105,6 +105,19 @@ TEST(a_new_file_is_there_only_where_all_is_written) {
   EXPECT(access(name.c_str(), F_OK), -1);
 }
 
+TEST(of_a_file_that_is_given_up_nothing_stays) {
+  std::string name = "/tmp/spanprof_recorder_test." + std::to_string(getpid());
+  auto give_up = [](const std::function<void(std::string_view)> &taker) {
+    taker("four");
+    throw std::bad_alloc();
+  };
+  try {
+    write_file(name, give_up);
+  } catch (const std::bad_alloc &) {
+  }
+  EXPECT(access((name + ".new").c_str(), F_OK), -1);
+}
+
 TEST(times_of_segments_are_since_the_region_began) {
   Run run = two_tasks();
   Region &region = only_region(run);
