@@ -1,5 +1,6 @@
 """Which tool wrote a file."""
 import re
+import zlib
 from typing import Callable, NamedTuple
 
 from spanprof.command import naming
@@ -37,5 +38,5 @@ def read(name, path, more=None):
             return FORMATS[name].read(path, more)
         except EOFError as wrong:
             raise Fault("%s: it is cut off" % path) from wrong
-        except DAMAGE as wrong:
+        except (*DAMAGE, zlib.error) as wrong:
             raise Fault("%s is damaged: %s" % (path, str(wrong)[:LONGEST])) from wrong

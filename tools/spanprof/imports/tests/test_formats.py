@@ -20,7 +20,8 @@ class Formats(InFolder):
 
     def test_damage_names_the_file(self):
         path = os.path.join(self.folder, "x")
-        for data in (b"\x1f\x8b\x08\0cut", b"\x1f\x8b"):
+        head = b"\x1f\x8b\x08" + bytes(7)
+        for data in (b"\x1f\x8b\x08\0cut", b"\x1f\x8b", head + b"\x07"):     # a block of no type of RFC 1951
             with open(path, "wb") as file:
                 file.write(data)
             with self.assertRaisesRegex(Fault, "x: .*cut off|x is damaged|x: Not a gzipped"):
