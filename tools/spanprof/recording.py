@@ -71,6 +71,20 @@ def how_again(folder):
     return "spanprof-convert %s writes it anew" % folder if log_of(folder) else "record or import it again"
 
 
+def check_facts(meta):
+    """That tools can read on; any fact may be missing."""
+    groups = [meta.get(name) or {} for name in ("threads", "usage", "host", "counters", "cost_on_one")]
+    groups.append({name: meta.get(name) for name in ("processors", "elapsed_ns")})
+    numbers = [number for group in groups for number in group.values() if number is not None]
+    numbers += [run[name] for run in meta.get("runs") or [] for name in ("work_ns", "span_ns")]
+    numbers += [*(meta.get("true_one") or []), *(meta.get("true_many") or [])]
+    words = [meta.get("unit"), *(meta.get("runtime") or {}).values()]
+    if not all(isinstance(number, (int, float)) and abs(number) < 2 ** 63 for number in numbers):
+        raise ValueError("a fact is no number")
+    if not all(word is None or isinstance(word, str) for word in words):
+        raise ValueError("a fact is no word")
+
+
 def read_meta(folder):
     again = how_again(folder)
     try:
@@ -79,6 +93,8 @@ def read_meta(folder):
         schema = meta["schema"]
         if not isinstance(schema, int) or not isinstance(meta.get("files"), dict):
             raise ValueError("no number of a schema, or no list of files")
+        if schema <= SCHEMA:
+            check_facts(meta)
     except FileNotFoundError as wrong:
         raise Fault("%s: the recording is not complete, as it has no %s; %s" % (folder, META, again)) from wrong
     except OSError as wrong:

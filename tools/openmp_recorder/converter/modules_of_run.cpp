@@ -21,6 +21,7 @@ void ModulesOfRun::add(const std::string &line, const std::string &program) {
   std::istringstream words(line);
   if (!(words >> std::hex >> one.base >> one.first >> one.end >> what)) return;
   std::getline(words >> std::ws, one.path);
+  one.path.resize(std::strlen(one.path.c_str()));  // a zero of a damaged log would end a command of the shell
   one.is_runtime = what == "runtime";
   if (one.path.empty()) one.path = program;
   for (const ModuleOfRun &known : all)

@@ -419,3 +419,14 @@ TEST(what_gcc_optimises) {
   EXPECT(is_told("GNU C17 12.2.0 -O2"), false);
   EXPECT(is_told("clang version 19 -O2 -fopenmp"), false);
 }
+
+TEST(a_path_of_a_module_ends_at_a_zero) {
+  MadeLog log;
+  std::string path = log.folder + "/list", line("10 20 30 module /a\0b\n", 22);
+  FILE *file = fopen(path.c_str(), "w");
+  fwrite(line.data(), 1, line.size(), file);
+  fclose(file);
+  ModulesOfRun modules;
+  modules.read(path, "");
+  EXPECT(modules.of(reinterpret_cast<const void *>(0x20))->path, std::string("/a"));
+}

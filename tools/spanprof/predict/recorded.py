@@ -4,7 +4,7 @@ from dataclasses import dataclass, replace
 from typing import Optional, Tuple
 
 from spanprof import client
-from spanprof.errors import Fault
+from spanprof.errors import Fault, reading
 from spanprof.head import Head, comments, read_head
 from spanprof.predict.burden import text_with
 from spanprof.predict.program import Program, read_program
@@ -111,5 +111,6 @@ def recorded(path, name="", runtime=LLVM):
     one, timed = recorded_as(client.read(path), name or path), document(open_recording(path))
     one.runtime = runtime
     if timed:
-        take_times(one, lines_after_the_divider(timed))
+        with reading(name or path):
+            take_times(one, lines_after_the_divider(timed))
     return one

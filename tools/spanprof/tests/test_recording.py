@@ -64,6 +64,10 @@ class Folders(InFolder):
         for words in ("{", "[]", "{}", "[" * 100000, '{"schema": 1, "files": 3}', '{"schema": "x", "files": {}}'):
             write(os.path.join(folder, "recording.json"), words)
             self.refused("recording.json is damaged: ")
+        for fact in ('"threads": 5', '"usage": {"user_ns": "x"}', '"host": [1]', '"runs": 3', '"runs": [{}]',
+                     '"unit": 7', '"elapsed_ns": NaN', '"processors": 1e999', '"runtime": "gnu"', '"true_one": [null]'):
+            write(os.path.join(folder, "recording.json"), '{"schema": 1, "files": {}, %s}' % fact)
+            self.refused("recording.json is damaged: ")
 
     def test_without_a_text(self):
         made(self.folder, **{"program.tasks": None, "times": None})

@@ -49,6 +49,12 @@ class Recordings(InAFolder):
         found = recorded(self.write("a.tasks", TEXT % 2))
         self.assertEqual((found.outside, found.is_timed), (0, False))
 
+    def test_damaged_times(self):
+        for row in ("0 0 300 {}", "0 0", "times"):
+            self.write("a.timed", TEXT % 2 + "---\ntimes 2 100 40000\n%s\n" % row)
+            with self.assertRaisesRegex(Fault, "a.tasks is damaged: "):
+                recorded(self.write("a.tasks", TEXT % 2))
+
     def test_what_tells_no_time(self):
         for text, why in (("omptasks 1 task { }\n", "it is no recording"),
                           (TEXT.replace("omptasks 1", "omptasks 2") % 2, "it is no recording"),
