@@ -46,8 +46,12 @@ void Events::take(const Region &region, const Region &part, uint32_t begin, uint
     unsigned worker = numbers.emplace(event.worker, numbers.size()).first->second;
     SegmentTime &time = times[number - first];
     time.worker = worker;
-    (event.start ? time.begin : time.end) = event.at - region.time.begin;
-    if (event.start) continue;
+    int64_t at = std::max<int64_t>(event.at - region.time.begin, 0);  // records of a damaged log go back
+    if (event.start) {
+      time.begin = at;
+      continue;
+    }
+    time.end = std::max(at, time.begin);
     finished += event.task->pieces > 1 ? divide_among_pieces(*event.task, number - first, times) : 1;
   }
 }

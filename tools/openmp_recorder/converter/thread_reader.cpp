@@ -155,7 +155,7 @@ void ThreadReader::end_region() {
   for (size_t i = log.regions.size(); i-- > 0;) {
     RegionTime &own = log.regions[i];
     if (own.region != raw.record.other || own.end) continue;
-    own.end = time.wall(raw.record.at);
+    own.end = std::max(time.wall(raw.record.at), own.begin);
     if (by_processor) own.processor += raw.processor;
     return;
   }

@@ -231,6 +231,15 @@ TEST(a_task_that_did_not_end_is_remarked_and_open_groups_are_closed) {
   EXPECT(region.remarks->count(Remark::LeftInside), 1u);
 }
 
+TEST(a_region_of_which_no_end_is_told_ends_with_the_records) {
+  Made made;
+  Run run = made.add(0, RecordKind::ParallelBegin, 1, 2).after(3).barrier(0, 1).read();
+  Region &inner = *run.regions[2];
+  EXPECT(inner.time.end, made.now());
+  EXPECT(inner.remarks->count(Remark::LeftInside), 1u);
+  EXPECT(run.regions[1]->remarks->count(Remark::LeftInside), 0u);
+}
+
 TEST(what_only_a_remark_can_tell) {
   Run run = Made()
                 .create(0, 1, 2)

@@ -128,6 +128,16 @@ TEST(times_of_segments_are_since_the_region_began) {
   EXPECT(told_times(region, std::move(events)), "times 2 0 3999\n0 0 0 1499\n1 1 1499 3999\n2 0 1499 1499\n");
 }
 
+// As records of a damaged log may.
+TEST(a_segment_whose_end_is_told_before_its_begin_takes_no_time) {
+  Run run = two_tasks();
+  Region &region = only_region(run);
+  text_of(region);
+  for (Event &event : region.events)
+    if (!event.start) event.at = region.time.begin - 100;
+  for (const SegmentTime &time : event_lines(region).times) EXPECT(time.end, time.begin);
+}
+
 // LLVM 14 may tell of a thread's last code after the region's end.
 TEST(the_root_ends_behind_all_that_is_told) {
   Run run = two_parts();
