@@ -229,7 +229,7 @@ void measure_chunks(WholeProgram &whole, size_t first, size_t end) {
     Chunk &chunk = whole.chunk_list[i];
     chunk.part = chunk.task->parent;
     chunk.cost = chunk.task->total;
-    chunk.is_task = chunk.task->pieces;
+    chunk.is_task = chunk.part && chunk.task->pieces;
     chunk.makes_tasks = chunk.task->children;
     chunk.turns = all_turns(chunk);
     if (chunk.is_task) whole.in_loops += own_cost(*chunk.task);
@@ -262,8 +262,10 @@ void put_pieces(WholeProgram &whole, size_t stretch, const std::vector<Task *> &
   const std::vector<size_t> &ends = whole.before->chunks;
   std::vector<Chunk> own;
   for (size_t i = stretch ? ends[stretch - 1] : 0; i < ends[stretch]; i++) {
-    own.push_back(whole.chunk_list[i]);
-    if (own.back().is_task) own.back().task = tasks[own.back().at];
+    Chunk &chunk = own.emplace_back(whole.chunk_list[i]);
+    if (!chunk.is_task) continue;
+    chunk.task = tasks[chunk.at];
+    chunk.is_task = chunk.task->parent;  // else, in a damaged log, its part stands nowhere
   }
   if (own.empty()) return;
   JoinedTimes joined = write(Rows(own, 0), whole.least_piece, !events.empty());

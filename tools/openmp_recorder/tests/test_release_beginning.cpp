@@ -193,6 +193,20 @@ std::string why_refused(Program &made) {
 }
 }  // namespace
 
+// As a damaged log may tell it.
+TEST(chunks_of_a_part_that_stands_nowhere_are_left_out) {
+  Program made(2);
+  close_region(made, 1, 1);
+  made.sync(1, 2, ompt_sync_region_barrier_explicit);
+  loop(made, 1, 5, {{1, 300}, {1, 400}});
+  made.barrier(1, 2);
+  begin_region(made, 2, 20);
+  close_region(made.after(7), 2, 20);
+  begin_region(made, 3, 30);
+  EXPECT(made.released().whole->before->chunks.back(), 2u);
+  EXPECT(made.text().find("turns") == std::string::npos, true);
+}
+
 TEST(a_task_that_makes_another_after_its_region_is_damage) {
   Program made(2);
   made.create(0, 1, 50).run(1, 2, 50, 5);
