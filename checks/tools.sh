@@ -40,12 +40,14 @@ install_packages() { # without a word where all are there, and none where they c
 }
 
 # one SECONDS NAME WORD..: runs the words and reports what came of it, with the end of what they printed where they
-# failed; the status is 0 where they passed. Their last line may say that they were skipped. The seconds end what hangs:
-# a busy machine takes ten times as long as a quiet one.
+# failed. Their last line may say that they were skipped, and lines `again WHAT` which part had a second try. The seconds
+# end what hangs: a busy machine takes ten times as long as a quiet one.
 one() {
     local name=$2 began=$SECONDS status=0 printed last
     printed=$(timeout "$1" "${@:3}" 2>&1) || status=$?
     last=${printed##*$'\n'}
+    second_tries=$((second_tries + $(grep -c '^again ' <<< "$printed")))
+    grep '^again ' <<< "$printed"
     if [ "$status" -eq 0 ] && [[ $last != 'skipped: '* ]]; then
         printf 'ok      %s, %s s\n' "$name" $((SECONDS - began))
         passed=$((passed + 1))
@@ -56,17 +58,7 @@ one() {
         printf '%s\n' "$printed" | tail -n 30
         printf 'FAILED  %s (status %s), %s s\n' "$name" "$status" $((SECONDS - began))
         failed=$((failed + 1))
-        return 1
     fi
-}
-
-# timed SECONDS NAME WORD..: the same of a check of runs of real programs, which differ: it gets a second try where it
-# failed, and that is counted.
-timed() {
-    one "$@" && return
-    printf 'again   %s\n' "$2"
-    failed=$((failed - 1)) second_tries=$((second_tries + 1))
-    one "$@"
 }
 
 install_packages
@@ -77,22 +69,22 @@ one 600 documents.py checks/agree/documents.py
 one 900 one_command.py checks/programs/one_command.py
 one 300 exclusion.py checks/agree/exclusion.py
 one 600 reference.py checks/agree/reference.py
-timed 1800 openmp_cases.sh checks/recorders/openmp_cases.sh
-timed 900 record.sh checks/recorders/record.sh
-timed 900 recorded_accounts.sh checks/recorders/recorded_accounts.sh
+one 1800 openmp_cases.sh checks/recorders/openmp_cases.sh
+one 900 record.sh checks/recorders/record.sh
+one 900 recorded_accounts.sh checks/recorders/recorded_accounts.sh
 one 900 killed_runs.sh checks/recorders/killed_runs.sh
-timed 1200 demo.sh checks/programs/demo.sh
+one 1200 demo.sh checks/programs/demo.sh
 one 600 not_verified.sh checks/programs/not_verified.sh
 one 600 release.sh checks/programs/release.sh
-timed 1800 'true_words.sh counted' checks/recorders/true_words.sh counted
+one 1800 'true_words.sh counted' checks/recorders/true_words.sh counted
 one 900 predictions.sh checks/programs/predictions.sh
-timed 900 'page.sh kept' checks/programs/page.sh kept
-timed 900 'conformance.sh short' checks/programs/conformance.sh short
+one 900 'page.sh kept' checks/programs/page.sh kept
+one 900 'conformance.sh short' checks/programs/conformance.sh short
 one 600 'whatif.sh kept' checks/programs/whatif.sh kept
-timed 900 openmp.sh checks/recorders/openmp.sh
+one 900 openmp.sh checks/recorders/openmp.sh
 one 900 'causes.sh kept' checks/programs/causes.sh kept
 one 2400 library.sh checks/agree/library.sh
 one 2400 'library.sh of the reference' env LIBRARY=reference checks/agree/library.sh
-timed 900 'openmp_regions.sh 20' checks/recorders/openmp_regions.sh 20
+one 900 'openmp_regions.sh 20' checks/recorders/openmp_regions.sh 20
 echo "$passed passed, $failed failed, $skipped skipped, $second_tries second tries"
 [ "$failed" -eq 0 ]

@@ -100,8 +100,12 @@ def faults(rewrite, text, rewritten):
 
 
 def recorded_faults(rewrite, folder):
-    """Once more where it differs: what other programs make it cost does not always show in the work."""
+    """Once more where it differs, since measured times are compared: what other programs make it cost does not always
+    show in the work."""
+    found = []
     for _ in range(TRIES):
+        if found:
+            print("again %s: %s" % (rewrite.name, "; ".join(found)))
         found = faults(rewrite, *recorded(folder, rewrite.name, rewrite.rewritten))
         if not found:
             return []

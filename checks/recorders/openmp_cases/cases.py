@@ -27,7 +27,7 @@ SPANPROF_LARGE = os.environ.get("SPANPROF_LARGE", os.path.join(TOP, "crates/span
 JUDGES = {".timed": [SPANPROF_LARGE, "account"]}
 SPAN = [SPANPROF_LARGE] if os.access(SPANPROF_LARGE, os.X_OK) else [SPANPROF, "span"]
 SECONDS = 120  # for one run
-TRIES, OF_MEASURED = 2, 3
+OF_MEASURED = 3  # tries, where a case compares measured times
 TRIED = "19,16"
 GNU = None  # in the place of a version of LLVM: gcc's runtime
 
@@ -118,9 +118,11 @@ def faults_of(wanted, program, folder, version):
 
 
 def faults_of_all_tries(wanted, program, folder, version):
-    """What is wrong with the last try, and nothing where one was right; of measured times there are several."""
-    faults = []
-    for number in range(OF_MEASURED if wanted["measured"] else TRIES):
+    """What is wrong with the last try, and nothing where one was right. Only measured times have more than one."""
+    tries, faults = OF_MEASURED if wanted["measured"] else 1, []
+    for number in range(tries):
+        if faults:
+            print("again %s: %s" % (os.path.basename(program), "; ".join(faults)), flush=True)
         ours = os.path.join(folder, str(number))
         os.mkdir(ours)
         faults = faults_of(wanted, program, ours, version)

@@ -35,6 +35,10 @@ class Draw:
         """On gcc's runtime; the others of gcc run on LLVM's."""
         return self.is_of_gcc() and self.seed % 2 == 0
 
+    def is_preloaded(self):
+        """Whether the recorder stands in front of the system's functions too, and takes samples."""
+        return self.is_on_gcc() or self.seed % 2 == 1
+
 
 class Hand:
     """Draws statements of one program."""

@@ -3,15 +3,16 @@
 
     regions.py [COUNT] [--from SEED] [--with FEATURE,..] [--keep FOLDER]
 
-COUNT programs are drawn from the seeds from SEED on, compiled, run with the recorder and judged by spanprof. A
-program that fails is made smaller and kept in FOLDER with what is wrong. The times of its regions and of the whole
-program have to be legal too, where spanprof_large is there. SPANPROF names the program
-(crates/spanprof/out/spanprof), SPANPROF_LARGE that one, RECORDER the recorder's library, LLVM its version. Status 1:
-something was wrong.
+COUNT programs are drawn from the seeds from SEED on, compiled, run with the recorder and judged by spanprof. Of a
+program that fails the source, the log and the texts are kept: in FOLDER, with a smaller program that fails too, or
+else in a new folder, whose name is printed. The times of its regions and of the whole program have to be legal too,
+where spanprof_large is there. SPANPROF names the program (crates/spanprof/out/spanprof), SPANPROF_LARGE that one,
+RECORDER the recorder's library, LLVM its version. Status 1: something was wrong.
 """
 import argparse
 import os
 import shlex
+import shutil
 import sys
 import tempfile
 from collections import Counter
@@ -26,6 +27,7 @@ from write_c import write_c
 
 TOP = os.path.dirname(os.path.dirname(os.path.dirname(os.path.dirname(os.path.abspath(__file__)))))
 SHRINKING_TRIES = 150
+FAULTS = ("wrong", "refused")  # of the recorder: these verdicts fail the check
 
 
 def words():
@@ -50,12 +52,16 @@ def find_tools():
         shlex.split(os.environ.get("SPANPROF", top_program)), toolchain.newest(os.environ.get("LLVM", "")))
 
 
-def judge_drawn(tools, drawn, runs=1):
+def judge_drawn(tools, drawn, runs=1, kept=None):
+    """The verdict on a program; what a failing run left is copied to the folder `kept`."""
     with tempfile.TemporaryDirectory() as folder:
         try:
-            return judge(tools, drawn, folder, runs)
+            verdict = judge(tools, drawn, folder, runs)
         except toolchain.Refused as refused:
             return "compiler", "%s: %s" % (drawn.compiler, refused)
+        if kept and verdict[0] in FAULTS:
+            shutil.copytree(folder, kept, dirs_exist_ok=True)
+        return verdict
 
 
 def smallest(tools, drawn, verdict):
@@ -65,19 +71,20 @@ def smallest(tools, drawn, verdict):
     return replace(drawn, statements=shrink(drawn.statements, still_fails, SHRINKING_TRIES))
 
 
-def keep(folder, drawn, told):
-    os.makedirs(folder, exist_ok=True)
-    path = os.path.join(folder, "seed_%d.c" % drawn.seed)
-    with open(path, "w", encoding="utf-8") as file:
-        file.write("// %s\n" % told.replace("\n", " ") + write_c(drawn.statements))
-    return path
+def kept_folder(folder, drawn):
+    return os.path.join(folder, "seed_%d" % drawn.seed)
 
 
-def report(tools, chosen, drawn, verdict, told):
+def report(tools, drawn, verdict, told, folder, has_to_shrink):
     print("seed %d %s: %s" % (drawn.seed, verdict, told), flush=True)
-    if chosen.keep and verdict in ("wrong", "refused"):
-        small = drawn if chosen.no_shrinking else smallest(tools, drawn, verdict)
-        print("  kept as " + keep(chosen.keep, small, told), flush=True)
+    if verdict not in FAULTS:
+        return
+    kept = kept_folder(folder, drawn)
+    print("  kept in " + kept, flush=True)
+    if has_to_shrink:
+        small = smallest(tools, drawn, verdict)
+        with open(os.path.join(kept, "smaller.c"), "w", encoding="utf-8") as file:
+            file.write("// %s\n" % told.replace("\n", " ") + write_c(small.statements))
 
 
 def main():
@@ -86,17 +93,19 @@ def main():
     always = [word for word in chosen.always.split(",") if word]
     seeds = range(chosen.first, chosen.first + chosen.count)
     counts = Counter()
+    folder = chosen.keep or os.path.join(tempfile.gettempdir(), "openmp_regions.%d" % os.getpid())
     with ThreadPoolExecutor(chosen.jobs) as pool:
         drawn = [draw(seed, always) for seed in seeds]
-        for i, (one, (verdict, told)) in enumerate(zip(drawn, pool.map(lambda d: judge_drawn(tools, d), drawn))):
+        judged = pool.map(lambda one: judge_drawn(tools, one, 1, kept_folder(folder, one)), drawn)
+        for i, (one, (verdict, told)) in enumerate(zip(drawn, judged)):
             counts[verdict] += 1
             if verdict != "right":
-                report(tools, chosen, one, verdict, told)
+                report(tools, one, verdict, told, folder, chosen.keep and not chosen.no_shrinking)
             if sys.stdout.isatty():
                 print("\r%d of %d" % (i + 1, chosen.count), end="", flush=True)
     print("%d random programs: %d wrong, %d refused by spanprof, %d that the runtime fails on, %d not compiled" % (
         chosen.count, counts["wrong"], counts["refused"], counts["runtime"], counts["compiler"]))
-    return 1 if counts["wrong"] or counts["refused"] or counts["right"] == 0 else 0
+    return 1 if any(counts[fault] for fault in FAULTS) or counts["right"] == 0 else 0
 
 
 if __name__ == "__main__":

@@ -68,9 +68,12 @@ def environment(tools, drawn, threads, folder, is_recorded):
                OMP_WAIT_POLICY="passive", KMP_TASKLOOP_MIN_TASKS="100000")
     if is_recorded:
         out.update(SPANPROF_OUT=os.path.join(folder, "out"), SPANPROF_CLOCK=drawn.clock)
-        out["LD_PRELOAD" if drawn.is_on_gcc() else "OMP_TOOL_LIBRARIES"] = tools.recorder
-    if drawn.is_of_gcc() and not drawn.is_on_gcc():
-        out["LD_PRELOAD"] = tools.llvm.runtime
+        out["OMP_TOOL_LIBRARIES"] = tools.recorder
+    preloaded = [tools.llvm.runtime] if drawn.is_of_gcc() and not drawn.is_on_gcc() else []
+    if is_recorded and drawn.is_preloaded():
+        preloaded.append(tools.recorder)
+    if preloaded:
+        out["LD_PRELOAD"] = ":".join(preloaded)
     return out
 
 
@@ -83,8 +86,8 @@ def read_texts(folder):
 
 
 def run(tools, drawn, threads, program, folder, is_recorded=True):
-    """Runs the program once; earlier recordings of the folder are removed."""
-    for path in glob.glob(os.path.join(folder, "out*")):
+    """Runs the program once; where it is recorded, earlier recordings of the folder are removed."""
+    for path in glob.glob(os.path.join(folder, "out*")) if is_recorded else ():
         shutil.rmtree(path) if os.path.isdir(path) else os.remove(path)
     try:
         done = subprocess.run([program, str(threads)], capture_output=True, text=True, timeout=SECONDS,

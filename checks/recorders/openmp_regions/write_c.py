@@ -20,15 +20,31 @@ static long long nanoseconds(clockid_t clock) {
     return t.tv_sec * 1000000000LL + t.tv_nsec;
 }
 
+// The processor's clock goes on while the recorder takes a sample, which is no cost of the program: so no step from one
+// reading to the next counts for more than the shortest one.
+static long long shortest = 1000;
+
+static void find_shortest(void) {
+    long long last = nanoseconds(CLOCK_THREAD_CPUTIME_ID), now;
+    for (int i = 0; i < 1000; i++, last = now) {
+        now = nanoseconds(CLOCK_THREAD_CPUTIME_ID);
+        if (now - last > 0 && now - last < shortest) shortest = now - last;
+    }
+}
+
 static void __attribute__((noinline)) work(int microseconds) {
-    long long end = nanoseconds(CLOCK_THREAD_CPUTIME_ID) + microseconds * 1000LL;
-    while (nanoseconds(CLOCK_THREAD_CPUTIME_ID) < end) {}
+    long long last = nanoseconds(CLOCK_THREAD_CPUTIME_ID), spent = 0, now;
+    for (; spent < microseconds * 1000LL; last = now) {
+        now = nanoseconds(CLOCK_THREAD_CPUTIME_ID);
+        spent += now - last < shortest ? now - last : shortest;
+    }
     __atomic_fetch_add(&works_done, 1, __ATOMIC_RELAXED);
 }
 
 int main(int argc, char **argv) {
     int threads = argc > 1 ? atoi(argv[1]) : 2;
     (void)location, (void)sum, (void)mark;
+    find_shortest();
 """ % LOCATIONS
 
 TAIL = """\

@@ -2,8 +2,8 @@
 """Records programs that are slow for a known cause, by each clock, and holds the account of each run against it.
 
     judge.py CAUSES [shares]       the program of checks/recorders/recorded_accounts/causes.c
-`shares` judges on a quiet machine which cause is the largest. Then each is recorded again, three times at most, where
-its account is not as it has to be. The status is 0 where none is wrong.
+`shares` judges on a quiet machine which cause is the largest. Measured times are compared then, so each is recorded
+again, three times at most, where its account is not as it has to be. The status is 0 where none is wrong.
 """
 import json
 import os
@@ -36,7 +36,10 @@ def in_words(account):
 
 
 def judge(program, name, clock, folder, is_quiet):
+    wrong = []
     for _ in range(TRIES if is_quiet else 1):
+        if wrong:
+            print("again %s %s: %s" % (name, clock, "; ".join(wrong)), flush=True)
         told = recorded(program, name, clock, folder)
         wrong = faults(name, told, is_quiet)
         if not wrong:

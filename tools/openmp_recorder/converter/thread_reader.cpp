@@ -193,6 +193,8 @@ bool ThreadReader::take() {
     case RecordKind::Items: return false;
     case RecordKind::StoodStill:
       log.stood_still += by_processor ? static_cast<int64_t>(raw.wide()) : time.nanoseconds(raw.wide());
+      slow_until = raw.record.at;
+      slow_since = slow_until - std::min(slow_until, raw.wide());
       return false;
     case RecordKind::Passed: leave_out(passed()); return true;
     case RecordKind::LockGot: get_lock(); return raw.detail() == order_of_turns;
@@ -242,10 +244,18 @@ const Record &ThreadReader::tell() {
   return record;
 }
 
+// Whether that time is no code's anyway: the recorder's own, or of the wait for the lock of the record that comes next.
+bool ThreadReader::is_left_out(uint64_t tick) const {
+  if (slow_since <= tick && tick <= slow_until) return true;
+  uint64_t before = raw.record.at - tick;
+  return raw.record_kind() == RecordKind::LockGot && tick <= raw.record.at &&
+         static_cast<double>(before) <= log_form::ticks_waited(raw.record.other);
+}
+
 // Those from before the thread's first record come after it, which tells what ran then.
 const Record &ThreadReader::tell_sample() {
   const Sample &one = samples[sampled++];
-  log.stood_still += by_processor || record.kind == 0 ? 0 : one.took;
+  log.stood_still += by_processor || record.kind == 0 || is_left_out(one.order) ? 0 : one.took;
   record.order = std::max(record.order, one.order);
   record.wall = std::max(record.wall, time.wall(record.order));
   record.stood_still = 0;

@@ -62,8 +62,10 @@ class ThreadReader : public Records {
   Record record{};
   std::vector<Sample> samples;
   size_t sampled = 0;  // of these told
+  uint64_t slow_since = 0, slow_until = 0;  // ticks: the last time that the recorder took longer than a record
   bool is_read = false;  // `raw`, and it is not told yet
 
+  bool is_left_out(uint64_t tick) const;
   const Record &tell_sample();
   bool fill();
   bool read();

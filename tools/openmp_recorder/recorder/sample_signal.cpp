@@ -5,6 +5,7 @@
 #include <atomic>
 #include <cstring>
 
+#include "callers.hpp"
 #include "systems.hpp"
 
 namespace {
@@ -45,14 +46,15 @@ bool is_asked() {
   return getenv("SPANPROF_OUT") && !is("SPANPROF_SAMPLES", "0") && !is("SPANPROF_RECORD", "0");
 }
 
-// A library that a runtime opens later is not in front of libc: it would never see the program claim the signal.
-bool stands_before_the_system() { return dlsym(RTLD_DEFAULT, "sigaction") == reinterpret_cast<void *>(sigaction); }
+// A library that a runtime opens later is not in front of libc: it would never see the program claim the signal. Its
+// own code may not name `sigaction` to find that out, since there the name means libc's too.
+bool stands_before_the_system() { return recorder_code.has(dlsym(RTLD_DEFAULT, "sigaction")); }
 }  // namespace
 
 // 0 before the signal is taken and once it is given up; read in handlers too.
 int sample_signal() { return taken.load(std::memory_order_relaxed); }
 
-// While the library is loaded, before the program can start a thread or block signals.
+// While the library is loaded, before the program can start a thread or block signals, and after `find_recorder`.
 bool take_sample_signal(OnSignal handler) {
   if (!is_asked() || !stands_before_the_system()) return false;
   for (int number = SIGRTMAX - 1; number > SIGRTMIN; number--) {

@@ -184,9 +184,9 @@ RawSample &Samples::sample_here(const ucontext_t &context) {
 
 // The time is written last: where it is 0 there is no sample.
 // The window behind is zero, as the kernel or `keep_half` left it: so the sample's end needs no mark.
-void Samples::publish(RawSample &sample, int64_t began) {
-  sample.wall = began;
-  sample.took = static_cast<uint16_t>(std::min<int64_t>(wall_time() - began, UINT16_MAX));
+void Samples::publish(RawSample &sample, const Began &began) {
+  sample.wall = began.wall;
+  sample.took = static_cast<uint16_t>(std::min<int64_t>(Began::own_time() - began.own, UINT16_MAX));
   used += sample.bytes();
   __atomic_store_n(&sample.at, read_time_stamp(After::Itself), __ATOMIC_RELEASE);
 }
@@ -196,7 +196,7 @@ void Samples::take(const siginfo_t &signal, const ucontext_t &context) {
   // Nothing may touch the window before.
   if (!is_to_write(signal)) return;
   Busy busy(*this);
-  int64_t began = wall_time();
+  Began began;
   if (!make_room()) return;
   RawSample &sample = sample_here(context);
   sample.slept = 0;
@@ -213,7 +213,7 @@ void Samples::put_wait(const void *function, int64_t nanoseconds) {
   if (!may_write()) return;
   KeepErrno kept;
   Busy busy(*this);
-  int64_t began = wall_time();
+  Began began;
   ucontext_t context;
   if (getcontext(&context) || !make_room()) return;
   RawSample &sample = sample_here(context);
@@ -264,9 +264,9 @@ void on_signal(int, siginfo_t *signal, void *context) {
 // What the program does before it meets OpenMP is sampled too, of its first thread.
 __attribute__((constructor)) void library_is_loaded() {
   // Preloaded, this runs before the program's own code; opened later, `take_sample_signal` refuses.
-  // The code range must be known before the first sample, so that waits in the recorder's own functions are left out.
-  if (!frames::are_known() || !take_sample_signal(on_signal)) return;
+  // By the range of its code it is seen that it is preloaded, and waits in its own functions are left out of samples.
   find_recorder();
+  if (!frames::are_known() || !take_sample_signal(on_signal)) return;
   pthread_atfork(nullptr, nullptr, forget_samples);
   if (is_first_thread()) new_samples()->begin_thread();
 }

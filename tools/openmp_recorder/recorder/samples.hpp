@@ -57,12 +57,19 @@ class Samples {
   frames::Stack stack{};
   uint64_t lowest = 0;  // of the thread's stack
 
+  // What other programs took of the processor since then is no work of the recorder: costs leave it out, or count it,
+  // by themselves. By the processor's clock costs have no use for it, and its readings would be the program's.
+  struct Began {
+    static int64_t own_time() { return costs_by_processor ? wall_time() : processor_time(); }
+    int64_t wall = wall_time(), own = own_time();
+  };
+
   bool make_room();
   void keep_half();
   bool is_to_write(const siginfo_t &signal);
   bool may_write() const { return !is_busy && !is_closed && window && !is_stopped(); }
   log_form::RawSample &sample_here(const ucontext_t &context);
-  void publish(log_form::RawSample &sample, int64_t began);
+  void publish(log_form::RawSample &sample, const Began &began);
 };
 
 class ThreadLog;

@@ -68,6 +68,15 @@ class MadeLog {
     return out;
   }
   void paths(const std::string &lines) { write(log_form::paths_file, lines.data(), lines.size()); }
+  void samples(const std::vector<int64_t> &at, uint16_t took) {  // of one call each
+    std::string bytes;
+    for (int64_t time : at) {
+      log_form::RawSample raw{1, time, 4000, took, 1, 0};
+      bytes.append(reinterpret_cast<const char *>(&raw), sizeof raw);
+      bytes.resize(bytes.size() + raw.bytes() - sizeof raw, 1);
+    }
+    write("/samples.0", bytes.data(), bytes.size());
+  }
   Head head{};
   std::string folder;
 
@@ -258,6 +267,21 @@ TEST(time_in_the_recorder_and_for_locks_is_not_the_threads) {
   EXPECT(use.waiting, 20);
   EXPECT(use.inside, 5);
   EXPECT(use.times, 1u);
+}
+
+TEST(a_sample_in_time_that_is_left_out_counts_no_more) {
+  MadeLog log;
+  log.samples({25, 45, 70, 95}, 3);
+  log.last({raw(10, RecordKind::Schedule, 1, 2), raw(40, RecordKind::StoodStill, 30),
+            raw(80, RecordKind::LockGot, 7, log_form::wait_of(20), 99, 1), raw(90, RecordKind::LockLeft, 7),
+            raw(100, RecordKind::Schedule, 2, 1)});
+  int64_t samples = 0, stood_still = 0;
+  for (const Record &record : log.records()) {
+    samples += record.record_kind() == RecordKind::Sample;
+    stood_still += record.stood_still;
+  }
+  EXPECT(samples, 4);
+  EXPECT(stood_still, 3 * 5 + 30 + 20 + 2 * 3);  // the samples at 45 and 95 interrupted code
 }
 
 TEST(short_records_of_a_lock_name_the_one_of_their_slot) {

@@ -59,8 +59,10 @@ def notes_on(preload, called, is_asked=False):
 
 
 def loaded_first(chosen, library):
-    """The recorder's library before gcc's runtime, and before the program's own libraries."""
-    return ":".join(filter(None, [library if chosen.in_front else "", chosen.preload]))
+    """The recorder's library stands before gcc's runtime and the system's functions, and behind LLVM's runtime."""
+    if chosen.in_front:
+        return ":".join(filter(None, [library, chosen.preload]))
+    return ":".join([chosen.preload, library]) if chosen.preload else ""
 
 
 def why_nothing(status, said, session):

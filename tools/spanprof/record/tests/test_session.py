@@ -46,7 +46,7 @@ class Reasons(unittest.TestCase):
 
     def test_the_recorder_comes_before_the_runtime(self):
         self.assertEqual(session.loaded_first(Chosen("/libgomp.so", True), "/r.so"), "/r.so:/libgomp.so")
-        self.assertEqual(session.loaded_first(Chosen("/llvm.so"), "/r.so"), "/llvm.so")
+        self.assertEqual(session.loaded_first(Chosen("/llvm.so"), "/r.so"), "/llvm.so:/r.so")
         self.assertEqual(session.loaded_first(Chosen(), "/r.so"), "")
 
     def test_what_llvm_lacks_is_noted(self):
