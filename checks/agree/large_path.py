@@ -26,7 +26,7 @@ from plain_path import Wrong, check_rows, rows_of, sums_by_place  # noqa: E402
 from spanprof.answers import Answers  # noqa: E402
 from spanprof.client import HOW, program, takes_any_size  # noqa: E402
 from spanprof.errors import Fault  # noqa: E402
-from spanprof.path.table import find_path  # noqa: E402
+from spanprof.report.places import places  # noqa: E402
 
 COMMAND = TOP / "tools" / "spanprof-path"
 RUN = """
@@ -56,7 +56,7 @@ def compare(large, file):
     if [answers.work, answers.span] != [graph.work, graph.span]:
         raise Wrong("%s, and by the whole graph work %d and span %d" % (answers.numbers, graph.work, graph.span))
     wanted = sums_by_place(text, costs, chain)
-    found = sorted((one.critical_cost, one.cost, one.critical_segments, one.name) for one in find_path(answers))
+    found = sorted((one.critical_cost, one.cost, one.critical_segments, one.name) for one in places(answers))
     if found != wanted:
         raise Wrong("by place %s, and not %s" % (found, wanted))
 

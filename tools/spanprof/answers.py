@@ -1,8 +1,10 @@
 """A program text of any size with what the proved program answers of it. Each command is run once, when its answer is
 first needed; what it tells of each segment is read as it comes, and kept in columns of numbers."""
 from array import array
+from collections import Counter
 from dataclasses import dataclass
 from functools import cached_property
+from itertools import compress
 from operator import add
 
 from spanprof import client
@@ -142,19 +144,21 @@ class Answers:
         assert len(found[0]) == len(self.code), "the text was read otherwise"
         return Rows(self.code.cost, self.code.task, *found)
 
-    @cached_property
-    def path_and_slacks(self):
-        """The segments on the path that `slack` shows, and of each kind of segments the least slack."""
-        self.note("slack")
-        return client.path_and_slacks(self.file, self.code.of, len(self.code.kinds))
+    def sums(self, names):
+        """By name the row of `places`, where each kind of segments has one of these names."""
+        numbers = {name: number for number, name in enumerate(dict.fromkeys(names))}
+        of_kind = [numbers[name] for name in names]
+        self.noted("spanprof_large places < " + self.name)
+        return dict(zip(numbers, client.places(self.path, map(of_kind.__getitem__, self.code.of))))
 
-    @cached_property
+    def costs(self):
+        """By place."""
+        return Counter({name: work for name, (_, work, *_) in self.sums(self.code.names).items()})
+
+    @property
     def path_segments(self):
-        """Those alone, where slacks are not asked for."""
-        if "path_and_slacks" in vars(self):
-            return self.path_and_slacks[0]
-        self.note("slack")
-        return client.path(self.file)
+        """Those on the path that `slack` shows."""
+        return list(compress(range(len(self.rows)), self.rows.critical))
 
     @cached_property
     def tasks(self):

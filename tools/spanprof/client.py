@@ -9,17 +9,17 @@ import subprocess
 from array import array
 from concurrent.futures import ThreadPoolExecutor
 from contextlib import contextmanager
-from itertools import chain
 
 from spanprof.errors import Fault
 from spanprof.folders import found_at, other_places_of, places_of, words_in
 from spanprof.refusal import explained, of_whole
-from spanprof.text_file import PIECE, TextFile, opened, read_once
+from spanprof.text_file import PIECE, Document, TextFile, opened, read_once
 
 LARGE, SMALL = "spanprof_large", "spanprof"
-MOST = 10 ** 18     # that a slack may be
+SUMS = ("segments", "work", "on_path", "path", "slack")    # of a place
 PLACES = [(name, places(name)) for places in (places_of, other_places_of) for name in (LARGE, SMALL)]
-HOW = "spanprof_large, which measures it, is not found; tools/prove_program.sh spanprof_large proves and builds it"
+NOT_FOUND = "spanprof_large, which %s, is not found; tools/prove_program.sh spanprof_large proves and builds it"
+HOW = NOT_FOUND % "measures it"
 
 
 def takes_any_size():
@@ -131,38 +131,11 @@ def columns(words, text, wanted):
     return out
 
 
-def slack_rows(text):
-    """What `slack` prints, without its head."""
-    told = pieces(["slack"], text)
-    is_table = next(told).endswith(b",slack,chain\n")
-    for piece in told:
-        if not is_table:
-            raise Fault("spanprof slack: rows of another form")
-        yield piece
-
-
-def on_path(piece):
-    """The segments that a piece of these rows has on the path."""
-    ends = piece.split(b",1\n")[:-1]
-    return [int(end[end.rfind(b"\n") + 1:].partition(b",")[0]) for end in ends]
-
-
-def path(text):
-    """The segments on the path that `slack` shows."""
-    return array("I", chain.from_iterable(map(on_path, slack_rows(text))))
-
-
-def path_and_slacks(text, kinds, count):
-    """The same, and the least slack of each of so many kinds of segments; `kinds` has that of each segment."""
-    out, least, of_rest, rows = array("I"), [MOST] * count, iter(kinds), 0
-    for piece in slack_rows(text):
-        out.extend(on_path(piece))
-        rows += piece.count(b"\n")
-        for line, kind in zip(piece.splitlines(), of_rest):
-            if least[kind]:
-                least[kind] = min(least[kind], int(line.rsplit(b",", 2)[1]))
-    assert rows == len(kinds), "the text was read otherwise"
-    return out, least
+def places(path, numbers):
+    """Of the text in a file, of which each segment stands at the place of its number, the rows of `places`."""
+    if not takes_any_size():
+        raise Fault(NOT_FOUND % "adds up by place")
+    return zip(*columns(["places"], Document(path, " ".join(map(str, numbers))), SUMS))
 
 
 def named_numbers(lines):

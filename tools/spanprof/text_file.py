@@ -1,6 +1,7 @@
 """A text in a file, which a program reads there: of any size, and never whole in memory."""
 import os
 import re
+import shutil
 import tempfile
 from contextlib import contextmanager
 from functools import lru_cache, wraps
@@ -59,6 +60,22 @@ class TextFile:
         else:
             with open(self.path, "rb") as file:
                 yield file
+
+
+class Document(TextFile):
+    """The text in a file, and behind the divider what is said of it."""
+
+    def __init__(self, path, rest):
+        super().__init__(path)
+        self.rest = rest
+
+    @contextmanager
+    def opened(self):
+        with super().opened() as text, tempfile.TemporaryFile() as file:
+            shutil.copyfileobj(text, file, PIECE)
+            file.write(("\n%s\n%s\n" % (DIVIDER, self.rest)).encode())
+            file.seek(0)
+            yield file
 
 
 def read_once(read):

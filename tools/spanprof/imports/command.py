@@ -10,9 +10,9 @@ from spanprof.errors import Fault
 from spanprof.head import counted
 from spanprof.imports.folder import write
 from spanprof.imports.formats import FORMATS, format_of, read
-from spanprof.path.table import find_path
 from spanprof.program_text import where
 from spanprof.recording import ENDING, TEXT, given_text
+from spanprof.report.places import places
 from spanprof.text_file import TextFile
 from spanprof.version import Version
 from spanprof.whatif.numbers import numbers_of
@@ -67,7 +67,7 @@ def curve_line(answers):
 
 def path_line(answers):
     """The places with most of the span."""
-    found = sorted((place for place in find_path(answers) if place.critical_cost), key=lambda one: -one.critical_cost)
+    found = [place for place in places(answers) if place.critical_cost]
     shown = ["%s (%s)" % (shortened(where(one.name) or one.name, LONGEST_NAME),
                           lasting(one.critical_cost * answers.head.nanoseconds)) for one in found[:MOST_PLACES]]
     more = ["%d more" % (len(found) - MOST_PLACES)] * (len(found) > MOST_PLACES)

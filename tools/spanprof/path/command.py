@@ -5,18 +5,17 @@ import sys
 from spanprof.answers import Answers
 from spanprof.command import Console, check_files, end_with
 from spanprof.head import head_text, said
-from spanprof.path.table import find_path, lines, write_csv
+from spanprof.path.table import lines, write_csv
 from spanprof.proof import proved
 from spanprof.recording import text_of
+from spanprof.report.places import places
 from spanprof.version import Version
 
 CONSOLE = Console("spanprof-path")
 DESCRIPTION = """Lists the places in the source with their shares of the span (the critical path that `slack` prints)
 and of the work."""
-AFTER = """Exit status 1: the text is refused, out of memory, or the places do not add up to its work and span; 2: wrong
-arguments."""
-VERDICT = "proved of this text: its work, span and this critical path (spanprof_large slack); " \
-    "of the sums by place nothing"
+AFTER = "Exit status 1: the text is refused, out of memory, or spanprof_large is not found; 2: wrong arguments."
+VERDICT = "proved of this text: its work, span, this critical path and the sums by place (spanprof_large places)"
 
 
 def parse(words):
@@ -45,7 +44,7 @@ def answer(options):
     options.text = text_of(options.text)
     check_files(options.text)
     answers = Answers(options.text)
-    show(options, answers.span_numbers, find_path(answers))
+    show(options, answers.span_numbers, places(answers))
 
 
 def main(words):

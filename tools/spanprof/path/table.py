@@ -1,24 +1,11 @@
 """The table of places: what of the span and of the work each is."""
 import csv
 
-from spanprof.errors import Fault
-from spanprof.report.places import Place, places
+from spanprof.report.places import Place
 
 MOST_ROWS = 100
 HEADS = "%8s %8s %9s  %s" % ("of span", "of work", "segments", "place")
 COLUMNS = (("span", "critical_cost"), ("work", "cost"), ("segments", "critical_segments"), ("place", "name"))
-
-
-def find_path(answers):
-    """The places by their part of the span, then of the work; a fault where they do not add up to what is told of the
-    text."""
-    found = places(answers)
-    sums = [(name, sum(getattr(place, own) for place in found), answers.span_numbers[name])
-            for name, own in COLUMNS[:2]]
-    faults = ["the places' %s is %d, and the text's %d" % one for one in sums if one[1] != one[2]]
-    if faults:
-        raise Fault("; ".join(faults))
-    return found
 
 
 def share(part, whole):

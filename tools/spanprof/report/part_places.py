@@ -1,7 +1,8 @@
 """One table of places: work, part of the critical path, slack, the idle time that they cause, and tasks."""
+from statistics import median_low
+
 from spanprof.report.figures import MEASURED, PROVED, badges, percent
 from spanprof.report.markup import join, note, section, tag
-from spanprof.report.places import ROOTS
 from spanprof.report.tables import bar, place_cell, table
 
 MOST_PLACES = 40
@@ -25,23 +26,22 @@ def idle_cells(view, place):
 
 def task_cells(view, place):
     """Of the place where tasks begin: how many, and what the median one costs with all its segments."""
-    code, first = view.answers.code, place.first
-    made = view.task_places[view.task_place_of[code.task[first]]]
-    if code[first].after or made.name in ROOTS:
+    kind, made = view.answers.code.kinds[place.kinds[0]], view.task_place_at(place)
+    if kind.after or kind.is_root:
         return ["", ""]
     named = "task-place %d " % made.number
     return [view.figures.number(len(made.tasks), named + "count", view.shape_kind),
-            view.figures.time(made.median, named + "median", view.cost_kind)]
+            view.figures.time(median_low(map(view.task_costs.__getitem__, made.tasks)), named + "median",
+                              view.cost_kind)]
 
 
 def row(view, place):
     answers, show, kind, named = view.answers, view.figures, view.cost_kind, "place %d " % place.number
-    slack = min(view.slacks[kind] for kind in place.kinds)
-    return [place_cell(place.name, view.line_at(place.name), view.colour_at(place)),
+    return [place_cell(place.name, view.line_at(place.name), view.colour_of(view.task_place_at(place))),
             show.time(place.cost, named + "cost", kind),
             share_cell(show, place.cost, answers.work, named + "cost / span work", kind),
             share_cell(show, place.critical_cost, answers.span, named + "path / span span", kind),
-            show.time(slack, named + "slack", PROVED), *idle_cells(view, place), *task_cells(view, place)]
+            show.time(place.slack, named + "slack", PROVED), *idle_cells(view, place), *task_cells(view, place)]
 
 
 def places_part(view):
@@ -49,7 +49,7 @@ def places_part(view):
     shown = [place for place in view.places if place.cost][:MOST_PLACES] or view.places[:1]
     rows, left_out = [row(view, place) for place in shown], len(view.places) - len(shown)
     columns = [i for i in range(len(HEADS)) if any(cells[i] for cells in rows)]
-    count = view.figures.number(len(view.answers.path_segments), "path segments", PROVED)
+    count = view.figures.number(sum(place.critical_segments for place in view.places), "path segments", PROVED)
     more = ["Left out: ", tag("span", left_out, class_="given"), " with little or no work."] * bool(left_out)
     return section("places", "Critical path and tasks by place", note(
         "A segment's place is where it begins. ", count, " segments are on the critical path: with enough threads, "

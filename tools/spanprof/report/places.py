@@ -1,28 +1,32 @@
 """Sums over the segments, or over the tasks, that stand at one place in the source."""
 from array import array
-from collections import Counter
 from dataclasses import dataclass, field
-from statistics import median_low
 from typing import Sequence
 
 ROOTS = ("the root", "serial code")     # as the first task is named; in the whole program it runs all serial code
 
 
-def numbers():
-    """Of tasks, or costs."""
-    return field(default_factory=lambda: array("q"))
-
-
 @dataclass
 class Place:
-    """The segments at one place: after a construct, or at the beginning of a task."""
+    """The segments at one place, which follow a construct, or begin a task; or those of all tasks of a place. The sums
+    are those of `places`."""
     name: str
-    number: int = 0
-    first: int = 0      # of its segments
-    kinds: Sequence[int] = field(default_factory=list)  # of its segments
+    segments: int = 0
     cost: int = 0
-    critical_cost: int = 0
     critical_segments: int = 0
+    critical_cost: int = 0
+    slack: int = 0
+    number: int = 0
+    kinds: Sequence[int] = field(default_factory=list)  # of its segments
+    tasks: Sequence[int] = field(default_factory=lambda: array("I"))
+
+
+def by_name(answers, names):
+    """Of each kind of segments one of these names."""
+    found = {name: Place(name, *sums) for name, sums in answers.sums(names).items()}
+    for kind, name in enumerate(names):
+        found[name].kinds.append(kind)
+    return found
 
 
 def numbered(places, order):
@@ -35,56 +39,16 @@ def numbered(places, order):
 
 def places(answers):
     """By their part of the span, then of the work."""
-    code, found = answers.code, {}
-    costs = [0] * len(code.names)
-    for kind, cost in zip(code.of, code.cost):
-        costs[kind] += cost
-    critical, critical_costs = Counter(), Counter()
-    for s in answers.path_segments:
-        critical[code.of[s]] += 1
-        critical_costs[code.of[s]] += code.cost[s]
-    for kind, name in enumerate(code.names):
-        place = found.setdefault(name, Place(name, first=code.of.index(kind)))
-        place.kinds.append(kind)
-        place.cost += costs[kind]
-        place.critical_cost += critical_costs[kind]
-        place.critical_segments += critical[kind]
-    return numbered(found.values(), lambda place: (-place.critical_cost, -place.cost, place.name))
-
-
-@dataclass
-class TaskPlace:
-    """The tasks that one construct has created; the root is one of its own."""
-    name: str
-    number: int = 0
-    tasks: Sequence[int] = numbers()
-    costs: Sequence[int] = numbers()    # of each task all its segments
-    critical_cost: int = 0
-
-    @property
-    def cost(self):
-        return sum(self.costs)
-
-    @property
-    def median(self):
-        return median_low(self.costs)
+    found = by_name(answers, answers.code.names).values()
+    return numbered(found, lambda place: (-place.critical_cost, -place.cost, place.name))
 
 
 def task_places(answers):
-    """By the cost of all their tasks."""
-    code, root, found = answers.code, ROOTS[bool(answers.head.whole)], {}
-    cost, critical_cost = ([0] * (answers.tasks + 1) for _ in range(2))
-    for task, segment_cost in zip(code.task, code.cost):
-        cost[task] += segment_cost
-    for s in answers.path_segments:
-        critical_cost[code.task[s]] += code.cost[s]
-    kinds, add = array("I", map(code.of.__getitem__, code.firsts())), {}    # of their first segments
-    for kind in dict.fromkeys(kinds):
-        name = code.kinds[kind].task_place or (root if code.kinds[kind].is_root else "a task")
-        add[kind] = found.setdefault(name, TaskPlace(name)).tasks.append
-    for number, kind in enumerate(kinds):
-        add[kind](number)
-    for place in found.values():
-        place.costs.extend(map(cost.__getitem__, place.tasks))
-        place.critical_cost = sum(map(critical_cost.__getitem__, place.tasks))
+    """The tasks that one construct has created, by their cost; the root is one of its own."""
+    code, root = answers.code, ROOTS[bool(answers.head.whole)]
+    names = [kind.task_place or (root if kind.is_root else "a task") for kind in code.kinds]
+    found = by_name(answers, names)
+    add = [found[name].tasks.append for name in names]
+    for number, segment in enumerate(code.firsts()):
+        add[code.of[segment]](number)
     return numbered(found.values(), lambda place: (-place.cost, place.name))

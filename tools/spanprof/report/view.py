@@ -43,7 +43,6 @@ class View:
         self.figures = Figures(prefix, self.units)
         here = [os.path.dirname(os.path.abspath(folder_of(path) or path)), os.getcwd()]
         self.sources = Sources(source or here)
-        _, self.slacks = self.answers.path_and_slacks   # before the places: these take the same path
         self.task_places, self.places = task_places(self.answers), places(self.answers)
         self.run = None
         if not self.is_long and self.account and self.account.rows:
@@ -77,9 +76,9 @@ class View:
         """The number of a colour: one for each of the first places of tasks, and one for all others."""
         return min(task_place.number, COLOURS - 1)
 
-    def colour_at(self, place):
+    def task_place_at(self, place):
         """That of the tasks of which the segments at a place are."""
-        return min(self.task_place_of[self.answers.code.task[place.first]], COLOURS - 1)
+        return next(one for one in self.task_places if place.kinds[0] in one.kinds)
 
     @cached_property
     def true_times(self):
@@ -134,6 +133,14 @@ class View:
         number, code = {place.name: place.number for place in self.places}, self.answers.code
         of_kind = [number[name] for name in code.names]
         return array("I", map(of_kind.__getitem__, code.of))
+
+    @cached_property
+    def task_costs(self):
+        """Of each task all its segments."""
+        costs = [0] * (self.answers.tasks + 1)
+        for task, cost in zip(self.answers.code.task, self.answers.code.cost):
+            costs[task] += cost
+        return costs
 
     @cached_property
     def task_place_of(self):

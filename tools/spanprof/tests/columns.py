@@ -1,4 +1,6 @@
 """Columns as answers have them, of what tests list one by one."""
+from operator import add
+
 from spanprof.answers import Rows
 from spanprof.segment_table import Code, Kind, read_code
 
@@ -14,6 +16,16 @@ def code_of(segments):
         out.of.append(out.number(Kind(not one.task, one.task_place, one.after, one.after_place)))
         out.task.append(one.task)
         out.cost.append(one.cost)
+    return out
+
+
+def sums_of(code, path, names):
+    """By name what `places` has of the kinds with it, where these segments are on the path."""
+    out = {}
+    for s, (kind, cost) in enumerate(zip(code.of, code.cost)):
+        is_on_path = s in path
+        own = 1, cost, is_on_path, cost * is_on_path, 0
+        out[names[kind]] = tuple(map(add, out.get(names[kind], (0,) * len(own)), own))
     return out
 
 

@@ -6,6 +6,7 @@ import sys
 import tempfile
 
 from spanprof import client
+from spanprof.answers import Answers
 from spanprof.command import Console, check_files, count, end_with
 from spanprof.errors import Fault
 from spanprof.marks import statements
@@ -105,7 +106,7 @@ def answer(chosen):
     client.measured(chosen.text)
     text = Text(chosen.text, version_of(chosen.text))
     if chosen.places:
-        print("\n".join(listing(survey(text.statements()))))
+        print("\n".join(listing(survey(text.statements()), Answers(chosen.text).costs())))
     if chosen.requests:
         with tempfile.TemporaryDirectory(prefix="spanprof-whatif-") as folder:
             before = numbers_of(TextFile(chosen.text), [min(chosen.threads or text.head.threads or 4, 1024)])

@@ -13,8 +13,9 @@ def by_count(title, counted):
     return [title] + ["%14s  %s" % (grouped(number), name) for name, number in names[:MOST_NAMES]] + more
 
 
-def listing(seen):
-    yield from by_count("code, with its cost (--factor, --split, --grain, --task):", seen.costs)
+def listing(seen, costs):
+    """`costs` are those of the code at each place."""
+    yield from by_count("code, with its cost (--factor, --split, --grain, --task):", costs)
     yield from by_count("tasks (--join):", seen.tasks)
     yield from by_count("waits (--drop-wait):", seen.waits)
     yield from by_count("tasks with depend items (--drop-depend):", seen.dependent)

@@ -66,7 +66,7 @@ def change(request, seen, costs):
     option, word = request
     place, number = place_and_number(word) if option in WITH_A_NUMBER else (word, "")
     if option == "factor":
-        return Factor(find(place, seen.costs, "piece of code"), factor_of(number))
+        return Factor(find(place, seen.code, "piece of code"), factor_of(number))
     if option == "drop-wait":
         return DropWait(find_wait(place, seen.waits))
     if option == "drop-depend":
@@ -81,15 +81,15 @@ def change(request, seen, costs):
         return Defer(find(place, +seen.undeferred, "undeferred task"))
     if option == "split":
         parts = whole(number, 2, MOST_TOGETHER)
-        return Split(find(place, seen.costs, "piece of code"), parts, costs.creating, costs.for_parts(parts))
+        return Split(find(place, seen.code, "piece of code"), parts, costs.creating, costs.for_parts(parts))
     if option == "grain":
         most = whole(number, 1, MOST_COST)
-        return Grain(find(place, seen.costs, "piece of code"), most, costs.creating, costs.for_parts(2))
+        return Grain(find(place, seen.code, "piece of code"), most, costs.creating, costs.for_parts(2))
     if option == "join":
         return Join(find(place, seen.tasks, "task"), whole(number, 2, MOST_TOGETHER), costs.creating)
     if option == "cutoff":
         return Cutoff(whole(place, 1, MOST_TOGETHER), costs.creating)
-    return OwnTask(find(place, seen.costs, "piece of code"), costs.creating, costs.for_parts(1))
+    return OwnTask(find(place, seen.code, "piece of code"), costs.creating, costs.for_parts(1))
 
 
 def changes(requests, seen, costs):

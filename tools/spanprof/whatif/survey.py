@@ -4,6 +4,7 @@ Tasks that the program does not make, and the groups of its loops, are none that
 """
 from collections import Counter
 from dataclasses import dataclass, field
+from itertools import compress
 
 from spanprof.program_text import is_programs, is_share, is_shared_out
 from spanprof.whatif.statements import as_statements
@@ -11,8 +12,8 @@ from spanprof.whatif.statements import as_statements
 
 @dataclass
 class Survey:
-    """Counts by name; `costs` are of the code at a place."""
-    costs: Counter = field(default_factory=Counter)
+    """Counts by name."""
+    code: set = field(default_factory=set)      # the names of places with some
     tasks: Counter = field(default_factory=Counter)
     waits: Counter = field(default_factory=Counter)         # taskwaits and taskgroups
     ordered: Counter = field(default_factory=Counter)       # of these, those of tasks that depend items order too
@@ -58,13 +59,12 @@ class Kind:
 
 
 def walk(found, out):
-    """Costs, depth, what stands between creations, and which waits are for tasks with depend items."""
-    kinds, costs, between = [Kind(one) for one in found.known], {}, Counter()
+    """Depth, what stands between creations, and which waits are for tasks with depend items."""
+    kinds, between = [Kind(one) for one in found.known], Counter()
     since = None                # what the code cost since a task's end; None after another thing
     tasks, groups, depth, has_items = [], [], 0, False  # of each open task what was before it; whether one has items
-    for number, at in zip(found.row, found.at):
+    for number in found.row:
         if number >= 0:
-            costs[at] = costs.get(at, 0) + number
             since = None if since is None else since + number
             continue
         kind = kinds[-number]
@@ -84,11 +84,11 @@ def walk(found, out):
             out.ordered[kind.name if kind.is_wait else groups.pop()] += has_items
         since = None
     out.between = between
-    out.costs = Counter({found.places[at]: cost for at, cost in costs.items()})
 
 
 def survey(stream):
-    found, out = as_statements(stream), Survey()
+    found = as_statements(stream)
+    out = Survey({found.places[at] for at in set(compress(found.at, map((-1).__lt__, found.row)))})
     count(found, out)
     walk(found, out)
     return out

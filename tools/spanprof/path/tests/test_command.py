@@ -14,7 +14,7 @@ LARGE = """\
 #!/bin/sh
 case $1,$(cat) in
     span,*"work 1") printf 'tasks 1\\nsegments 3\\nwork 8\\nspan %d\\n' ;;
-    slack,*) printf 'segment,task,cost,start,slack,chain\\n0,0,2,0,0,1\\n1,1,5,2,0,1\\n2,0,1,2,4,0\\n' ;;
+    places,*"work 1"*---*"0 1 2") printf 'place,segments,work,on_path,path,slack\\n0,1,2,1,2,0\\n1,1,5,1,5,0\\n2,1,1,0,0,4\\n' ;;
     *) echo "error: line 1: BadHeader"; exit 1 ;;
 esac
 """
@@ -35,7 +35,7 @@ class Commands(InFolder):
         self.assertEqual(self.told(), (0, """\
 warning: untied, 1 time: span too low
 work 8, span 7, parallelism 1.1, 2 of 3 segments on a critical path
-proved of this text: its work, span and this critical path (spanprof_large slack); of the sums by place nothing
+proved of this text: its work, span, this critical path and the sums by place (spanprof_large places)
  of span  of work  segments  place
    71.4%    62.5%         1  task at a.c:3
    28.6%    25.0%         1  the beginning
@@ -63,13 +63,15 @@ span,work,segments,place
                                ".*: line 1: BadHeader\n$")
 
     def test_no_memory_for_the_rows(self):
-        full = LARGE.replace("slack,*)", "slack,*) echo 'error: out of memory'; exit 3 ;;\nnever)")
+        full = LARGE.replace("places,", "places,*) echo 'error: out of memory'; exit 3 ;;\nnever,")
         status, printed, said = self.told(large=full)
         self.assertEqual((status, printed), (1, ""))
-        self.assertRegex(said, "^spanprof-path: spanprof slack: error: out of memory: use more memory .*\n$")
+        self.assertRegex(said, "^spanprof-path: spanprof places: error: out of memory: use more memory .*\n$")
 
-    def test_sums_that_differ(self):
-        self.assertEqual(self.told(span=6), (1, "", "spanprof-path: the places' span is 7, and the text's 6\n"))
+    def test_without_spanprof_large(self):
+        told = answered(command.main, [self.text], SPANPROF=self.program("small", LARGE % 7), SPANPROF_LARGE="")
+        self.assertEqual(told, (1, "", "spanprof-path: spanprof_large, which adds up by place, is not found; "
+                                "tools/prove_program.sh spanprof_large proves and builds it\n"))
 
 
 if __name__ == "__main__":

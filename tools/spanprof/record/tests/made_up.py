@@ -2,7 +2,7 @@
 from dataclasses import dataclass, field
 
 from spanprof.program_text import Segment
-from spanprof.tests.columns import code_of, rows_of
+from spanprof.tests.columns import code_of, sums_of
 
 LDD_GCC = """\
 \tlinux-vdso.so.1 (0x00007ff521519000)
@@ -79,5 +79,8 @@ class Answers:
         self.span_numbers = {"segments": 3, "work": self.work, "span": self.span}
         self.code = code_of([Segment(0, "", "", "", 20), Segment(1, "sort.c:9", "", "", 30),
                              Segment(0, "", "taskwait", "", 50)])
-        self.rows, self.path_segments, self.is_long = rows_of((20, 30, 50), (0, 2)), [0, 2], False
+        self.path_segments, self.is_long = [0, 2], False
         self.curve = {p: {"least": max(70, -(-100 // p)), "bound": (100 + (p - 1) * 70) // p} for p in (2, 4, 8, 16)}
+
+    def sums(self, names):
+        return sums_of(self.code, self.path_segments, names)

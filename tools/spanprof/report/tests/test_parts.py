@@ -45,7 +45,7 @@ class Numbers(Patched):
                      "tasks 5 recorded", "segments 13 recorded", "threads busy, on average 1.02 measured",
                      "elapsed 40 µs measured", "speedup on 2 threads, at most 1.33 proved of the text",
                      "lock critical at mesh.c:9: 3 times", "recorded from mesh, the parallel region at mesh.c:6",
-                     "Asked: spanprof slack < mesh.tasks"):
+                     "Asked: spanprof_large places < mesh.tasks"):
             self.assertIn(part, words)
 
     def test_the_time_breakdown_and_true_times(self):

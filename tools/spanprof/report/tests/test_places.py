@@ -3,7 +3,7 @@ from array import array
 from types import SimpleNamespace
 
 from spanprof.report.graph import CREATES, DEPENDS, WAITS, critical_pairs, place_edges
-from spanprof.report.places import places, task_places
+from spanprof.report.places import Place
 from spanprof.report.tests import worked
 
 
@@ -13,12 +13,12 @@ class OfTheWorkedProgram(unittest.TestCase):
 
     def test_sums_by_place(self):
         of = self.view.answers.code.of
-        found = {place.name: (place.cost, place.critical_cost, place.critical_segments,
-                              sum(of.count(kind) for kind in place.kinds)) for place in places(self.view.answers)}
-        self.assertEqual(found["task at mesh.c:8"], (12, 12, 1, 1))
-        self.assertEqual(found["task at mesh.c:10"], (14, 6, 1, 2))
-        self.assertEqual(sum(cost for cost, *_ in found.values()), 41)
-        self.assertEqual(sum(path for _, path, *_ in found.values()), 31)
+        found = {place.name: place for place in self.view.places}
+        self.assertEqual(found["task at mesh.c:8"], Place("task at mesh.c:8", 1, 12, 1, 12, 0, 0, [1]))
+        both = found["task at mesh.c:10"]
+        self.assertEqual((both.segments, both.cost, both.critical_segments, both.critical_cost), (2, 14, 1, 6))
+        self.assertEqual([one.segments for one in found.values()],
+                         [sum(map(of.count, one.kinds)) for one in found.values()])
 
     def test_the_most_of_the_span_comes_first(self):
         shares = [place.critical_cost for place in self.view.places]
@@ -26,10 +26,10 @@ class OfTheWorkedProgram(unittest.TestCase):
         self.assertEqual([place.number for place in self.view.places], list(range(len(shares))))
 
     def test_tasks_by_the_construct_that_creates_them(self):
-        found = {place.name: place for place in task_places(self.view.answers)}
+        found = {place.name: place for place in self.view.task_places}
         both = found["mesh.c:10"]
-        self.assertEqual((list(both.tasks), list(both.costs), both.cost, both.median), ([2, 4], [7, 8], 15, 7))
-        self.assertEqual(both.critical_cost, 7)
+        self.assertEqual((list(both.tasks), both.cost, both.critical_cost), ([2, 4], 15, 7))
+        self.assertEqual([self.view.task_costs[task] for task in both.tasks], [7, 8])
         self.assertEqual(list(found["the root"].tasks), [0])
 
     def test_edges(self):

@@ -17,8 +17,9 @@ KEPT = path("answers.json")
 
 
 def key(words, text):
-    """Words, and a short name of the text."""
-    return "%s < %s" % (" ".join(words), hashlib.sha256(str(text).encode()).hexdigest()[:12])
+    """Words, and a short name of the text, or of a document."""
+    read = str(text) + getattr(text, "rest", "")
+    return "%s < %s" % (" ".join(words), hashlib.sha256(read.encode()).hexdigest()[:12])
 
 
 def kept_answers():
@@ -70,6 +71,7 @@ class Patched:
     def __init__(self):
         kept = Kept()
         self.patches = [mock.patch("spanprof.client.ask", kept), mock.patch("spanprof.client.pieces", pieces_of(kept)),
+                        mock.patch("spanprof.client.takes_any_size", return_value=True),
                         mock.patch("spanprof.time_breakdown.ask", kept.of_times),
                         mock.patch("spanprof.report.view.true_times_beside", true_times_beside),
                         mock.patch("spanprof.report.view.diagnosis_of", return_value=None)]

@@ -97,7 +97,14 @@ proved of the text, and of the changed text: spanprof has read both
         self.assertNotIn("span  ", out)
 
     def test_a_place_list(self):
-        self.assertIn("waits (--drop-wait):", self.told("--places")[1])
+        rows = "".join("%d,1,%d,0,0,9\\n" % pair for pair in enumerate((4, 30, 3, 6, 0, 3, 30)))
+        script = "#!/bin/sh\ncat > /dev/null\ncase $1 in\n    span) printf 'segments 9\\nwork 76\\nspan 64\\n' ;;\n" \
+            "    *) printf 'place,segments,work,on_path,path,slack\\n%s' ;;\nesac\n" % rows
+        self.variables["SPANPROF_LARGE"] = self.program("large", script)
+        _, out, errors = self.told("--places")
+        self.assertEqual((out.split("\n")[1:3], errors), ([
+            "            30  task at sort.c:8", "            30  after taskgroup at sort.c:7"], ""))
+        self.assertIn("waits (--drop-wait):", out)
 
     def test_faults(self):
         for words, told in ((["--drop-wait", "x"], "--drop-wait x: no taskwait or taskgroup of this name"),

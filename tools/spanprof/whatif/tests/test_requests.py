@@ -1,4 +1,5 @@
 import unittest
+from collections import Counter
 
 from spanprof.errors import Fault
 from spanprof.whatif.creating import Costs
@@ -61,7 +62,8 @@ class Made(unittest.TestCase):
 
 class Seen(unittest.TestCase):
     def test_counts(self):
-        self.assertEqual(SEEN.costs["task at sort.c:8"], 30)
+        self.assertIn("task at sort.c:8", SEEN.code)
+        self.assertNotIn("after creating a task at sort.c:9", SEEN.code)
         self.assertEqual(SEEN.tasks, {"task at sort.c:8": 2, "task at sort.c:9": 1})
         self.assertEqual(SEEN.waits, {"taskgroup at sort.c:7": 1, "taskwait at sort.c:10": 1})
         self.assertEqual(SEEN.depth, 2)
@@ -73,7 +75,7 @@ class Seen(unittest.TestCase):
 
     def test_only_what_the_program_has(self):
         seen = survey(read(LOOPS))
-        self.assertEqual(seen.costs["turns of the loop at tri.c:9"], 30)
+        self.assertIn("turns of the loop at tri.c:9", seen.code)
         self.assertEqual(seen.tasks, {"task at tri.c:12": 1, "task at tri.c:13": 1})
         self.assertEqual(seen.waits, {"the barrier of the region at tri.c:7": 1})
         self.assertEqual((+seen.dependent, seen.items, +seen.ordered, seen.depth), ({}, {}, {}, 3))
@@ -90,12 +92,13 @@ class Seen(unittest.TestCase):
         self.assertEqual(survey(read("omptasks 1 " + costs)).creating(), 4)
 
     def test_the_list(self):
-        lines = list(listing(SEEN))
+        lines = list(listing(SEEN, Counter({"task at sort.c:8": 30, "task at sort.c:9": 6})))
         self.assertEqual(lines[0], "code, with its cost (--factor, --split, --grain, --task):")
+        self.assertIn("            30  task at sort.c:8", lines)
         self.assertIn("             2  task at sort.c:8", lines)
         self.assertEqual(lines[-1], "depth of the tasks (--cutoff): 2")
         many = survey(read("omptasks 1 task depend(in: %s) { }" % ", ".join("n%d" % i for i in range(32))))
-        self.assertIn("                of 2 more names", list(listing(many)))
+        self.assertIn("                of 2 more names", list(listing(many, Counter())))
 
 
 if __name__ == "__main__":
