@@ -51,7 +51,7 @@ std::vector<uint32_t> rows_of(Chunks &chunks, size_t first) {
     const Chunk &chunk = chunks[i];
     if (!chunk.is_task) continue;
     auto next = static_cast<uint32_t>(loops.size());
-    auto [row, is_new] = last.emplace(chunk.part, next);
+    auto [row, is_new] = last.try_emplace(chunk.part, next);
     if (!is_new && loops[row->second] != chunk.loop) is_new = true, row->second = next;
     if (is_new) loops.push_back(chunk.loop);
     found.push_back(row->second);
