@@ -23,13 +23,14 @@ void add_differing(Differing &all, const Differing &more) {
 }
 
 // Phases of different regions have different numbers.
-void take_over_parts(WholeProgram &whole, const Region &region) {
+void take_over_parts(WholeProgram &whole, Region &region) {
   unsigned first = whole.parts.empty() ? 0 : whole.parts.back().phase + 1;
   for (const Part &part : region.parts) whole.parts.push_back({part.task, first + part.phase, 0});
   count_parts(whole, region);
+  region.parts = std::vector<Part>();
 }
 
-void take_over(WholeProgram &whole, const Region &region) {
+void take_over(WholeProgram &whole, Region &region) {
   whole.regions++;
   whole.threads = std::max(whole.threads, region.threads);
   whole.cost += region.cost;
