@@ -60,6 +60,9 @@ void finish_whole(Run &run, const RegionTime &time, int64_t unit) {
   WholeProgram &whole = *run.whole;
   whole.time = time;
   whole.serial = whole.cost;
+  size_t parts = 0;
+  for (auto &[number, region] : run.regions) parts += region->parts.size();
+  whole.parts.reserve(parts);
   for (auto &[number, region] : run.regions)
     if (region->whole) take_over(whole, *region);
   add_up(whole);
