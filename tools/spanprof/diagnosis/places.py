@@ -189,7 +189,9 @@ def are_turns(less, length):
 
 def is_by_a_turn(costs, threads):
     """Whether it is as if they had a turn of a loop, or none, and some of them one more."""
-    most = max(costs)
+    most, least = max(costs), min(costs) if len(costs) >= threads else 0
+    if 4 * (most - least) <= most:
+        return False
     less = [most - one for one in costs] + [most] * (len(costs) < threads)
     return are_turns(less, most) or are_turns(less, most / 2)
 
@@ -212,11 +214,13 @@ def shares_of(program):
 def set_uneven(program):
     """Of such code, by place: phase by phase, what the parts had less than that with the most."""
     width, parts = len(program.kinds), Counter(program.code.groups)
+    places = [program.places.get(name) for name in program.kinds]
     for share, costs in shares_of(program).items():
-        threads, place = parts[share // width], program.places[program.kinds[share % width]]
-        less = threads * max(costs) - sum(costs)
-        place.uneven += less
-        place.by_a_turn += less and less * is_by_a_turn(costs, threads)
+        (group, number), most = divmod(share, width), max(costs)
+        less = parts[group] * most - sum(costs)
+        if less:
+            places[number].uneven += less
+            places[number].by_a_turn += less * is_by_a_turn(costs, parts[group])
 
 
 def read_places(code, costs):
