@@ -43,7 +43,7 @@ void Events::take(const Region &region, const Region &part, uint32_t begin, uint
   for (auto &event : part.events) {
     uint32_t number = number_of(event, region);
     if (number == none) continue;
-    unsigned worker = numbers.emplace(event.worker, numbers.size()).first->second;
+    unsigned worker = numbers.try_emplace(event.worker, numbers.size()).first->second;
     SegmentTime &time = times[number - first];
     time.worker = worker;
     int64_t at = std::max<int64_t>(event.at - region.time.begin, 0);  // records of a damaged log go back

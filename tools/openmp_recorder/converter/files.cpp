@@ -3,6 +3,7 @@
 #include <stdlib.h>
 #include <unistd.h>
 
+#include <algorithm>
 #include <cerrno>
 #include <cstring>
 #include <stdexcept>
@@ -12,15 +13,15 @@
 
 namespace {
 constexpr std::size_t buffered = 1 << 18;
+constexpr const char *unwritable = "cannot be written next to the texts", *unreadable = "cannot be read again";
 
 std::string unfinished(const std::string &name) { return name + ".new"; }
 
-FILE *nameless_file(const std::string &beside) {
+int nameless_file(const std::string &beside) {
   std::string name = beside + ".XXXXXX";
   int file = mkstemp(name.data());
-  if (file < 0) return nullptr;
-  unlink(name.c_str());
-  return fdopen(file, "w+");
+  if (file >= 0) unlink(name.c_str());
+  return file;
 }
 
 [[noreturn]] void give_up(const char *what) {
@@ -40,24 +41,54 @@ bool write_file(const std::string &name,
 }
 
 NamelessFile::NamelessFile(const std::string &beside) : buffer(buffered), file(nameless_file(beside)) {
-  if (!file) give_up("cannot be written next to the texts");
-  setvbuf(file.get(), buffer.data(), _IOFBF, buffer.size());
+  if (file < 0) give_up(unwritable);
 }
 
-void NamelessFile::write(const void *bytes, std::size_t count) {
-  if (fwrite_unlocked(bytes, 1, count, file.get()) != count) give_up("cannot be written next to the texts");
+NamelessFile::~NamelessFile() {
+  if (file >= 0) close(file);
 }
 
-void NamelessFile::read(void *bytes, std::size_t count) {
-  if (fread_unlocked(bytes, 1, count, file.get()) != count) give_up("cannot be read again");
+void NamelessFile::put_out(const char *bytes, std::size_t count) const {
+  while (count) {
+    ssize_t done = ::write(file, bytes, count);
+    if (done < 0 && errno == EINTR) continue;
+    if (done <= 0) give_up(unwritable);
+    bytes += done;
+    count -= static_cast<std::size_t>(done);
+  }
+}
+
+void NamelessFile::write_on(const char *bytes, std::size_t count) {
+  put_out(buffer.data(), std::exchange(at, 0));
+  if (count > buffer.size()) put_out(bytes, count);
+  else write(bytes, count);
+}
+
+void NamelessFile::read_on(char *bytes, std::size_t count) {
+  while (count) {
+    std::size_t there = std::min(count, filled - at);
+    std::memcpy(bytes, buffer.data() + at, there);
+    bytes += there;
+    count -= there;
+    at += there;
+    if (!count) return;
+    ssize_t done = ::read(file, buffer.data(), buffer.size());
+    if (done <= 0) give_up(unreadable);
+    at = 0;
+    filled = static_cast<std::size_t>(done);
+  }
 }
 
 void NamelessFile::skip(std::size_t count) {
-  if (fseek(file.get(), static_cast<long>(count), SEEK_CUR)) give_up("cannot be read again");
+  std::size_t there = std::min(count, filled - at);
+  at += there;
+  if (count > there && lseek(file, static_cast<off_t>(count - there), SEEK_CUR) < 0) give_up(unreadable);
 }
 
 void NamelessFile::begin_again() {
-  if (fseek(file.get(), 0, SEEK_SET)) give_up("cannot be written next to the texts");
+  if (!filled) put_out(buffer.data(), at);
+  at = filled = 0;
+  if (lseek(file, 0, SEEK_SET) < 0) give_up(unreadable);
 }
 
 NewFile::NewFile(const std::string &called) : name(called), file(fopen(unfinished(name).c_str(), "w")), good(file) {}

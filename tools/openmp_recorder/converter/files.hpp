@@ -3,8 +3,8 @@
 #pragma once
 #include <cstdint>
 #include <cstdio>
+#include <cstring>
 #include <functional>
-#include <memory>
 #include <string>
 #include <string_view>
 #include <vector>
@@ -13,21 +13,32 @@ bool write_file(const std::string &name, const std::string &text);
 bool write_file(const std::string &name,
                 const std::function<void(const std::function<void(std::string_view)> &)> &tell);
 
-// A file without a name beside the others, for what does not fit the memory.
+// A file without a name beside the others, for what does not fit the memory: it is written, and then read again.
 class NamelessFile {
  public:
   explicit NamelessFile(const std::string &beside);  // the first name of a file
-  void write(const void *bytes, std::size_t count);
-  void read(void *bytes, std::size_t count);
+  NamelessFile(const NamelessFile &) = delete;
+  ~NamelessFile();
+  void write(const void *bytes, std::size_t count) {
+    if (buffer.size() - at < count) return write_on(static_cast<const char *>(bytes), count);
+    std::memcpy(buffer.data() + at, bytes, count);
+    at += count;
+  }
+  void read(void *bytes, std::size_t count) {
+    if (filled - at < count) return read_on(static_cast<char *>(bytes), count);
+    std::memcpy(bytes, buffer.data() + at, count);
+    at += count;
+  }
   void skip(std::size_t count);
   void begin_again();
 
  private:
-  struct Close {
-    void operator()(FILE *open) const { fclose(open); }
-  };
   std::vector<char> buffer;
-  std::unique_ptr<FILE, Close> file;
+  std::size_t at = 0, filled = 0;  // of the buffer; nothing is filled while the file is written
+  int file;
+  void write_on(const char *bytes, std::size_t count);
+  void read_on(char *bytes, std::size_t count);
+  void put_out(const char *bytes, std::size_t count) const;
 };
 
 // A file that is written piece by piece.

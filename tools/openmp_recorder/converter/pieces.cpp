@@ -1,10 +1,8 @@
 #include "pieces.hpp"
 
 #include <algorithm>
-#include <memory_resource>
 #include <numeric>
 #include <set>
-#include <unordered_map>
 
 #include "size.hpp"
 #include "joined_times.hpp"
@@ -40,21 +38,25 @@ class Rows {
   std::vector<uint32_t> begins{0};  // of each, and the end
 };
 
-// The number of each chunk's row.
+// The number of each chunk's row. Between two chunks of a row its thread runs others only in a region that the first
+// one has met, and such a chunk is written by itself.
 template <class Chunks>
 std::vector<uint32_t> rows_of(Chunks &chunks, size_t first) {
+  struct Last {
+    const Task *part = nullptr;
+    const Loop *loop = nullptr;
+    uint32_t row = 0;
+  };
   std::vector<uint32_t> found;
-  std::vector<const Loop *> loops;  // of the rows
-  std::pmr::monotonic_buffer_resource memory;
-  std::pmr::unordered_map<const Task *, uint32_t> last(&memory);  // by the part
+  std::vector<Last> last;  // by the thread
+  uint32_t count = 0;
   for (size_t i = first; i < chunks.size(); i++) {
     const Chunk &chunk = chunks[i];
     if (!chunk.is_task) continue;
-    auto next = static_cast<uint32_t>(loops.size());
-    auto [row, is_new] = last.emplace(chunk.part, next);
-    if (!is_new && loops[row->second] != chunk.loop) is_new = true, row->second = next;
-    if (is_new) loops.push_back(chunk.loop);
-    found.push_back(row->second);
+    if (chunk.thread >= last.size()) last.resize(chunk.thread + 1u);
+    Last &own = last[chunk.thread];
+    if (own.part != chunk.part || own.loop != chunk.loop) own = {chunk.part, chunk.loop, count++};
+    found.push_back(own.row);
   }
   return found;
 }

@@ -144,6 +144,7 @@ class Reader {
   std::vector<Region *> begun;  // regions, in their order
   size_t blocks_ended = 1, regions_ended = 0;  // of tasks; of those that began
   size_t seen_steps = 0, chunks_gone = 0, loops_gone = 0;
+  unsigned seen_groups = 0;  // that are open after these steps of the root
   uint64_t room = 0;  // tasks that may be there before the beginning is let go
   bool may_release = false;
   void note_placed();

@@ -18,15 +18,13 @@ constexpr uint64_t least_stretch = 1 << 14;  // tasks
 // waits at once.
 void Reader::note_placed() {
   const Task &root = *run.whole->root;
-  unsigned groups = 0;
-  for (size_t i = seen_steps; i < root.steps.size(); i++) {
-    const Step &step = root.steps[i];
-    groups += step.kind == Kind::GroupBegin;
-    groups -= step.kind == Kind::GroupEnd;
-    if (step.kind == Kind::Create && !groups && !step.child()->undeferred) may_release = false;
+  for (; may_release && seen_steps < root.steps.size(); seen_steps++) {
+    const Step &step = root.steps[seen_steps];
+    seen_groups += step.kind == Kind::GroupBegin;
+    seen_groups -= step.kind == Kind::GroupEnd;
+    if (step.kind == Kind::Create && !seen_groups && !step.child()->undeferred) may_release = false;
   }
-  if (!may_release || groups) return;
-  seen_steps = root.steps.size();
+  if (!may_release || seen_groups) return;
   placed.push_back({run.whole->tasks.begin_block(), root.steps.size(), run.whole->chunk_list.size(),
                     run.whole->loop_list.size(), begun.size(), run.whole->events.size()});
 }

@@ -87,6 +87,7 @@ struct Chunk {
   const Task *part = nullptr;  // that ran it; only compared
   int64_t cost = 0;
   bool is_task = false, makes_tasks = false;
+  uint16_t thread = 0;
 };
 
 class CallPaths;

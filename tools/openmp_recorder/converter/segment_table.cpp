@@ -20,7 +20,12 @@ std::string_view place_in(std::string_view words) {
   return words;
 }
 
-void add_number(std::string &list, uint64_t number) { list += (list.empty() ? "" : ",") + std::to_string(number); }
+void add_number(Piece &list, uint64_t number) {
+  if (list.size()) list.put(",");
+  list.number(number);
+}
+
+std::string in_brackets(std::string_view list) { return "[" + std::string(list) + "]"; }
 
 template <class Number>
 void put_column(std::string &out, std::vector<Number> &column) {
@@ -30,16 +35,16 @@ void put_column(std::string &out, std::vector<Number> &column) {
 }  // namespace
 
 uint32_t SegmentTable::word(std::string_view of_place) {
+  if (of_place.empty()) return 0;
+  uint32_t &last = recent[(of_place.size() + static_cast<unsigned char>(of_place.back())) % recent.size()];
+  if (of_place == words[last]) return last;
   auto found = numbers.find(of_place);
   if (found == numbers.end()) {
     found = numbers.emplace(of_place, words.size()).first;
     words.emplace_back(of_place);
+    are_of_regions.push_back(begins_with(of_place, of_a_thread) || begins_with(of_place, barrier));
   }
-  return found->second;
-}
-
-bool SegmentTable::is_of_region(uint32_t of_place) const {
-  return begins_with(words[of_place], of_a_thread) || begins_with(words[of_place], barrier);
+  return last = found->second;
 }
 
 // Where the innermost region is that has begun.
@@ -49,9 +54,9 @@ uint32_t SegmentTable::region() const {
 }
 
 uint32_t SegmentTable::kind(After after, uint32_t after_place) {
-  uint64_t around = is_of_region(after ? after_place : here.place) ? region() : 0;
+  uint64_t around = are_of_regions[after ? after_place : here.place] ? region() : 0;
   uint64_t key = ((around * most_words + after_place) * most_words + here.place) * 8 + after * 2u + here.is_root;
-  auto [found, is_new] = kind_numbers.emplace(key, kinds.size());
+  auto [found, is_new] = kind_numbers.try_emplace(key, kinds.size());
   if (is_new)
     kinds.push_back(std::string(here.is_root ? "true" : "false") + ", " + in_json(words[here.place]) + ", " +
                     in_json(after_words[after]) + ", " + in_json(words[after_place]) + ", " + in_json(words[around]));
@@ -80,7 +85,7 @@ uint32_t SegmentTable::open(After after, uint32_t after_place) {
   is_pending = false;
   if (segments) close();
   uint32_t found = kind(after, after_place);
-  if (!after && is_of_region(here.place)) {
+  if (!after && are_of_regions[here.place]) {
     add_number(own, segments);
     add_number(own, groups.empty() ? 0 : blocks[groups.back()].number);
   }
@@ -109,8 +114,8 @@ void SegmentTable::task(std::string_view clauses, std::string_view place) {
   if (clauses.empty()) return;
   std::string key(clauses);
   key += '#' + std::to_string(of_place);
-  auto [met, is_new] = clauses_met.emplace(std::move(key), written.size());
-  if (is_new) written.push_back({is_of_region(of_place) ? no_kind : of_kind, std::string(clauses)});
+  auto [met, is_new] = clauses_met.try_emplace(std::move(key), written.size());
+  if (is_new) written.push_back({are_of_regions[of_place] ? no_kind : of_kind, std::string(clauses)});
   before = met->second;
   written[before].count++;
   written[before].again += before == last;
@@ -142,12 +147,12 @@ bool SegmentTable::finish() {
   std::string list;
   for (const std::string &kind : kinds) list += (list.empty() ? "[" : ", [") + kind + "]";
   Object line;
-  line.put("segments", segments).put_bare("kinds", "[" + list + "]").put_bare("long", "[" + long_costs + "]");
+  line.put("segments", segments).put_bare("kinds", in_brackets(list)).put_bare("long", in_brackets(long_costs.words()));
   list.clear();
   for (const Clauses &one : written)
     list += (list.empty() ? "[" : ", [") + (one.kind == no_kind ? "null" : std::to_string(one.kind)) + ", " +
             in_json(one.words) + ", " + std::to_string(one.count) + ", " + std::to_string(one.again) + "]";
-  line.put_bare("own", "[" + own + "]").put_bare("clauses", "[" + list + "]");
+  line.put_bare("own", in_brackets(own.words())).put_bare("clauses", in_brackets(list));
   taker("\n" + line.end() + "\n");
   return kinds.size() < most_words && words.size() < most_words;
 }

@@ -1,6 +1,7 @@
 // The segments of a text by place, made as it is written: of each its kind, its task and its cost, in columns that the
 // tools take as they are, so that they need not cut the text. docs/FORMATS.md has the form.
 #pragma once
+#include <array>
 #include <cstdint>
 #include <functional>
 #include <map>
@@ -9,6 +10,8 @@
 #include <unordered_map>
 #include <utility>
 #include <vector>
+
+#include "piece.hpp"
 
 class SegmentTable {
  public:
@@ -40,6 +43,8 @@ class SegmentTable {
 
   std::function<void(std::string_view)> taker;
   std::vector<std::string> words{""};  // places by number
+  std::vector<bool> are_of_regions{false};
+  std::array<uint32_t, 64> recent{};  // of these, by their ends
   std::map<std::string, uint32_t, std::less<>> numbers{{"", 0}};
   std::vector<std::string> kinds;  // in JSON
   std::unordered_map<uint64_t, uint32_t> kind_numbers;
@@ -54,10 +59,9 @@ class SegmentTable {
   std::vector<uint16_t> kinds_of;  // segments, as far as they are not handed on
   std::vector<uint32_t> tasks_of, costs;
   uint64_t segments = 0, cost = 0;  // of the last one
-  std::string long_costs, own;  // in JSON
+  Piece long_costs, own;  // in JSON
 
   uint32_t word(std::string_view of_place);
-  bool is_of_region(uint32_t of_place) const;
   uint32_t region() const;
   uint32_t kind(After after, uint32_t after_place);
   uint32_t open(After after, uint32_t after_place);  // the kind of the new segment

@@ -210,6 +210,7 @@ void Reader::begin_chunk(ImplicitTask &own, uint64_t turns) {
   own.last->turns = turns;
   own.last_turns = std::max<uint64_t>(turns, 1);
   own.last->task = chunk;
+  own.last->thread = static_cast<uint16_t>(log->worker);
   begin(chunk);
 }
 

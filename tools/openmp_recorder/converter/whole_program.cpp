@@ -23,13 +23,14 @@ void add_differing(Differing &all, const Differing &more) {
 }
 
 // Phases of different regions have different numbers.
-void take_over_parts(WholeProgram &whole, const Region &region) {
+void take_over_parts(WholeProgram &whole, Region &region) {
   unsigned first = whole.parts.empty() ? 0 : whole.parts.back().phase + 1;
   for (const Part &part : region.parts) whole.parts.push_back({part.task, first + part.phase, 0});
   count_parts(whole, region);
+  region.parts = std::vector<Part>();
 }
 
-void take_over(WholeProgram &whole, const Region &region) {
+void take_over(WholeProgram &whole, Region &region) {
   whole.regions++;
   whole.threads = std::max(whole.threads, region.threads);
   whole.cost += region.cost;
@@ -59,6 +60,9 @@ void finish_whole(Run &run, const RegionTime &time, int64_t unit) {
   WholeProgram &whole = *run.whole;
   whole.time = time;
   whole.serial = whole.cost;
+  size_t parts = 0;
+  for (auto &[number, region] : run.regions) parts += region->parts.size();
+  whole.parts.reserve(parts);
   for (auto &[number, region] : run.regions)
     if (region->whole) take_over(whole, *region);
   add_up(whole);

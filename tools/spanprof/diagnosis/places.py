@@ -3,7 +3,7 @@ from array import array
 from collections import Counter, defaultdict
 from dataclasses import dataclass, field
 from functools import cached_property
-from itertools import compress
+from itertools import chain
 from operator import add
 from typing import List, Tuple
 
@@ -176,33 +176,51 @@ def set_longest(program):
         place.alone += cost * (whole[phase] - cost < ALONE * cost)
 
 
+def are_turns(less, length):
+    """Whether each is about none of this length or one, and some are one."""
+    about = ABOUT * length
+    if 2 * max(less) <= length:
+        return False
+    for one in less:    # there are many: a generator of each takes three times as long
+        if one >= about and abs(length - one) >= about:
+            return False
+    return True
+
+
 def is_by_a_turn(costs, threads):
     """Whether it is as if they had a turn of a loop, or none, and some of them one more."""
-    less = [max(costs) - one for one in costs + [0] * (threads - len(costs))]
-    return any(2 * max(less) > length and all(min(one, abs(length - one)) < ABOUT * length for one in less)
-               for length in (max(costs), max(costs) / 2))
+    most, least = max(costs), min(costs) if len(costs) >= threads else 0
+    if 4 * (most - least) <= most:
+        return False
+    less = [most - one for one in costs] + [most] * (len(costs) < threads)
+    return are_turns(less, most) or are_turns(less, most / 2)
+
+
+def shares_of(program):
+    """What each part had of divided code, and of threads' own, by the number of its group and of the place."""
+    code, costs, width, shares = program.code, program.costs, len(program.kinds), defaultdict(list)
+    numbers = [number if kind_of(kind) == SHARE or name.startswith(OWN) else None
+               for kind, name, number in zip(code.kinds, program.kinds, firsts(program.kinds))]
+    for first, end, group in zip(code.own, chain(code.own[1:], (len(code),)), code.groups):
+        had = {}
+        for number, cost in zip(map(numbers.__getitem__, code.of[first:end]), costs[first:end]):
+            if number is not None:
+                had[number] = had.get(number, 0) + cost
+        for number, cost in had.items():
+            shares[group * width + number].append(cost)
+    return shares
 
 
 def set_uneven(program):
-    """Of divided code, and of threads' own, by place: phase by phase, what they had less than that with the most."""
-    code, width, parts = program.code, len(program.kinds), Counter(program.code.groups)
-    numbers, had, begins, part = firsts(program.kinds), defaultdict(int), [*code.own, len(code)], -1
-    divided = [kind_of(kind) == SHARE or name.startswith(OWN) for kind, name in zip(code.kinds, program.kinds)]
-    pieces = zip(range(len(code)), code.of, program.costs)
-    for segment, kind, cost in compress(pieces, map(divided.__getitem__, code.of)):
-        while segment >= begins[part + 1]:
-            part += 1
-        had[part * width + numbers[kind]] += cost
-    shares = defaultdict(list)
-    for both, cost in had.items():
-        part, number = divmod(both, width)
-        if part >= 0:   # not before all parts
-            shares[code.groups[part] * width + number].append(cost)
-    for share, costs in shares.items():
-        place, threads = program.places[program.kinds[share % width]], parts[share // width]
-        less = threads * max(costs) - sum(costs)
-        place.uneven += less
-        place.by_a_turn += less * is_by_a_turn(costs, threads)
+    """Of such code, by place: phase by phase, what the parts had less than that with the most."""
+    width, parts = len(program.kinds), Counter(program.code.groups)
+    places = [program.places.get(name) for name in program.kinds]
+    for share, costs in shares_of(program).items():
+        (group, number), most = divmod(share, width), max(costs)
+        less = parts[group] * most - sum(costs)
+        if less:
+            places[number].uneven += less
+            places[number].by_a_turn += less * is_by_a_turn(costs, parts[group])
 
 
 def read_places(code, costs):
