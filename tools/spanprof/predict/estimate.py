@@ -48,10 +48,6 @@ def base_of(recordings, threads):
     return most, Growth(recordings[numbers[-2]], most) if len(numbers) > 1 else None
 
 
-def outside_on(base, growth, threads):
-    return int(growth.outside(base, threads)) if growth else base.outside
-
-
 def simulated(simulation, program, costs, threads, spent, came, seeds):
     """The median end of some runs."""
     return statistics.median_low(simulation(program, costs, threads, spent, seed, came).run().end for seed in seeds)
@@ -93,7 +89,7 @@ def of_one(base, growth, machine, threads, runtime, seeds):
     grown = log(max(sum(costs), 1) / max(base.work, 1))
     simulation, dispatch, spent, came = runs_of(runtime, base, machine, threads)
     costs = burdened(base.program, costs, dispatch)
-    outside = outside_on(base, growth, threads)
+    outside = int(growth.outside(base, threads)) if growth else base.outside
     end = simulated(simulation, base.program, costs, threads, spent, came, seeds) + outside
     time = max(end, base.held)
     return Estimate(base, threads, time, time, time, costs, outside, dispatch, spent.steal, grown, base.held > end,

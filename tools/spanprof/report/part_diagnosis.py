@@ -28,20 +28,14 @@ def one_time(time, words):
     return tag("div", tag("b", time), tag("span", words), class_="time")
 
 
-def how_known(step):
-    return "predicted" if step.change else bound_word(step.kind).replace("about", "estimated")
-
-
-def best_words(found):
-    how = {"about": ", estimated", "or less": ", or less", "at best": ""}[word_of_best(found)]
-    return "at best%s: all threads busy all the time" % how
-
-
 def times(found):
     now = "now, on " + words_of_threads(found.facts)
-    first = [one_time(lasting(step.after), "after the first change, " + how_known(step)) for step in found.plan[:1]]
+    first = [one_time(lasting(step.after), "after the first change, %s" % (
+        "predicted" if step.change else bound_word(step.kind).replace("about", "estimated")))
+             for step in found.plan[:1]]
+    how = {"about": ", estimated", "or less": ", or less", "at best": ""}[word_of_best(found)]
     return tag("div", one_time(lasting(found.now), now), *first,
-               one_time(lasting(found.best), best_words(found)), class_="times")
+               one_time(lasting(found.best), "at best%s: all threads busy all the time" % how), class_="times")
 
 
 def parts(told):
