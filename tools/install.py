@@ -8,6 +8,7 @@ import glob
 import os
 import shutil
 import sys
+from contextlib import suppress
 
 from spanprof.checksums import SUFFIX
 from spanprof.errors import Fault
@@ -163,15 +164,9 @@ def uninstall(root):
         if os.path.lexists(os.path.join(root, path)):
             os.remove(os.path.join(root, path))
     for folder in reversed([path for path in listed if path.endswith("/")]):
-        remove_if_empty(os.path.normpath(os.path.join(root, folder)))
+        with suppress(OSError):     # where somebody else's file is in it
+            os.rmdir(os.path.normpath(os.path.join(root, folder)))
     return len(files)
-
-
-def remove_if_empty(folder):
-    try:
-        os.rmdir(folder)
-    except OSError:
-        pass  # somebody else's file is in it
 
 
 def main():

@@ -66,15 +66,14 @@ def of_facts(info, version, tag):
     yield info + "/licenses/LICENSE", (TOP / "LICENSE").read_bytes(), PLAIN
 
 
-def record_line(name, words):
-    digest = base64.urlsafe_b64encode(hashlib.sha256(words).digest()).rstrip(b"=").decode()
-    return "%s,sha256=%s,%d\n" % (name, digest, len(words))
-
-
 def write(path, files, record):
     """With the time that SOURCE_DATE_EPOCH says, so that one commit makes one wheel."""
     date = time.gmtime(max(EPOCH, int(os.environ.get("SOURCE_DATE_EPOCH", EPOCH))))[:6]
-    lines = "".join(record_line(name, words) for name, words, _ in files) + record + ",,\n"
+    lines = ""
+    for name, words, _ in files:
+        digest = base64.urlsafe_b64encode(hashlib.sha256(words).digest()).rstrip(b"=").decode()
+        lines += "%s,sha256=%s,%d\n" % (name, digest, len(words))
+    lines += record + ",,\n"
     with zipfile.ZipFile(path, "w") as wheel:
         for name, words, mode in files + [(record, lines.encode(), PLAIN)]:
             about = zipfile.ZipInfo(name, date)

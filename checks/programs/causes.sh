@@ -17,8 +17,6 @@ cd "$(dirname "$0")/../.."
 . checks/needs.sh
 python3 -B -m unittest discover -q -s checks/programs/causes/tests -t checks/programs/causes
 needs_spanprof
-large=$PWD/crates/spanprof_large/out/spanprof_large
-[ -n "${SPANPROF_LARGE:-}" ] || [ ! -x "$large" ] || export SPANPROF_LARGE=$large
 if [ "${1:-}" = kept ]; then exec python3 -B checks/programs/causes/kept.py; fi
 programs=checks/programs/causes compiler=clang words=()
 while [ $# -gt 0 ]; do

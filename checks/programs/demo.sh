@@ -7,8 +7,8 @@ cd "$(dirname "$0")/../.."
 # shellcheck source=checks/needs.sh
 . checks/needs.sh
 needs_spanprof "$@"
-spanprof=$SPANPROF
-unset SPANPROF
+spanprof=$SPANPROF large=${SPANPROF_LARGE:-}
+unset SPANPROF SPANPROF_LARGE
 needs_llvm
 [ -e "/usr/lib/llvm-$llvm/lib/libomp.so.5" ] || skip "LLVM's OpenMP runtime is missing (package libomp-$llvm-dev)"
 export LLVM=$llvm
@@ -21,7 +21,7 @@ wrong=0
 fail() { echo "  $1"; wrong=$((wrong + 1)); cat "$folder/told"; }
 has() { grep -qF -- "$1" "$folder/told" || fail "$2: no line '$1'"; }
 
-SPANPROF=$spanprof ./demo > "$folder/told" 2>&1 || fail "the demo fails"
+SPANPROF=$spanprof SPANPROF_LARGE=$large ./demo > "$folder/told" 2>&1 || fail "the demo fails"
 has 'needs clang libomp-dev make binutils python3: all there' "the demo"
 has 'sorted 1048576' "the demo"
 has 'merge_sort: ' "the demo"

@@ -203,7 +203,7 @@ class Answers:
     @cached_property
     def predecessors(self):
         self.note("graph")
-        return client.predecessors(self.file, len(self.code))
+        return client.predecessors(self.file)
 
 
 def curve_in(table):

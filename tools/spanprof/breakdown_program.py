@@ -1,8 +1,9 @@
 """What spanprof_large account tells of a timed document."""
 import re
-import subprocess
 
 from spanprof import client
+from spanprof.command import naming
+from spanprof.errors import Fault
 
 FAULTS = {
     "NotTimed": "segment %s has no times",
@@ -31,23 +32,13 @@ def in_words(line):
 
 def ask(words, path):
     """What the program prints of the timed document in a file, with these words behind `account`."""
-    try:
-        with open(path, "rb") as document:
-            return answer(words, document)
-    except OSError as wrong:
-        raise NoBreakdown("%s: %s" % (path, wrong.strerror)) from wrong
-
-
-def answer(words, document):
-    """The same of an open file."""
     if not client.takes_any_size():
         raise NoBreakdown(client.HOW)
-    program = client.program()
     try:
-        done = subprocess.run(program + ["account"] + list(words), stdin=document, capture_output=True, text=True,
-                              errors="replace", check=False)
-    except OSError as wrong:
-        raise NoBreakdown("spanprof_large: %s" % wrong) from wrong
+        with naming(path), open(path, "rb") as document:
+            done = client.run(["account", *words], document)
+    except Fault as wrong:
+        raise NoBreakdown(str(wrong)) from wrong
     if done.returncode:
         raise NoBreakdown(in_words(done.stdout.strip()))
     return done.stdout

@@ -43,29 +43,16 @@ class Refused(ValueError):
         self.kind, self.line, self.segments = kind, line, tuple(segments)
 
 
-class Measured(ctypes.Structure):
-    """The number of segments, the work and the span."""
-    _fields_ = [(name, ctypes.c_uint64) for name in ("segments", "work", "span")]
+def structure(*names):
+    """One that C fills, of numbers with these names."""
+    return type("Structure", (ctypes.Structure,), {"_fields_": [(name, ctypes.c_uint64) for name in names]})
 
 
-class Analysed(ctypes.Structure):
-    """The work, the span, and how many segments the critical path has."""
-    _fields_ = [(name, ctypes.c_uint64) for name in ("work", "span", "path_length")]
-
-
-class Bounded(ctypes.Structure):
-    """What `Bounds` has, as C fills it."""
-    _fields_ = [(name, ctypes.c_uint64) for name in ("least", "greatest")]
-
-
-class Accounted(ctypes.Structure):
-    """The sums of `Account`, as C fills them."""
-    _fields_ = [(name, ctypes.c_uint64) for name in ("busy", "delayed", "starved", "outside")]
-
-
-class Certified(ctypes.Structure):
-    """What `Certificate` has, as C fills it."""
-    _fields_ = [(name, ctypes.c_uint64) for name in ("segments", "ends_at")]
+Measured = structure("segments", "work", "span")
+Analysed = structure("work", "span", "path_length")     # how many segments the critical path has
+Bounded = structure("least", "greatest")
+Accounted = structure("busy", "delayed", "starved", "outside")
+Certified = structure("segments", "ends_at")
 
 
 def places():

@@ -175,24 +175,11 @@ def rows(table):
     return [dict(zip(heads, line.split(","))) for line in lines[1:] if line]
 
 
-def graph(text):
-    """The kept predecessors of each segment, as `graph` prints them."""
+def predecessors(text):
+    """The kept ones of each segment, as `graph` prints them."""
     told = pieces(["graph"], text)
     next(told)
-    for piece in told:
-        yield from ([int(p) for p in line.rpartition(b",")[2].split()] for line in piece.splitlines())
-
-
-def predecessors(text, count):
-    """The same as a list; of `spanprof`, which has no such command, by a run of all segments in their order."""
-    try:
-        return list(graph(text))
-    except Refused as wrong:
-        if wrong.answer != "error: wrong words":
-            raise
-    events = "".join("start 0 %d finish 0 %d\n" % (s, s) for s in range(count))
-    lines = ask(["replay"], "%s\n---\n%s" % (text, events)).split("\n")[2:]
-    return [[int(p) for p in line.split()[2:]] for line in lines if line]
+    return [[int(p) for p in line.rpartition(b",")[2].split()] for piece in told for line in piece.splitlines()]
 
 
 def read(path):

@@ -54,14 +54,6 @@ class Console:
             self.say(words)
 
 
-def refuse_folder(text):
-    """Of a log the fault says what reads it."""
-    if os.path.isfile(os.path.join(text, "head")):
-        raise Fault("%s: the log of a recording; spanprof-convert makes its text" % text)
-    if os.path.isdir(text):
-        raise Fault("%s: not a recording, which is a folder NAME.spanprof" % text)
-
-
 def percent(word):
     """`5%` or `5`."""
     if not re.fullmatch(r"[0-9]{1,4}(\.[0-9]+)?%?", word):
@@ -73,7 +65,10 @@ def check_files(text, output=None, what="changed text"):
     """Whether the text is there, and is not what would be written."""
     if not os.path.exists(text):
         raise Fault("%s: no such file" % (text or "''"))
-    refuse_folder(text)
+    if os.path.isfile(os.path.join(text, "head")):
+        raise Fault("%s: the log of a recording; spanprof-convert makes its text" % text)
+    if os.path.isdir(text):
+        raise Fault("%s: not a recording, which is a folder NAME.spanprof" % text)
     if not os.path.isfile(text):
         raise Fault("%s: write the text to a file first, as it is read more than once" % text)
     if output and os.path.exists(output) and os.path.samefile(text, output):
@@ -89,11 +84,6 @@ def naming(path):
         raise Fault("%s: %s" % (path, wrong.strerror or wrong)) from wrong
 
 
-def writing_there(path, mode, how):
-    """A device or a pipe, which nothing replaces; or standard output, for `-`."""
-    return open(sys.stdout.fileno(), mode, closefd=False, **how) if path == "-" else open(path, mode, **how)
-
-
 @contextmanager
 def writing(path, mode="w", **how):
     """A file that gets its name once it is whole; where it cannot be written the one of that name stays."""
@@ -101,7 +91,8 @@ def writing(path, mode="w", **how):
     final = os.path.realpath(path)
     with naming(path):
         if path == "-" or os.path.exists(final) and not os.path.isfile(final):
-            with writing_there(path, mode, how) as file:
+            there = {"file": sys.stdout.fileno(), "closefd": False} if path == "-" else {"file": path}
+            with open(mode=mode, **there, **how) as file:   # a device or a pipe, which nothing replaces
                 yield file
             return
         if os.path.exists(final) and not os.access(final, os.W_OK):

@@ -38,12 +38,6 @@ def recorder_library(tell):
     return find_or_build(LIBRARY, RECORDERS, tell)
 
 
-def why_it_died(status):
-    if status >= 0:
-        return "its converter ended with status %d" % status
-    return "its converter died: " + DIED.get(-status, "signal %d" % -status)
-
-
 def convert(program, log, out, variables):
     """What is told of one log, whose texts are OUT.tasks and so on."""
     rest = {name: value for name, value in variables.items() if name not in LOADERS}
@@ -53,8 +47,10 @@ def convert(program, log, out, variables):
     except OSError as wrong:
         raise Fault("%s: %s" % (program, wrong.strerror)) from wrong
     told = [json.loads(line) for line in output_of(process, log).splitlines() if line.strip().endswith("}")]
-    if process.returncode and not has_failed(told):
-        told.append({"message": "fault", "log": log, "what": why_it_died(process.returncode)})
+    status = process.returncode
+    if status and not has_failed(told):
+        why = "ended with status %d" % status if status > 0 else "died: " + DIED.get(-status, "signal %d" % -status)
+        told.append({"message": "fault", "log": log, "what": "its converter " + why})
     return told
 
 
@@ -128,13 +124,9 @@ def made_text(out):
     return out + ".tasks" if os.path.exists(out + ".tasks") else None
 
 
-def places_with_tasks(recording):
-    program = program_of(recording.text)
-    return [place.name for place in program.places if place.total("tasks")] if program else []
-
-
 def no_region(recording, place):
-    there = places_with_tasks(recording)
+    program = program_of(recording.text)
+    there = [place.name for place in program.places if place.total("tasks")] if program else []
     if not there:
         return Fault("%s: it has no parallel region with tasks" % recording.name)
     return Fault("%s: there is no region with tasks at %s; those are at %s" % (

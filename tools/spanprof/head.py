@@ -209,46 +209,37 @@ def read_lock(head, told):
     head.locks.append(Lock(name, *(number(told[part]) for part in ("times", "inside", "waiting")), head.unit))
 
 
-def kept(field_name):
-    return lambda head, told: setattr(head, field_name, number(told))
-
-
-def kept_numbers(field_name, names):
-    """Of several names a number each."""
-    return lambda head, told: setattr(head, field_name, {name: number(told[name]) for name in names})
-
-
-def read_preempted(head, told):
-    head.preempted = {number(segment): number(off) for segment, off in told}
-
-
 def part_of_program(head):
     """What the text is of, in words; empty where it does not say."""
     return "the whole program" if head.whole else "region at %s" % head.region if head.region else ""
 
 
-def part_of_time(name):
-    return lambda head, told: head.division.update({name: number(told)})
-
-
-def read_not_covered(head, told):
-    head.not_covered = {words(name): number(value) for name, value in told.items()}
-
-
-DIFFER = ("affected", "work", "by", "times")
+def difference(told):
+    return {name: number(told[name]) for name in ("affected", "work", "by", "times")}
 
 
 LINES = {
     "recorded": read_recorded, "region": read_region, "whole program": read_whole, "covers": read_coverage,
-    "not covered": read_not_covered, "divided": read_divided, "clock reading": kept("clock_reading"),
-    "clocks differ": kept_numbers("clocks_differ", DIFFER), "slept": kept_numbers("slept", DIFFER),
-    "taken off": kept_numbers("taken_off", DIFFER),
-    "untimed": kept("untimed"), "preempted": read_preempted,
-    "elapsed": kept("elapsed"), "most held lock": kept("most_held"),
-    "lock": read_lock, "place": read_place, "short chunks": read_chunks, "few turns": read_few_turns,
-    "source": read_source,
-    **{name: part_of_time(name) for name in DIVISION},
-}
+    "divided": read_divided, "lock": read_lock, "place": read_place, "short chunks": read_chunks,
+    "few turns": read_few_turns, "source": read_source}
+# Those that are one field, and how it is read.
+FIELDS = {
+    "clock reading": ("clock_reading", number), "untimed": ("untimed", number), "elapsed": ("elapsed", number),
+    "most held lock": ("most_held", number), "clocks differ": ("clocks_differ", difference),
+    "slept": ("slept", difference), "taken off": ("taken_off", difference),
+    "preempted": ("preempted", lambda told: {number(segment): number(off) for segment, off in told}),
+    "not covered": ("not_covered", lambda told: {words(name): number(value) for name, value in told.items()})}
+
+
+def take(head, name, told):
+    """What the line of a name tells."""
+    if name in FIELDS:
+        field_name, read = FIELDS[name]
+        setattr(head, field_name, read(told))
+    elif name in DIVISION:
+        head.division[name] = number(told)
+    else:
+        LINES[name](head, told)
 
 
 def read_line(head, line):
@@ -256,10 +247,10 @@ def read_line(head, line):
     name, _, value = line.partition(": ")
     if name == "remark":
         head.remarks.append(read_remark(value))
-    if name not in LINES:
+    if name not in (*LINES, *FIELDS, *DIVISION):
         return
     try:
-        LINES[name](head, json.loads(value))
+        take(head, name, json.loads(value))
     except DAMAGE:
         if name == "recorded" or head.is_measured:     # else it is somebody's own
             is_older = name == "recorded" and not value.startswith("{")

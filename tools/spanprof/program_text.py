@@ -146,19 +146,3 @@ def line(statement):
     if statement.kind == "taskgroup":
         return "taskgroup {%s\n" % comment
     return "}\n" if statement.kind == "end" else "taskwait%s\n" % comment
-
-
-def text_lines(stream, version):
-    """Neighbouring pieces of work are one, and none costs nothing."""
-    yield "omptasks %d\n" % version
-    cost = 0
-    for statement in stream:
-        if statement.kind == "work":
-            cost += statement.cost
-            continue
-        if cost:
-            yield "work %d\n" % cost
-            cost = 0
-        yield line(statement)
-    if cost:
-        yield "work %d\n" % cost

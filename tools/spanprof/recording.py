@@ -118,15 +118,11 @@ def check_file(path, folder, expected):
             folder, name, how_again(folder)))
 
 
-def check_files_of(folder, meta):
+def in_folder(folder):
+    meta = read_meta(folder)
     for name, expected in meta["files"].items():
         if name in CHECKED:
             check_file(os.path.join(folder, name), folder, expected)
-
-
-def in_folder(folder):
-    meta = read_meta(folder)
-    check_files_of(folder, meta)
     text = os.path.join(folder, TEXT)
     if TEXT not in meta["files"]:
         raise Fault("%s: the recording has a log and no text; %s" % (folder, how_again(folder)))
@@ -139,15 +135,10 @@ def recorded_line(path):
     return next((line for line in head_text(path).splitlines() if line.startswith("# recorded: ")), "")
 
 
-def is_of_one_run(text, other):
-    """Whether the head of a file beside a text tells of the same run."""
-    return recorded_line(text) == recorded_line(other)
-
-
 def beside(text, ending):
     """The file of this ending beside a plain text; empty where there is none, or where it is of another run."""
     path = re.sub(r"\.tasks$", "", text) + ending
-    return path if os.path.exists(path) and is_of_one_run(text, path) else ""
+    return path if os.path.exists(path) and recorded_line(text) == recorded_line(path) else ""
 
 
 def folder_of(path):

@@ -150,28 +150,20 @@ def words_at(kind, line, token, general):
     return general
 
 
-def wrong_place(lines, number, answer, ask):
-    is_open = AT_LINE.match(answer)[2] == "Unclosed"
-    return open_brace(lines, number) if is_open else wrong_token(lines, number, answer, ask)
-
-
-def is_begun(lines):
-    """Whether the first token is that of a text; a byte order mark may stand before it."""
-    first = next(filter(None, map(tokens, lines)), [])[:2]
-    return "omptasks" in (token.group() for token in first)
-
-
 def at_line(name, text, answer, ask, kinds):
     number, kind = AT_LINE.match(answer).groups()
     lines, number = text.split("\n"), int(number)
     words = kinds.get(kind, "")
     if kind == "BadHeader" and not any(tokens(line) for line in lines):
         return "%s: the text is empty; %s" % (name, words.replace("a text", "one", 1))
-    if kind == "BadByte" and not is_begun(lines):
+    first = next(filter(None, map(tokens, lines)), [])[:2]      # a byte order mark may stand before the word
+    if kind == "BadByte" and "omptasks" not in (token.group() for token in first):
         return "%s: not a program text, which begins with `omptasks 1`; a recording is a folder, NAME.spanprof" % name
     if not 1 <= number <= len(lines):
         return "%s: %s" % (name, words or answer)
-    token = wrong_place(lines, number, answer, ask) if len(text) <= MOST_ASKED else None
+    token = None
+    if len(text) <= MOST_ASKED:
+        token = open_brace(lines, number) if kind == "Unclosed" else wrong_token(lines, number, answer, ask)
     if token:
         words = words_at(kind, lines[number - 1], token, words)
     elif kind in ("BadWord", "BadHeader") and number >= len(lines) - 1:
@@ -180,19 +172,14 @@ def at_line(name, text, answer, ask, kinds):
     return "\n".join(["%s:%s: %s: %s" % (name, place, kind, words)] + picture(lines[number - 1], number, token))
 
 
-def words_behind(lines):
-    """The words behind the divider of a document, of which the lines come one by one."""
-    lines = dropwhile(lambda line: not DIVIDER.fullmatch(line), lines)
-    return (word for line in islice(lines, 1, None) for word in line.split())
-
-
 def of_event(lines, answer):
     """The event that is refused, and why; empty for another answer. The lines are those of the document."""
     found = AT_EVENT.match(answer)
     if not found:
         return ""
     number, kind, other = found.groups()
-    words = islice(words_behind(lines), 3 * int(number), 3 * int(number) + 3)
+    behind = islice(dropwhile(lambda line: not DIVIDER.fullmatch(line), lines), 1, None)
+    words = islice((word for line in behind for word in line.split()), 3 * int(number), 3 * int(number) + 3)
     said = EVENTS.get(kind, kind)
     return "`%s`: %s" % (" ".join(words), said % other if "%s" in said else said)
 

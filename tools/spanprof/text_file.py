@@ -3,7 +3,7 @@ import os
 import re
 import shutil
 import tempfile
-from contextlib import contextmanager
+from contextlib import contextmanager, nullcontext
 from functools import lru_cache, wraps
 from itertools import chain, islice
 
@@ -102,4 +102,7 @@ def in_a_file(text):
 
 
 def opened(text):
-    return text.opened() if isinstance(text, TextFile) else in_a_file(text)
+    """A text, a TextFile, or a file that is open."""
+    if isinstance(text, str):
+        return in_a_file(text)
+    return text.opened() if isinstance(text, TextFile) else nullcontext(text)

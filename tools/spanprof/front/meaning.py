@@ -21,17 +21,12 @@ KINDS = {   # by the limits of the ten commands
 TOO_LONG = "standard input has at most 8,388,608 bytes"
 
 
-def text_in(path):
-    """The program text that a path means: that of a recording, or the file."""
-    inside = os.path.join(path, TEXT)
-    return inside if os.path.exists(inside) else path
-
-
 def of_words(words):
     """What is wrong with the arguments."""
     name = words[0]
     if name in USAGES:
-        text = next(filter(os.path.exists, map(text_in, words[1:])), "FILE")
+        there = (path for word in words[1:] for path in (os.path.join(word, TEXT), word))
+        text = next(filter(os.path.exists, there), "FILE")
         return "spanprof: wrong arguments of `%s`; usage: %s" % (name, USAGES[name][0].replace("FILE", text))
     every = COMMANDS + LARGE_COMMANDS + tuple(TOOLS) + tuple(OTHER_NAMES) + ("help",)
     alike = difflib.get_close_matches(name, every, n=1, cutoff=CLOSEST)

@@ -24,13 +24,6 @@ class Route:
     words: List[str]    # its arguments; those of a tool begin with the tool's name
 
 
-def is_of_tool(words, exists):
-    """Whether the arguments of `whatif` are those of the tool: one is an option, or names a file or folder. Those of
-    the command are SEGMENT=COST."""
-    others = [word for word in words if not CHANGE.fullmatch(word) and word != "--"]
-    return any(word.startswith("-") or exists(word) for word in others)
-
-
 def to_tool(name, words):
     return Route(TOOL, [OTHER_NAMES.get(name, name)] + words)
 
@@ -41,7 +34,10 @@ def with_arguments(name, words, exists):
         return to_tool(name, words) if words else Route(LARGE, [name])
     if words == ["--listed"]:
         return Route(LARGE, [name] + words)
-    return to_tool(name, words) if is_of_tool(words, exists) else Route(PROGRAM, [name] + words)
+    # Arguments of the tool are options, or name a file or folder; those of the command are SEGMENT=COST.
+    others = [word for word in words if not CHANGE.fullmatch(word) and word != "--"]
+    is_of_tool = any(word.startswith("-") or exists(word) for word in others)
+    return to_tool(name, words) if is_of_tool else Route(PROGRAM, [name] + words)
 
 
 def route(words, exists):

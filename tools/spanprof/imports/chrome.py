@@ -86,12 +86,6 @@ def name_of(event):
     return " ".join(filter(None, [str(event.get("name") or "a slice"), str(detail)]))
 
 
-def is_sum(event):
-    """Whether it is one of those that clang adds to a trace, which are the sums of others."""
-    told = event.get("args")
-    return isinstance(told, dict) and "avg ms" in told
-
-
 def take_slice(trace, event, open_ones):
     """One that is whole, or of which this is the begin or the end."""
     thread, kind, at = thread_of(event), event.get("ph"), trace.moment(event)
@@ -130,7 +124,9 @@ def trace_in(path, process=None):
     for event in events_in(path, text_of(path)):
         if process is not None and str(event.get("pid")) != process:
             continue
-        if event.get("ph") in ("X", "B", "E") and not is_sum(event):
+        told = event.get("args")
+        is_sum = isinstance(told, dict) and "avg ms" in told    # of others, as clang adds it to a trace
+        if event.get("ph") in ("X", "B", "E") and not is_sum:
             take_slice(trace, event, open_ones)
         elif event.get("ph") in FLOWS:
             flows.append(event)

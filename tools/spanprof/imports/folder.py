@@ -15,11 +15,6 @@ from spanprof.recording import ENDING, TEXT, TIMES
 from spanprof.record.work import PART
 
 
-def date_of(path):
-    """When the file was written."""
-    return datetime.fromtimestamp(os.stat(path).st_mtime, timezone.utc).strftime("%Y-%m-%dT%H:%M:%SZ")
-
-
 def write_lines(path, lines):
     with naming(path), open(path, "w", encoding="utf-8", errors="replace") as file:
         file.writelines(lines)
@@ -37,8 +32,9 @@ def fill(folder, path, name, told):
     run, why = (None, told.no_times) if told.no_times else run_of(tasks)
     unit = unit_of(tasks)
     numbers = (run.threads, run.elapsed) if run else ()
-    lines = head(name, os.path.basename(path), date_of(path), unit, *numbers)
-    write_lines(os.path.join(folder, TEXT), [*lines, *body(tasks, unit)])
+    written = datetime.fromtimestamp(os.stat(path).st_mtime, timezone.utc).strftime("%Y-%m-%dT%H:%M:%SZ")
+    lines = head(name, os.path.basename(path), written, unit, *numbers)
+    write_lines(os.path.join(folder, TEXT), [*lines, body(tasks, unit)])
     if run:
         write_lines(os.path.join(folder, TIMES), run.lines())
     write_meta(folder, facts_of(told, run))

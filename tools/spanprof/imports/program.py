@@ -2,7 +2,8 @@
 import json
 
 from spanprof.head import NANOSECONDS
-from spanprof.program_text import Statement, text_lines
+from spanprof.marks import as_text
+from spanprof.program_text import Statement
 
 MOST_COST, MOST_WORK = 10 ** 12, 10 ** 15   # of a text
 
@@ -33,4 +34,4 @@ def head(program, region, date, unit, threads=None, elapsed=None):
 
 
 def body(tasks, unit):
-    return text_lines(statements(tasks, NANOSECONDS[unit]), 1)
+    return as_text(statements(tasks, NANOSECONDS[unit]))

@@ -43,18 +43,13 @@ def timed(at, name, begin, end, worker=None):
     return Task(name, at, begin, end, worker)
 
 
-def cycle_of(tasks, left):
-    """Some of these that wait for each other, the first one twice."""
+def no_order(tasks, left):
+    """The fault of a graph with a cycle: some of these that wait for each other, the first one twice."""
     here, seen = min(left), {}
     while here not in seen:
         seen[here] = len(seen)
         here = next(first for first in tasks[here].before if first in left)
-    return [*list(seen)[seen[here]:], here]
-
-
-def no_order(tasks, left):
-    """The fault of a graph with a cycle."""
-    members = [tasks[number] for number in cycle_of(tasks, left)]
+    members = [tasks[number] for number in (*list(seen)[seen[here]:], here)]
     names = [one.name or "a task without code" for one in members]
     shown = names if len(names) <= SHOWN else names[:SHOWN - 1] + ["..", names[-1]]
     at = next((one.at for one in members if one.at), "the graph")

@@ -6,8 +6,8 @@ recorded. A steal hangs on the schedule and stands in no text.
 import json
 
 from spanprof.head import comments
-from spanprof.marks import statements
-from spanprof.program_text import Statement, text_lines
+from spanprof.marks import as_text, statements
+from spanprof.program_text import Statement
 
 KEPT = ("recorded: {", "region: ", "place: ")  # lines of the head
 
@@ -34,8 +34,8 @@ def with_costs(stream, costs):
 
 def text_with(head, text, costs):
     """A text of version 1 with these lines as its head, and these costs."""
-    body = text_lines(with_costs(statements(text.split("\n")), costs), 1)
-    return "".join([*("# %s\n" % line for line in head), *body])
+    body = as_text(with_costs(statements(text.split("\n")), costs))
+    return "".join("# %s\n" % line for line in head) + body
 
 
 def in_nanoseconds(line):

@@ -48,10 +48,6 @@ def base_of(recordings, threads):
     return most, Growth(recordings[numbers[-2]], most) if len(numbers) > 1 else None
 
 
-def outside_on(base, growth, threads):
-    return int(growth.outside(base, threads)) if growth else base.outside
-
-
 def simulated(simulation, program, costs, threads, spent, came, seeds):
     """The median end of some runs."""
     return statistics.median_low(simulation(program, costs, threads, spent, seed, came).run().end for seed in seeds)
@@ -70,21 +66,16 @@ def kind_of(of, threads):
     return AS_RECORDED if threads in of else ON_OTHERS if len(of) > 1 else ALONE
 
 
-def dispatch_on(machine, threads, base=None):
-    """As the recording tells it, or else the machine. On one thread tasks are run where they are made."""
-    if threads == 1:
-        return 0
-    return base.dispatch if base and base.dispatch is not None else machine.cost("dispatch", threads)
-
-
 def runs_of(runtime, base, machine, threads):
     """How a run is simulated, what a dispatch takes, what else is spent, and when the threads come, which no other
-    runtime tells. gcc's runtime takes its lock in place of a dispatch."""
+    runtime tells. gcc's runtime takes its lock in place of a dispatch, and on one thread tasks are run where they are
+    made."""
     spent = spent_on(machine, threads, base)
     came = on_threads(base.arrivals, base.threads, threads) if runtime == base.runtime else ()
     if runtime == GNU:
         return GnuSimulation, 0, Spent(0, spent.wake), came
-    return Simulation, dispatch_on(machine, threads, base), spent, came
+    dispatch = machine.cost("dispatch", threads) if base.dispatch is None else base.dispatch
+    return Simulation, dispatch if threads > 1 else 0, spent, came
 
 
 def of_one(base, growth, machine, threads, runtime, seeds):
@@ -93,7 +84,7 @@ def of_one(base, growth, machine, threads, runtime, seeds):
     grown = log(max(sum(costs), 1) / max(base.work, 1))
     simulation, dispatch, spent, came = runs_of(runtime, base, machine, threads)
     costs = burdened(base.program, costs, dispatch)
-    outside = outside_on(base, growth, threads)
+    outside = int(growth.outside(base, threads)) if growth else base.outside
     end = simulated(simulation, base.program, costs, threads, spent, came, seeds) + outside
     time = max(end, base.held)
     return Estimate(base, threads, time, time, time, costs, outside, dispatch, spent.steal, grown, base.held > end,

@@ -55,22 +55,14 @@ def predictions(recordings, machine, numbers=None, runtime=None):
     return [(one, least_end(one.base.text, one.costs, one.threads)) for one in found]
 
 
-def of_changed(base, change, machine, threads):
-    """Of a recording with a changed text, which `change` makes of its own: an estimate and its least end."""
-    found = estimate({base.threads: [with_text(base, change(base.text))]}, machine, threads)
-    return found, least_end(found.base.text, found.costs, threads)
-
-
-def unchanged(text):
-    return text
-
-
 def of_both(path, change, threads):
     """Pairs as above of a recording's text, and of what `change` makes of it; None without a model."""
     if not os.path.exists(machine_file()):
         return None
     machine, base = read_machine(machine_file()), recorded(*text_of(path))
-    return [of_changed(base, one, machine, threads) for one in (unchanged, change)]
+    found = [estimate({base.threads: [with_text(base, text)]}, machine, threads)
+             for text in (base.text, change(base.text))]
+    return [(one, least_end(one.base.text, one.costs, threads)) for one in found]
 
 
 def changed_told(path, change, threads):

@@ -3,7 +3,7 @@ from dataclasses import dataclass, field
 from typing import List, Tuple
 
 from spanprof.segment_table import code_of
-from spanprof.marks import Marks, statements_of
+from spanprof.marks import Marks, of_marks
 
 WORK, CREATE, WAIT, BEGIN, END = range(5)
 
@@ -113,7 +113,7 @@ class Builder:
 def read_program(text):
     """Of a text of version 1 that spanprof has taken."""
     marks, builder = Marks(text.split("\n")), Builder()
-    for one in statements_of(marks):
+    for one in of_marks(marks):
         builder.take(one)
     code = code_of(marks)
     return Program(builder.tasks, list(code.cost), list(code.places), list(code.task), builder.groups)

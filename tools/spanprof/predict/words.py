@@ -42,12 +42,8 @@ def runtime_words(base, machine, runtime=LLVM):
     return "%s and %s a steal (measured on this machine)" % (burden_words(costs[0]), in_us(costs[1]))
 
 
-def estimate_words(one):
-    return "%s predicted (%s to %s)" % (lasting(one.time), lasting(one.low), lasting(one.high))
-
-
 def with_least(one, least):
-    return "%s, %s %s" % (estimate_words(one), lasting(least), at_least())
+    return "%s predicted (%s to %s), %s %s" % (*map(lasting, (one.time, one.low, one.high, least)), at_least())
 
 
 def notes_on(one):

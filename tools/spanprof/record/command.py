@@ -36,18 +36,14 @@ def write_page(options, recording):
         raise Fault("no page is written")
 
 
-def try_page(options, recording):
+def report(session, recorded, scale=None):
     """The recording is written by now: that its page fails is told, and changes no exit status."""
+    recording = print_summaries(session, recorded, scale)
     try:
-        write_page(options, recording)
+        if session.options.html:
+            write_page(session.options, recording)
     except Fault as fault:
         say(str(fault))
-
-
-def report(session, recorded, scale=None):
-    recording = print_summaries(session, recorded, scale)
-    if session.options.html:
-        try_page(session.options, recording)
 
 
 def report_all(session, recorded, scale):
@@ -89,19 +85,11 @@ def record_and_report(options):
         return status or -signal.SIGINT
 
 
-def calibrate_and_tell(options):
-    try:
-        show(calibrate(options))
-        return 0
-    except Fault as fault:
-        say(str(fault))
-        return fault.status
-    except KeyboardInterrupt:
-        return -signal.SIGINT
-
-
 def answer(options):
-    end_as(calibrate_and_tell(options) if options.calibrate else record_and_report(options))
+    if options.calibrate:
+        show(calibrate(options))
+    else:
+        end_as(record_and_report(options))
 
 
 def main(words):

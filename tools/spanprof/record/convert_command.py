@@ -135,11 +135,6 @@ def part_text(chosen, program, log, out, name):
     return text
 
 
-def name_of_part(chosen):
-    stem = chosen.recording.rstrip(os.sep).removesuffix(ENDING)
-    return chosen.out or stem + ".region" * bool(chosen.region)
-
-
 def print_text(path):
     with open(path, encoding="utf-8", errors="surrogateescape", newline="") as file:
         shutil.copyfileobj(file, sys.stdout)
@@ -147,7 +142,8 @@ def print_text(path):
 
 def write_part(chosen, program, log):
     """Moves text and times of the part to where they are asked for."""
-    name = name_of_part(chosen)
+    stem = chosen.recording.rstrip(os.sep).removesuffix(ENDING)
+    name = chosen.out or stem + ".region" * bool(chosen.region)
     made = part_text(chosen, program, log, os.path.join(made_folder(), "part"), name)
     if chosen.text:
         print_text(made)

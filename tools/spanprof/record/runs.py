@@ -12,14 +12,9 @@ from spanprof.record.session import Recorded, why_nothing
 from spanprof.recording import TEXT
 
 
-def stem_of(work, number):
-    """Of one run, in a folder of its own."""
-    return os.path.join(work.part, "run%d" % number, os.path.basename(work.stem))
-
-
 def one_of_runs(session, number):
-    """The folders of one run, its numbers, and how it ended."""
-    stem = stem_of(session.work, number)
+    """How one run ended, its folders, and what is told of them. It has a folder of its own."""
+    stem = os.path.join(session.work.part, "run%d" % number, os.path.basename(session.work.stem))
     os.mkdir(os.path.dirname(stem))
     rewind()
     ended = session.run(stem)

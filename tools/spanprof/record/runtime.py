@@ -37,18 +37,14 @@ def llvm_runtime():
     return found[0]
 
 
-def may_load(linkage):
-    """Whether a library with OpenMP may come later: in an interpreter, or in a program that this one runs."""
-    return linkage.is_script or linkage.loads
-
-
 def refuse(path, linkage):
     """Ends where no recorder can be loaded into the program."""
     if linkage.is_static:
         raise Fault("%s is linked statically, and no recorder can be loaded into it; link it without -static" % path)
     if GCC in linkage.inside:
         raise Fault("%s has %s inside; link it with the shared library, or compile it with clang" % (path, GCC))
-    if not (linkage.libraries or linkage.inside or may_load(linkage)):
+    may_load = linkage.is_script or linkage.loads     # a library with OpenMP, itself or in a program that it runs
+    if not (linkage.libraries or linkage.inside or may_load):
         raise Fault("%s has no OpenMP in it: it is linked neither with %s nor with %s, and loads no other library or "
                     "program; was it compiled with -fopenmp?" % (path, GCC, LLVM))
 
@@ -62,16 +58,12 @@ def refuse_targets(lacking):
                     "runs it all the same)" % (found[0], llvm_runtime()))
 
 
-def check_library(path):
+def on_file(path):
     """The system would pass over another file, and the program run on its own runtime."""
     if not os.path.isfile(path):
         raise Fault("--runtime %s: no such file" % path)
     if first_bytes(path) != ELF:
         raise Fault("--runtime %s: not a shared library" % path)
-
-
-def on_file(path):
-    check_library(path)
     return Chosen(os.path.abspath(path), runtime_of(os.path.basename(path)) == GCC)
 
 

@@ -11,20 +11,14 @@ MODULE = re.compile(r"(?m)^\w+ \w+ \w+ runtime (.*)$")
 WORDS = {"gnu": "gcc %s's libgomp", "llvm": "LLVM %s's libomp"}
 
 
-def version_of_gcc(library):
-    defined, _ = symbols(listed(["readelf", "-W", "--dyn-syms", library]))
-    return next((version for name, version in FIRST_OF_GCC if name in defined), None)
-
-
-def version_of_llvm(library):
-    found = re.search(r"(?:llvm|omp)-(\d+)", os.path.realpath(library)) or re.search(r"(?:llvm|omp)-(\d+)", library)
-    return found[1] if found else None
-
-
 def named(library):
-    is_of_gcc = os.path.basename(library).startswith("libgomp")
-    return {"name": "gnu" if is_of_gcc else "llvm", "library": library,
-            "version": (version_of_gcc if is_of_gcc else version_of_llvm)(library)}
+    if os.path.basename(library).startswith("libgomp"):
+        defined, _ = symbols(listed(["readelf", "-W", "--dyn-syms", library]))
+        name, version = "gnu", next((version for name, version in FIRST_OF_GCC if name in defined), None)
+    else:
+        found = re.search(r"(?:llvm|omp)-(\d+)", os.path.realpath(library) + "\n" + library)
+        name, version = "llvm", found[1] if found else None
+    return {"name": name, "library": library, "version": version}
 
 
 def runtimes_in(modules):

@@ -18,14 +18,12 @@ def aligned(rows):
     return ["  ".join(word.rjust(width) for word, width in zip(words, widths)) for words in rows]
 
 
-def of_what(scale):
-    turns = "%d unrecorded runs on each number, in turns: elapsed time of the whole program" % scale.runs \
-        if scale.runs > 1 else "one unrecorded run on each number: elapsed time of the whole program"
-    return turns + (", on " + scale.library if scale.library else "") + " (measured)"
-
-
 def table_lines(scale):
-    out = aligned([HEADS] + [row(scale, threads) for threads in sorted(scale.times)]) + [of_what(scale), SAID]
+    turns = "%d unrecorded runs on each number, in turns" % scale.runs if scale.runs > 1 else \
+        "one unrecorded run on each number"
+    on = ", on " + scale.library if scale.library else ""
+    out = [*aligned([HEADS] + [row(scale, threads) for threads in sorted(scale.times)]),
+           turns + ": elapsed time of the whole program" + on + " (measured)", SAID]
     if 0 < scale.processors < scale.most:
         out.append("on %s they share %d processors" % (counted(scale.most, "thread"), scale.processors))
     return out

@@ -45,11 +45,6 @@ def check_earlier(path, out, is_replaced):
         raise Fault("--force would replace %s, with which --against compares; --out names the new one" % path)
 
 
-def check_spanprof():
-    """A fault before the run where there is nothing to read its recording with."""
-    client.ask(["span"], "omptasks 1\n")
-
-
 def notes_on(preload, called, is_asked=False):
     """What gcc's own runtime does all the same; where that computes otherwise, only if it was asked for."""
     lacking = what_it_lacks(preload, called) if preload and called else []
@@ -90,7 +85,7 @@ class Session:
         self.comparison = None      # with an earlier recording, where that is asked for
         if options.against:
             check_earlier(options.against, self.out, options.force)
-        check_spanprof()
+        client.ask(["span"], "omptasks 1\n")    # a fault before the run, where nothing can read its recording
         for name in ("scale", "full"):
             if getattr(options, name) and (launches or self.rank is not None):
                 raise Fault("--%s does not support MPI" % name)
@@ -179,10 +174,6 @@ class Session:
         if suspended:
             self.note_once("the machine was suspended for %.1f s meanwhile: record again" % (suspended / 1e9))
 
-    def tell_nothing(self, status, said):
-        what = "the run is recorded, and its text is not made" if has_failed(said.things) else "nothing is recorded"
-        say("%s: %s" % (what, why_nothing(status, said, self)))
-
     def record_once(self, more=None):
         """The program's end, the recordings, and what was said. `more` adds to the folder of the program's own, and
         answers what more is known of its run."""
@@ -194,5 +185,6 @@ class Session:
             write_meta(folders[0], {**old_meta(folders[0]), **more(folders[0])})
         found, said = self.publish(said)
         if not found:
-            self.tell_nothing(ended.status, said)
+            what = "the run is recorded, and its text is not made" if has_failed(said.things) else "nothing is recorded"
+            say("%s: %s" % (what, why_nothing(ended.status, said, self)))
         return Recorded(ended.status, found, said)

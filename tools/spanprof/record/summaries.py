@@ -39,24 +39,14 @@ def answered(recording):
 
 
 class Unmeasured(NamedTuple):
+    """Of a text that only spanprof_large takes, where that is not found."""
     name: str
     head: Head
-
-
-def print_unmeasured(recording, news):
-    """Of a text that only spanprof_large takes, where that is not found."""
-    told = Unmeasured(recording.name, head_of(recording.text))
-    show([title(told)] + named("warnings", remark_lines(told, [client.HOW] + list(news))))
 
 
 def rank_line(recording, answers):
     waits = waits_of(recording)
     return other_region(answers) + (", waits %s in calls of MPI" % waits.shown if waits else "")
-
-
-def print_rank(session, pairs, news):
-    """Of one process of MPI a line, since another tells its own beside it."""
-    show([rank_line(*pair) for pair in pairs] + ["%s: %s" % (session.work.name, one) for one in news])
 
 
 def diagnosed(recording, is_cut=False):
@@ -102,8 +92,8 @@ def print_summary(session, recording, answers, others, news, scale, is_cut):
 def print_measured(session, pairs, news, scale, is_cut):
     """Of recordings and what is answered of them: a summary of the rank that the others wait for, or of that with the
     most work, and of the others a line each. Answers which recording that is."""
-    if session.rank is not None:
-        print_rank(session, pairs, news)
+    if session.rank is not None:    # of one process of MPI, beside which others tell theirs
+        show([rank_line(*pair) for pair in pairs] + ["%s: %s" % (session.work.name, one) for one in news])
         return pairs[0][0]
     waits = list(filter(None, (waits_of(recording) for recording, _ in pairs)))
     late, ranks = waited_for(waits), told_of_waits(waits)
@@ -123,5 +113,6 @@ def print_summaries(session, recorded, scale=None):
     news = session.notes + recorded.said.news(session.out, [one.text for one in found], remarks)
     if pairs:
         return print_measured(session, pairs, news, scale, recorded.said.is_cut)
-    print_unmeasured(found[0], news)
+    told = Unmeasured(found[0].name, head_of(found[0].text))
+    show([title(told)] + named("warnings", remark_lines(told, [client.HOW] + list(news))))
     return None

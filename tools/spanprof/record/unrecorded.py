@@ -18,11 +18,6 @@ class Failed(Exception):
         self.status = status
 
 
-def others_on(threads):
-    """What a run on so many threads has in its environment besides."""
-    return ON_ONE if threads == 1 else {}
-
-
 def unrecorded(session, numbers, runs):
     """Elapsed times of the whole program in nanoseconds by number of threads. Each turn has a run on each number, so
     that a machine that becomes slower does so for all of them."""
@@ -33,7 +28,8 @@ def unrecorded(session, numbers, runs):
             tell(this)
             rewind()
             variables = without_recorder(os.environ, session.preload, threads, session.library)
-            ended = watched(session.path, session.options.command, dict(variables, **others_on(threads)))
+            variables.update(ON_ONE if threads == 1 else {})
+            ended = watched(session.path, session.options.command, variables)
             if ended.status:
                 raise Failed(this, ended.status)
             times[threads].append(ended.elapsed)

@@ -24,13 +24,10 @@ def variables(number):
     return " ".join("--%s: %s;" % pair for pair in named.items())
 
 
-def of_bars():
-    rule = ".lanes .c%d { fill: var(--c%d); } .lanes .t%d { fill: var(--t%d); } .key.c%d { background: var(--c%d); }"
-    return [rule % ((i,) * 6) for i in range(len(BARS))]
-
-
 def colour_rules():
     light, dark = (variables(number) for number in (0, 1))
+    rule = ".lanes .c%d { fill: var(--c%d); } .lanes .t%d { fill: var(--t%d); } .key.c%d { background: var(--c%d); }"
+    of_bars = (rule % ((i,) * 6) for i in range(len(BARS)))
     return "\n".join([":root { color-scheme: light; %s }" % light,
                       "@media (prefers-color-scheme: dark) { :root { color-scheme: dark; %s } }" % dark,
-                      *of_bars(), "@media print { :root { color-scheme: light; %s } }" % light]) + "\n"
+                      *of_bars, "@media print { :root { color-scheme: light; %s } }" % light]) + "\n"

@@ -5,7 +5,7 @@ from functools import partial
 
 from spanprof.progress import Progress, each
 from spanprof.report.colours import colour_rules
-from spanprof.report.markup import Markup, join, markup
+from spanprof.report.markup import join, markup
 from spanprof.report.part_changes import changes_part
 from spanprof.report.part_compare import compare_part
 from spanprof.report.part_curve import curve_part
@@ -37,12 +37,6 @@ def parts(views, progress):
     return list(filter(None, [make() for make in each(makers, progress)]))
 
 
-def as_script(found):
-    """For the script; no `<` in it can end the element."""
-    words = json.dumps(found, ensure_ascii=False, separators=(",", ":"))
-    return Markup(words.replace("<", "\\u003c"))
-
-
 def filled(text, pieces):
     """The template with a piece in the place of each `{{ name }}`."""
     before, *rest = text.split("{{")
@@ -56,7 +50,8 @@ def filled(text, pieces):
 def page(views, progress=None):
     """The whole page as text."""
     made = parts(views, progress or Progress("making the page"))
+    data = json.dumps({"programs": [timeline_data(view) for view in views]}, ensure_ascii=False, separators=(",", ":"))
     return filled(kept("page.html"), {
         "title": markup(" and ".join(view.name for view in views)), "main": join(made, "\n"),
-        "data": as_script({"programs": [timeline_data(view) for view in views]}),
+        "data": data.replace("<", "\\u003c"),     # so that nothing ends the element
         "style": colour_rules() + kept("style.css"), "script": "\n".join(map(kept, SCRIPTS))})

@@ -33,12 +33,6 @@ def speed_ups(answers, column):
             if column in row]
 
 
-def most_speed_ups(answers):
-    """What no run of the recorded code passes: by the text, and by the lock that was held the longest."""
-    ends = [(threads, least_end(answers, threads)) for threads in answers.curve]
-    return [(threads, answers.work / end if end else 1) for threads, end in ends]
-
-
 def step_of(most):
     """A distance of ticks that leaves ten of them or fewer."""
     return next(step for step in (1, 2, 4, 5, 8, 10, 16, 20, 32, 50, 64, 100, 128, 256) if most / step <= 10)
@@ -76,7 +70,10 @@ def told(view, threads):
 
 
 def curve_lines(axes, view, colour):
-    fastest, slowest = most_speed_ups(view.answers), speed_ups(view.answers, "bound")
+    # No run of the recorded code passes the first: by the text, and by the lock that was held the longest.
+    ends = [(threads, least_end(view.answers, threads)) for threads in view.answers.curve]
+    fastest = [(threads, view.answers.work / end if end else 1) for threads, end in ends]
+    slowest = speed_ups(view.answers, "bound")
     greedy = speed_ups(view.answers, "end")
     low = [(threads, min(slow, fast)) for (threads, slow), (_, fast) in zip(slowest, fastest)]
     pieces = [tag("polygon", points=axes.points(fastest + low[::-1]), class_="band " + colour),

@@ -18,30 +18,18 @@ def headline(found):
                                                several(facts.threads, "thread"), speed_words(facts)))
 
 
-def lost_words(told):
-    found = told.found
-    return [tag("p", tag("b", "%.0f %%" % (100 * found.facts.lost_share(loss))), " lost: ",
-                lost_sentence(found.facts, told.names, loss), ".", class_="lost") for loss in found.causes]
-
-
 def one_time(time, words):
     return tag("div", tag("b", time), tag("span", words), class_="time")
 
 
-def how_known(step):
-    return "predicted" if step.change else bound_word(step.kind).replace("about", "estimated")
-
-
-def best_words(found):
-    how = {"about": ", estimated", "or less": ", or less", "at best": ""}[word_of_best(found)]
-    return "at best%s: all threads busy all the time" % how
-
-
 def times(found):
     now = "now, on " + words_of_threads(found.facts)
-    first = [one_time(lasting(step.after), "after the first change, " + how_known(step)) for step in found.plan[:1]]
+    first = [one_time(lasting(step.after), "after the first change, %s" % (
+        "predicted" if step.change else bound_word(step.kind).replace("about", "estimated")))
+             for step in found.plan[:1]]
+    how = {"about": ", estimated", "or less": ", or less", "at best": ""}[word_of_best(found)]
     return tag("div", one_time(lasting(found.now), now), *first,
-               one_time(lasting(found.best), best_words(found)), class_="times")
+               one_time(lasting(found.best), "at best%s: all threads busy all the time" % how), class_="times")
 
 
 def parts(told):
@@ -89,12 +77,6 @@ def gain(step):
                class_="gain")
 
 
-def first_change(told):
-    return [tag("div", tag("h3", "First"), tag("p", change_sentence(told.found.facts, told.names, step), " ",
-                                               gain(step)), source_diff(told, step), class_="first")
-            for step in told.found.plan[:1]]
-
-
 def then(told):
     rows = [tag("li", tag("span", "or in its place: " * step.is_instead,
                           change_sentence(told.found.facts, told.names, step)), " ", gain(step))
@@ -113,8 +95,12 @@ def first_screen(told, warnings=0):
     """Numbers are in words of the diagnosis: tables below have those that are worked out again."""
     found = told.found
     title = tag("h3", "Where the time of the %s went" % several(found.facts.threads, "thread"))
-    return tag("div", headline(found), *lost_words(told), times(found), title, *part_bar(told), *first_change(told),
-               *then(told), sure(told, warnings), class_="diagnosis given")
+    lost = [tag("p", tag("b", "%.0f %%" % (100 * found.facts.lost_share(loss))), " lost: ",
+                lost_sentence(found.facts, told.names, loss), ".", class_="lost") for loss in found.causes]
+    first = [tag("div", tag("h3", "First"), tag("p", change_sentence(found.facts, told.names, step), " ", gain(step)),
+                 source_diff(told, step), class_="first") for step in found.plan[:1]]
+    return tag("div", headline(found), *lost, times(found), title, *part_bar(told), *first, *then(told),
+               sure(told, warnings), class_="diagnosis given")
 
 
 def without_run(view):

@@ -33,18 +33,6 @@ def recorded_data(run):
     return dict(run_data(starts, run.workers, run.count), lengths=packed(lengths), per=run.unit)
 
 
-def runs_data(view):
-    made = view.answers.greedy
-    runs = {"greedy": run_data(made.starts, or_none(made.threads), view.answers.threads)}
-    return dict(runs, recorded=recorded_data(view.run)) if view.run else runs
-
-
-def waits_data(predecessors):
-    """Of each segment how many it waits for, and how far before it each of these is."""
-    return {"counts": packed(map(len, predecessors)),
-            "steps": packed(s - p for s, before in enumerate(predecessors) for p in before)}
-
-
 def levels_data(view):
     """The runs of a long text, in bins of time."""
     scale = {"recorded": view.answers.head.nanoseconds or 1, "greedy": 1}
@@ -59,10 +47,14 @@ def timeline_data(view):
 
 def segments_data(view):
     """What the script needs: of each segment cost, task, place, slack; of each run starts and threads."""
-    answers, rows = view.answers, view.answers.rows
-    return {"name": view.name, "unit": view.unit, "nanoseconds": view.units.nanoseconds, "waits": waits_data(
-                answers.predecessors), "places": [place.name for place in view.places],
+    answers, rows, made = view.answers, view.answers.rows, view.answers.greedy
+    # Of each segment how many it waits for, and how far before it each of these is.
+    waits = {"counts": packed(map(len, answers.predecessors)),
+             "steps": packed(s - p for s, before in enumerate(answers.predecessors) for p in before)}
+    return {"name": view.name, "unit": view.unit, "nanoseconds": view.units.nanoseconds, "waits": waits,
+            "places": [place.name for place in view.places],
             "cost": packed(rows.cost), "task": packed(rows.task), "place": packed(view.place_of),
             "slack": packed(rows.slack), "critical": packed(answers.path_segments),
             "taskPlace": packed(view.task_place_of), "colours": len(BARS),
-            "runs": runs_data(view)}
+            "runs": {"greedy": run_data(made.starts, or_none(made.threads), answers.threads),
+                     **({"recorded": recorded_data(view.run)} if view.run else {})}}

@@ -36,7 +36,7 @@ class Asked(unittest.TestCase):
             self.asked("sh -c 'echo error: NotTimed 7; exit 1'")
 
     def test_no_program(self):
-        with self.assertRaisesRegex(NoBreakdown, "^spanprof_large: .*No such file"):
+        with self.assertRaisesRegex(NoBreakdown, "^SPANPROF_LARGE: /none: No such file"):
             self.asked("/none")
         with mock.patch("spanprof.client.takes_any_size", lambda: False):
             with self.assertRaises(NoBreakdown) as caught:
@@ -44,7 +44,8 @@ class Asked(unittest.TestCase):
         self.assertEqual(str(caught.exception), HOW)
 
     def test_no_document(self):
-        with self.assertRaisesRegex(NoBreakdown, "^/no/mine.timed: No such file or directory$"):
+        with mock.patch.dict(os.environ, {"SPANPROF_LARGE": "cat"}), \
+                self.assertRaisesRegex(NoBreakdown, "^/no/mine.timed: No such file or directory$"):
             ask([], "/no/mine.timed")
 
 

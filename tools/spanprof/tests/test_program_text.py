@@ -4,8 +4,8 @@ import unittest
 from collections import Counter
 
 from spanprof import folders
-from spanprof.marks import LONGEST_KNOWN, Marks, statements
-from spanprof.program_text import Statement, is_programs, text_lines, where
+from spanprof.marks import LONGEST_KNOWN, Marks, as_text, statements
+from spanprof.program_text import Statement, is_programs, where
 from spanprof.tests.columns import segments_of
 from spanprof.whatif.tests.made_up import ROW, SORT, changed, read
 
@@ -37,7 +37,7 @@ class Reading(unittest.TestCase):
             "starting one of the region's threads", "after the barrier of the region at a.c:5"])
         self.assertEqual([one.name for one in found if one.kind == "taskgroup"], [
             "the barrier of the region", "the barrier of the region at a.c:5", "a taskgroup"])
-        again = list(read("".join(text_lines(found, 1))))
+        again = list(read(as_text(found)))
         self.assertEqual(list(again), found)
 
     def test_turns_and_sections(self):
@@ -51,7 +51,7 @@ class Reading(unittest.TestCase):
             "the loop at a.c:5", "turns of the loop at a.c:5", "the sections", "a section",
             "the sections at a.c:9", "a section at a.c:9"])
         self.assertEqual(where(found[0].name), "a.c:5")
-        self.assertEqual(list(read("".join(text_lines(found, 1)))), found)
+        self.assertEqual(list(read(as_text(found))), found)
 
     def test_whose_a_task_is(self):
         for comment in ("", "a.c:5", "the loop at a.c:5", "a sectional view", "turns of the loopback at b.c:3"):
@@ -122,7 +122,7 @@ class Writing(unittest.TestCase):
     def test_a_text_stays(self):
         for text in (SORT, ROW):
             own = text[text.index("omptasks"):]
-            self.assertEqual("".join(text_lines(statements(text.splitlines(True)), 1)), own)
+            self.assertEqual(as_text(statements(text.splitlines(True))), own)
 
     def test_clauses(self):
         line = "task if(0) depend(in: a, b) depend(out: c) depend(in: d) {"
@@ -131,8 +131,8 @@ class Writing(unittest.TestCase):
     def test_neighbouring_work_is_one(self):
         pieces = [Statement("work", "here", 2), Statement("work", "there", 3), Statement("taskwait"),
                   Statement("work", "here", 0)]
-        self.assertEqual("".join(text_lines(pieces, 1)), "omptasks 1\nwork 5\ntaskwait\n")
-        self.assertEqual("".join(text_lines(pieces[:2], 1)), "omptasks 1\nwork 5\n")
+        self.assertEqual(as_text(pieces), "omptasks 1\nwork 5\ntaskwait\n")
+        self.assertEqual(as_text(pieces[:2]), "omptasks 1\nwork 5\n")
 
 
 if __name__ == "__main__":

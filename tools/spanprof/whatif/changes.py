@@ -7,7 +7,7 @@ from array import array
 from collections import Counter
 
 from spanprof.program_text import BLOCKS
-from spanprof.whatif.statements import MOST, as_statements
+from spanprof.marks import MOST, as_statements
 
 
 class Change:

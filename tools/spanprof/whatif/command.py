@@ -9,7 +9,7 @@ from spanprof import client
 from spanprof.answers import Answers
 from spanprof.command import Console, check_files, count, end_with
 from spanprof.errors import Fault
-from spanprof.marks import statements
+from spanprof.marks import as_text, statements
 from spanprof.predict.predictions import changed_told
 from spanprof.recording import text_of
 from spanprof.text_file import TextFile
@@ -19,7 +19,6 @@ from spanprof.whatif.listing import listing
 from spanprof.whatif.numbers import numbers_of
 from spanprof.whatif.output import as_json, lines, notes
 from spanprof.whatif.requests import Request, applied, changes
-from spanprof.whatif.statements import as_statements
 from spanprof.whatif.survey import survey
 from spanprof.whatif.texts import Text, version_of, write
 
@@ -72,11 +71,6 @@ def parse(words):
     return chosen
 
 
-def changed(text, made):
-    """A text of version 1 with changes."""
-    return as_statements(applied(statements(text.splitlines()), made)).text()
-
-
 def compare(chosen, text, before, path):
     """Writes the changed text to a file, and prints what is told of both."""
     threads = list(before.on)
@@ -93,8 +87,10 @@ def compare(chosen, text, before, path):
         raise Fault("this changes nothing: %s" % idle[0].words())
     after = numbers_of(TextFile(path), threads)
     told = list(notes(chosen.requests, made, costs, text.head, threads))
-    times, predicted = changed_told(chosen.text, lambda before: changed(before, asked()), threads[0]) \
-        if text.head.is_measured else ([], None)
+
+    def changed(region):
+        return as_text(applied(statements(region.splitlines()), asked()))
+    times, predicted = changed_told(chosen.text, changed, threads[0]) if text.head.is_measured else ([], None)
     print(as_json(told, before, after, predicted) if chosen.json else
           "\n".join([*told, *lines(before, after, text.head.unit), *times]),
           file=sys.stderr if chosen.output == "-" else sys.stdout)

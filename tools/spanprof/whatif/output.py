@@ -35,24 +35,15 @@ def proof_words(before, after):
     return words if has_ends else words + "; there was too little memory for a greedy schedule"
 
 
-def on_more_threads(head, threads):
-    """What the head has against numbers on so many threads."""
-    return ["on %d threads: %s" % (p, why_not_of_more_threads(head)) for p in threads if not speaks_of(head, p)]
-
-
-def yours_to_know(requests):
-    asked = {request.option for request in requests}
-    return [words for options, words in RIGHT if asked & set(options.split())]
-
-
 def notes(requests, made, costs, head, threads):
     """What stands above the numbers."""
     yield from ("changed: " + one.words() for one in made)
     if any(hasattr(one, "creating") for one in made):
         yield "a creation is assumed to cost %s: %s" % (grouped(costs.creating), costs.why)
-    yield from yours_to_know(requests)
+    asked = {request.option for request in requests}
+    yield from (words for options, words in RIGHT if asked & set(options.split()))
     yield from ("warning: " + remark for remark in head.remarks)
-    yield from on_more_threads(head, threads)
+    yield from ("on %d threads: %s" % (p, why_not_of_more_threads(head)) for p in threads if not speaks_of(head, p))
 
 
 def in_unit(unit):

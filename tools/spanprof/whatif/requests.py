@@ -32,11 +32,6 @@ def find(word, names, what):
     raise Fault("%s: %s %s of this name%s" % (word, "more than one" if found else "no", what, hint))
 
 
-def find_wait(word, names):
-    """A wait may be named by the code that follows it, too."""
-    return find(word.removeprefix("after "), names, "taskwait or taskgroup")
-
-
 def whole(word, least, most):
     if not re.fullmatch("[0-9]{1,15}", word) or not least <= int(word) <= most:
         raise Fault("%r is not a whole number from %d to %d" % (word, least, most))
@@ -68,7 +63,8 @@ def change(request, seen, costs):
     if option == "factor":
         return Factor(find(place, seen.code, "piece of code"), factor_of(number))
     if option == "drop-wait":
-        return DropWait(find_wait(place, seen.waits))
+        wait = place.removeprefix("after ")     # the code that follows it names it, too
+        return DropWait(find(wait, seen.waits, "taskwait or taskgroup"))
     if option == "drop-depend":
         return DropDepend(find(place, +seen.dependent, "task with depend items"))
     if option == "drop-name":

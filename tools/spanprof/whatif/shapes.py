@@ -7,7 +7,7 @@ from array import array
 
 from spanprof.program_text import BLOCKS, Statement, is_share, is_shared_out, where
 from spanprof.whatif.changes import Change
-from spanprof.whatif.statements import of_stream
+from spanprof.marks import of_stream
 
 
 class Creating(Change):

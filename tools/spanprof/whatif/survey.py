@@ -7,7 +7,7 @@ from dataclasses import dataclass, field
 from itertools import compress
 
 from spanprof.program_text import is_programs, is_share, is_shared_out
-from spanprof.whatif.statements import as_statements
+from spanprof.marks import as_statements
 
 
 @dataclass

@@ -3,9 +3,8 @@ from spanprof import client
 from spanprof.command import writing
 from spanprof.head import head_text, read_head
 from spanprof.remarks import in_json
-from spanprof.marks import Marks, marks_of_file
+from spanprof.marks import Marks, as_statements, marks_of_file, of_marks
 from spanprof.text_file import TextFile
-from spanprof.whatif.statements import as_statements, of_marks
 
 ENCODING = {"encoding": "utf-8", "errors": "replace", "newline": "\n"}
 OF_THE_RUN = ("covers", "not covered", "elapsed", "outside regions", "in other regions", "in parts without tasks",

@@ -12,7 +12,7 @@ from spanprof.head import read_head
 from spanprof.marks import statements
 from spanprof.program_text import Statement
 from spanprof.whatif.requests import Request
-from spanprof.whatif.statements import of_stream
+from spanprof.marks import of_stream
 from spanprof.whatif.survey import survey
 
 TASKS = "task at image.c:25"

@@ -8,6 +8,7 @@ from spanprof.predict.machine import Machine, Measured
 from spanprof.predict.program import read_program
 from spanprof.record import calibrate, command
 from spanprof.record.options import parse
+from spanprof.tests.in_folder import answered
 
 TREE = "omptasks 1 taskgroup {\ntask {  # one of the region's threads\nwork 15000\n%s}\n}\n"
 
@@ -49,9 +50,8 @@ class Calibrating(unittest.TestCase):
 
     def test_a_fault_is_told(self):
         with mock.patch("spanprof.record.command.calibrate", side_effect=Fault("no runtime")), \
-                contextlib.redirect_stderr(io.StringIO()) as told:
-            self.assertEqual(command.calibrate_and_tell(None), OWN_FAULT)
-        self.assertEqual(told.getvalue(), "spanprof-record: no runtime\n")
+                mock.patch("signal.signal"):
+            self.assertEqual(answered(command.main, ["--calibrate"]), (OWN_FAULT, "", "spanprof-record: no runtime\n"))
 
     def test_it_ends_in_time(self):
         with mock.patch.object(calibrate, "run", return_value="task 5\n") as run, \

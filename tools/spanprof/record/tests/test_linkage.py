@@ -4,8 +4,8 @@ import unittest
 from unittest import mock
 
 from spanprof.errors import Fault
-from spanprof.record.linkage import (GCC, LLVM, Linkage, is_checked, is_static, linkage, loads_more, shared_runtimes,
-                                     symbols)
+from spanprof.record.linkage import (ELF, GCC, LLVM, Linkage, is_checked, is_static, linkage, loads_more,
+                                     shared_runtimes, symbols)
 from spanprof.record.runtime import Chosen, by_version, choose, what_it_lacks
 from spanprof.record.tests.made_up import LDD_GCC, LDD_LLVM, LDD_MISSING, LDD_PLAIN, LDD_STATIC, SYMBOLS
 
@@ -111,7 +111,8 @@ class Choosing(unittest.TestCase):
                 choose("mine", Linkage(), path)
 
     def test_another_one_of_gcc(self):
-        with mock.patch("spanprof.record.runtime.check_library"):
+        with mock.patch("os.path.isfile", return_value=True), \
+                mock.patch("spanprof.record.runtime.first_bytes", return_value=ELF):
             self.assertEqual(choose("mine", Linkage(), "/gcc-14/libgomp.so.1"), Chosen("/gcc-14/libgomp.so.1", True))
 
     def test_the_newest_version_comes_first(self):

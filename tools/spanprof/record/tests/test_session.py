@@ -4,6 +4,7 @@ import io
 import os
 import resource
 import unittest
+from types import SimpleNamespace
 from unittest import mock
 
 from spanprof.errors import Fault
@@ -174,7 +175,9 @@ class Statuses(unittest.TestCase):
 class Pages(unittest.TestCase):
     def page(self, **options):
         chosen = argparse.Namespace(**dict(dict(html="p.html"), **options))
-        command.try_page(chosen, Recording("mine.spanprof/program.tasks", folder="mine.spanprof"))
+        recording = Recording("mine.spanprof/program.tasks", folder="mine.spanprof")
+        with mock.patch("spanprof.record.command.print_summaries", return_value=recording):
+            command.report(SimpleNamespace(options=chosen), None)
 
     def test_the_words_of_the_reporter(self):
         with mock.patch("subprocess.run", return_value=mock.Mock(returncode=0)) as run:

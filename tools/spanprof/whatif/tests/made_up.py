@@ -1,6 +1,5 @@
 """Small texts that the tests change."""
-from spanprof.marks import statements
-from spanprof.program_text import text_lines
+from spanprof.marks import as_text, statements
 
 SORT = """\
 # recorded: {"program": "sort", "threads": 2, "clock": "cpu", "unit": "us"}
@@ -76,4 +75,4 @@ def changed(text, *changes):
     stream = statements(text.splitlines(True))
     for change in changes:
         stream = change(stream)
-    return " ".join(line.partition("#")[0].strip() for line in text_lines(stream, 1)).replace("omptasks 1 ", "")
+    return " ".join(line.partition("#")[0].strip() for line in as_text(stream).splitlines()).replace("omptasks 1 ", "")

@@ -1,7 +1,6 @@
 import unittest
 
-from spanprof.marks import statements
-from spanprof.program_text import text_lines
+from spanprof.marks import as_text, statements
 from spanprof.whatif.creating import Costs
 from spanprof.whatif.requests import Request, applied, changes
 from spanprof.whatif.survey import survey
@@ -18,7 +17,7 @@ work 4
 def changed(option, word):
     kept = list(statements(TEXT.splitlines(True)))
     made = changes([Request(option, word)], survey(kept), Costs(0, None, ""))
-    return "".join(text_lines(applied(kept, made), 1)), made[0].words()
+    return as_text(applied(kept, made)), made[0].words()
 
 
 class Access(unittest.TestCase):

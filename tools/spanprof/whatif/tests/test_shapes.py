@@ -1,7 +1,6 @@
 import unittest
 
-from spanprof.marks import statements
-from spanprof.program_text import text_lines
+from spanprof.marks import as_text, statements
 from spanprof.whatif.join import Join
 from spanprof.whatif.shapes import Cutoff, Grain, OwnTask, Split
 from spanprof.whatif.tests.made_up import LOOPS, ROW, SORT, changed
@@ -21,13 +20,13 @@ class More(unittest.TestCase):
 
     def test_the_parts_have_a_place(self):
         stream = Split("after taskgroup at sort.c:7", 2, 0, 0)(statements(SORT.splitlines(True)))
-        self.assertIn("task {  # sort.c:7, a part\n", list(text_lines(stream, 1)))
+        self.assertIn("task {  # sort.c:7, a part\n", as_text(stream).splitlines(True))
 
     def test_the_parts_of_a_place_with_callers(self):
         text = "omptasks 1\ntask {  # b.c:6 called from f at b.c:10\nwork 9\n}\n"
         split = Split("task at b.c:6 called from f at b.c:10", 2, 0, 0)
         self.assertIn("task {  # b.c:6 called from f at b.c:10, a part\n",
-                      list(text_lines(split(statements(text.splitlines(True))), 1)))
+                      as_text(split(statements(text.splitlines(True)))).splitlines(True))
 
     def test_what_costs_less_stays_whole(self):
         split = Split("task at sort.c:8", 2, 0, 11)
