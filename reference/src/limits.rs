@@ -2,7 +2,6 @@
 
 pub const MOST_TEXT_BYTES: usize = 4_194_304;
 pub const MOST_WORD_BYTES: usize = 31;
-pub const MOST_ITEMS: usize = 32;
 pub const MOST_COST: u64 = 1_000_000_000_000;
 pub const MOST_WORK: u64 = 1_000_000_000_000_000;
 pub const MOST_MOMENT: u64 = 1_000_000_000_000_000_000;
@@ -28,6 +27,8 @@ pub struct Limits {
     pub nesting: usize,
     pub tasks: usize,
     pub segments: usize,
+    /// Depend items of a task.
+    pub task_items: usize,
     /// Depend items of all tasks in version 1, and locations in version 2.
     pub items: usize,
     /// Turns of all loops, and lines of the canonical text behind its header.
@@ -46,6 +47,7 @@ pub const COMMANDS: Limits = Limits {
     nesting: 64,
     tasks: 4_096,
     segments: 16_384,
+    task_items: 32,
     items: usize::MAX,
     turns: 65_536,
     lines: usize::MAX,
@@ -61,6 +63,7 @@ pub const ANY_SIZE: Limits = Limits {
     nesting: 1_048_576,
     tasks: usize::MAX,
     segments: usize::MAX,
+    task_items: 65_536,
     items: 4_294_967_294,
     turns: 4_000_000_000,
     lines: 4_000_000_000,

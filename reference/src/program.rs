@@ -1,7 +1,7 @@
 //! A program: the flat list of its marks, and its canonical text.
 
 use crate::growth::push;
-use crate::limits::{MOST_ITEMS, MOST_WORD_BYTES};
+use crate::limits::MOST_WORD_BYTES;
 use crate::refusal::Refusal;
 use crate::tokens::Version;
 use std::io::Write;
@@ -94,8 +94,9 @@ impl Program {
 
     /// How many bytes of the line of a mark are no blanks.
     pub fn solid_bytes(&self, mark: Mark) -> Result<usize, Refusal> {
+        let items = if let Mark::Task(number) = mark { self.items_of(number).len() } else { 0 };
         let mut text = Vec::new();
-        text.try_reserve(MOST_BYTES_OF_ITEM * (2 + MOST_ITEMS))?;
+        text.try_reserve(MOST_BYTES_OF_ITEM * (2 + items))?;
         self.print_line(mark, &mut text);
         Ok(text.iter().filter(|byte| !b" \n".contains(byte)).count())
     }

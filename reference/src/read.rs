@@ -2,7 +2,7 @@
 
 use crate::grammar::{Index, Parser, Piece};
 use crate::growth::{boxed, push};
-use crate::limits::{Limits, MOST_INDEX, MOST_ITEMS, MOST_ROWS, MOST_TEXT_BYTES, MOST_WORK};
+use crate::limits::{Limits, MOST_INDEX, MOST_ROWS, MOST_TEXT_BYTES, MOST_WORK};
 use crate::program::{Clauses, Item, Kind, Mark, Program};
 use crate::refusal::{ensure, Refusal};
 use crate::tokens::{Scanner, Version};
@@ -122,7 +122,7 @@ impl<'a> Builder<'a> {
             Version::One => self.program.items.len(),
             Version::Two => self.program.names.len(),
         };
-        let has_room = self.program.items.len() - self.first_item() < MOST_ITEMS && all < self.limits.items;
+        let has_room = self.program.items.len() - self.first_item() < self.limits.task_items && all < self.limits.items;
         ensure(has_room, || Refusal::Line(line, "TooManyItems"))?;
         self.location.clear();
         self.location.try_reserve(name.len() + MOST_INDEX_BYTES)?;

@@ -29,7 +29,7 @@ KINDS = {
     "TooDeep": "at most 1,048,576 blocks inside each other, 64 in version 2",
     "TooManyTasks": "spanprof reads at most 4,096 tasks, and spanprof_large, which is not found, any number",
     "TooManySegments": "spanprof reads at most 16,384 segments, and spanprof_large, which is not found, any number",
-    "TooManyItems": "a task has at most 32 depend items, and a text 4,294,967,294",
+    "TooManyItems": "a task has at most 65,536 depend items, and a text 4,294,967,294",
     "WorkTooLarge": "all costs together are at most 1,000,000,000,000,000; a larger unit of time helps",
     "TooManyTurns": "all loops together have at most 4,000,000,000 turns"}
 COST = "a cost is a whole number up to 1,000,000,000,000"

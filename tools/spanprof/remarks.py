@@ -15,7 +15,7 @@ WORDS = {
     "mutexinoutset": ("mutexinoutset", ""),
     "all memory": ("dependence on all memory, left out", ""),
     "unknown item": ("depend item of an unknown type, written as inout", ""),
-    "items left out": ("depend item beyond the 32nd of its task, left out", ""),
+    "items left out": ("depend item beyond the 65,536th of its task, left out", ""),
     "between turns": ("dependence between iterations of a loop (ordered), left out",
                       "since waiting for other iterations counts as code"),
     "wait for a turn": ("wait for another iteration of a loop, whose beginning is not reported: estimated",

@@ -23,7 +23,7 @@ use Rattle.task_program.proofs.Tallies.{Tally}
 use Rattle.task_program.proofs.FaultFound.{end_by, whole_ends, texts_long}
 use Rattle.task_program.proofs.Machines.{EndsSo}
 use Rattle.large_text.specs.declared.limits.TheConstants.{MOST_LARGE_TOKEN_BYTES}
-use Rattle.large_text.specs.declared.limits.TheConstants.{MOST_LARGE_NESTING}
+use Rattle.large_text.specs.declared.limits.TheConstants.{MOST_LARGE_NESTING, MOST_TASK_ITEMS}
 use Rattle.large_text.specs.declared.reader.MarkReader.{MarkReader}
 use Rattle.large_text.specs.LargeReading.{state_of}
 use Rattle.task_program.proofs.Shapes.{FollowsAt, nothing_follows}
@@ -110,7 +110,7 @@ pub ends_so : (before : List Token) (state : State) (line : ℕ) (fault : ReadFa
 ends_so before state line fault b h = (
   λ s. whole_ends state.place state.tree.blocks line fault (whole_now (texts before) state b.began s)
       h,
-  end_by MOST_LARGE_TOKEN_BYTES MOST_LARGE_NESTING too_many_large before state.place
+  end_by MOST_LARGE_TOKEN_BYTES MOST_LARGE_NESTING MOST_TASK_ITEMS too_many_large before state.place
       state.head.has_if state.tree.blocks line fault
       (subst (λ (n : ℕ). LengthAt state.place n) (texts_long before) b.began.length_is)
       (ap (λ (t : Tally). t.braces) b.tally_is)

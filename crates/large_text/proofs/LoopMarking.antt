@@ -6,7 +6,6 @@ use Rattle.std.specs.Prelude.{nat_le, nat_lt}
 use Rattle.std.proofs.Common.{Vec, Global, map, reverse}
 use Rattle.std.proofs.lemmas.List.{map-append, reverse-append}
 use Rattle.program_text.specs.declared.statement.Item.{Item}
-use Rattle.program_text.specs.declared.limits.TheConstants.{MOST_ITEMS}
 use Rattle.program_text.specs.declared.fault.ReadKind.TheVariants.{WorkTooLarge, TooManyItems, BadNumber}
 use Rattle.large_text.specs.declared.reader.OpenBlock.{OpenBlock}
 use Rattle.large_text.specs.declared.reader.OpenBlock.TheVariants.{OpenTask, OpenGroup}
@@ -34,6 +33,7 @@ use Rattle.task_program.proofs.Expanding.{one_piece, then_pieces}
 use Rattle.task_segments.specs.Moments.{last_moment}
 use Rattle.task_segments.proofs.LastMoment.{moment_after-append}
 use Rattle.large_text.specs.declared.limits.TheConstants.{MOST_LARGE_TURNS, MOST_LARGE_LINES, MOST_LARGE_ITEMS}
+use Rattle.large_text.specs.declared.limits.TheConstants.{MOST_TASK_ITEMS}
 use Rattle.large_text.specs.declared.loop_marks.LoopMarks.{LoopMarks}
 use Rattle.large_text.specs.declared.tally.Tally.{Tally}
 use Rattle.large_text.specs.LoopMarked.{AreOpen, HasEntered, blocks_seen}
@@ -408,7 +408,7 @@ block_entered : (taker : LoopMarks) (blocks : Vec OpenBlock Global) (items : Lis
     → next.turns ≡ state.turns
     → next.names ≡ state.names
     → next.items ≡ items
-    → length items ≤ MOST_ITEMS
+    → length items ≤ MOST_TASK_ITEMS
     → next.tree ≡ record {
       blocks = block_seen block ∷ state.tree.blocks;
       marks = state.tree.marks ++ mark ∷ [];
@@ -542,12 +542,12 @@ full_of taker state h =
 
 room_left : (taker : LoopMarks)
     → is_full (length taker.items) (length taker.names) ≡ false
-    → (length taker.items < MOST_ITEMS) × (length taker.names < MOST_LARGE_ITEMS)
+    → (length taker.items < MOST_TASK_ITEMS) × (length taker.names < MOST_LARGE_ITEMS)
 room_left taker room =
-    let items = nat_le MOST_ITEMS (length taker.items) in
+    let items = nat_le MOST_TASK_ITEMS (length taker.items) in
     let names = nat_le MOST_LARGE_ITEMS (length taker.names) in
     let parts = or_parts items names room in (
-      leb-false MOST_ITEMS (length taker.items) parts.0,
+      leb-false MOST_TASK_ITEMS (length taker.items) parts.0,
       leb-false MOST_LARGE_ITEMS (length taker.names) parts.1,
     )
 

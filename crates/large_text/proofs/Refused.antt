@@ -20,7 +20,7 @@ use Rattle.task_program.proofs.Begun.{Began, viable_next}
 use Rattle.task_program.proofs.Begun.{fits_of, closes_same}
 use Rattle.task_program.proofs.FaultFound.{misplaced_or, unless_err}
 use Rattle.large_text.specs.declared.limits.TheConstants.{MOST_LARGE_TOKEN_BYTES}
-use Rattle.large_text.specs.declared.limits.TheConstants.{MOST_LARGE_NESTING}
+use Rattle.large_text.specs.declared.limits.TheConstants.{MOST_LARGE_NESTING, MOST_TASK_ITEMS}
 use Rattle.large_text.specs.declared.reader.MarkReader.{MarkReader}
 use Rattle.large_text.specs.LargeFaults.{grammar_fault, large_limit_by}
 use Rattle.large_text.specs.LargeFaults.{closes_no_block, is_inside_at, items_coming}
@@ -39,7 +39,7 @@ misplaced : (before : List Token) (state : State) (text : List ℕ) (kind : Read
     → grammar_fault state.place state.head.has_if (length state.tree.blocks) text ≡ Some kind
     → IsWrong large_rules before text kind
 misplaced before state text kind began formed h =
-    misplaced_or MOST_LARGE_TOKEN_BYTES MOST_LARGE_NESTING too_many_large before state text
+    misplaced_or MOST_LARGE_TOKEN_BYTES MOST_LARGE_NESTING MOST_TASK_ITEMS too_many_large before state text
     kind (closes_no_block state.place (length state.tree.blocks) text) None began formed
     (closes_so state.place (length state.tree.blocks) text) h
     (λ header unopened allowed none. absurd cc)

@@ -7,7 +7,7 @@ use Rattle.std.proofs.lemmas.Bool.{not-false, ltb-false}
 use Rattle.std.proofs.lemmas.List.{length-map}
 use Rattle.std.proofs.Common.{length-append}
 use Rattle.program_text.specs.declared.fault.ReadKind.{ReadKind}
-use Rattle.program_text.specs.declared.limits.TheConstants.{MOST_ITEMS, MOST_WORK}
+use Rattle.program_text.specs.declared.limits.TheConstants.{MOST_WORK}
 use Rattle.program_text.specs.Limits.{work_of, work_done}
 use Rattle.program_text.specs.Marks.{Mark}
 use Rattle.program_text.specs.Tokens.{Token, texts}
@@ -30,6 +30,7 @@ use Rattle.task_program.proofs.Tallies.{NoItems, is_past_header, place_tallies, 
 use Rattle.task_program.proofs.FaultFound.{items_go, tally_goes}
 use Rattle.large_text.specs.declared.limits.TheConstants.{MOST_LARGE_NESTING}
 use Rattle.large_text.specs.declared.limits.TheConstants.{MOST_LARGE_ITEMS}
+use Rattle.large_text.specs.declared.limits.TheConstants.{MOST_TASK_ITEMS}
 use Rattle.large_text.specs.declared.marks.TextMark.{TextMark}
 use Rattle.large_text.specs.declared.reader.MarkReader.{MarkReader}
 use Rattle.large_text.specs.LargeFaults.{large_limit_by, is_inside_at}
@@ -122,7 +123,7 @@ pub limits_so : (before : List Token) (state : State) (work all_items : ℕ) (te
     → tally_of (drop 2 before) ≡ tally_now state
     → work ≡ work_of state.tree.marks
     → AreCounted before state.place all_items
-    → limit_fault_after MOST_LARGE_NESTING (too_many_large (drop 2 before) text) (drop 2 before) text
+    → limit_fault_after MOST_LARGE_NESTING MOST_TASK_ITEMS (too_many_large (drop 2 before) text) (drop 2 before) text
     ≡ large_limit_by (is_inside_at state.place) work (all_items + items_coming state.place)
     (length state.head.items + items_coming state.place) (length state.tree.blocks) text
 limits_so before state work all_items text tally_is work_is counted =
@@ -283,7 +284,7 @@ read_more before marks old new token mark r step work all_items =
         bytes = omega (arith, bytes_is, form.bytes_fit);
         all_items = omega (arith, all_items, ltb-false MOST_LARGE_ITEMS _ under.all_fit);
         names = omega (arith, names_few, all_items, r.within.names);
-        items = omega (arith, items_few, ltb-false MOST_ITEMS _ under.items_fit);
+        items = omega (arith, items_few, ltb-false MOST_TASK_ITEMS _ under.items_fit);
         work = omega (arith, work_is, work_few);
       };
     }

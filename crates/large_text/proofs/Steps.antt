@@ -8,7 +8,6 @@ use Rattle.std.specs.Prelude.{nat_lt}
 use Rattle.std.proofs.lemmas.Bool.{ltb-false}
 use Rattle.std.proofs.Math.Dec.{eqb-suc-zero}
 use Rattle.program_text.specs.declared.fault.ReadKind.{ReadKind}
-use Rattle.program_text.specs.declared.limits.TheConstants.{MOST_ITEMS}
 use Rattle.program_text.specs.Tokens.{Token}
 use Rattle.program_text.specs.declared.fault.ReadKind.TheVariants.{TooLong, BadByte, BadWord}
 use Rattle.program_text.specs.declared.fault.ReadKind.TheVariants.{BadNumber, TooDeep, TooManyItems}
@@ -30,6 +29,7 @@ use Rattle.task_program.proofs.Shapes.{closes_none}
 use Rattle.large_text.specs.declared.limits.TheConstants.{MOST_LARGE_TOKEN_BYTES}
 use Rattle.large_text.specs.declared.limits.TheConstants.{MOST_LARGE_NESTING}
 use Rattle.large_text.specs.declared.limits.TheConstants.{MOST_LARGE_ITEMS}
+use Rattle.large_text.specs.declared.limits.TheConstants.{MOST_TASK_ITEMS}
 use Rattle.large_text.specs.LargeFaults.{large_form_fault, grammar_fault, large_limit_by}
 use Rattle.large_text.specs.LargeFaults.{closes_no_block, is_inside_at, items_coming}
 use Rattle.large_text.specs.LargeTrees.{too_many_items}
@@ -94,7 +94,7 @@ pub record IsUnder (inside : Bool) (work all_items items open_blocks : ℕ) (tex
     : Type 0 where
   pub value : is_value_too_large inside text ≡ false
   pub all_fit : nat_lt MOST_LARGE_ITEMS all_items ≡ false
-  pub items_fit : nat_lt MOST_ITEMS items ≡ false
+  pub items_fit : nat_lt MOST_TASK_ITEMS items ≡ false
   pub work_fits : is_work_past inside work text ≡ false
 
 none_or : (many : Bool) (kind : ReadKind) (later : Option ReadKind)
@@ -110,12 +110,12 @@ is_under inside work all_items items open_blocks text h =
     let work_row : Option ReadKind =
     cond (is_work_past inside work text) (Some WorkTooLarge) None in
     let items_row : Option ReadKind =
-    cond (nat_lt MOST_ITEMS items) (Some TooManyItems) work_row in
+    cond (nat_lt MOST_TASK_ITEMS items) (Some TooManyItems) work_row in
     let first = row_passed _ _ _ h in
     let second = row_passed (is_too_deep MOST_LARGE_NESTING open_blocks text) TooDeep
     (option_or (too_many_items all_items) items_row) first.1 in
     let all = none_or (nat_lt MOST_LARGE_ITEMS all_items) TooManyItems items_row second.1 in
-    let third = row_passed (nat_lt MOST_ITEMS items) TooManyItems work_row all.1 in
+    let third = row_passed (nat_lt MOST_TASK_ITEMS items) TooManyItems work_row all.1 in
     let fourth = row_passed (is_work_past inside work text) WorkTooLarge None third.1 in
     record { value = first.0; all_fit = all.0; items_fit = third.0; work_fits = fourth.0 }
 

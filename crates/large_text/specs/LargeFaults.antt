@@ -7,7 +7,6 @@ use Rattle.program_text.specs.declared.fault.ReadKind.{ReadKind}
 use Rattle.program_text.specs.declared.fault.ReadKind.TheVariants.{BadHeader, BadWord, BadNumber}
 use Rattle.program_text.specs.declared.fault.ReadKind.TheVariants.{Unopened, TooDeep, TooManyItems}
 use Rattle.program_text.specs.declared.fault.ReadKind.TheVariants.{WorkTooLarge}
-use Rattle.program_text.specs.declared.limits.TheConstants.{MOST_ITEMS}
 use Rattle.program_text.specs.TokenFaults.{form_fault_within}
 use Rattle.program_text.specs.Words.{is_text}
 use Rattle.task_program.specs.declared.place.Place.{Place}
@@ -18,6 +17,7 @@ use Rattle.task_program.specs.Faults.{is_header, is_allowed}
 use Rattle.task_program.specs.TokenCounts.{is_value_too_large, is_too_deep, is_work_past}
 use Rattle.large_text.specs.declared.limits.TheConstants.{MOST_LARGE_TOKEN_BYTES}
 use Rattle.large_text.specs.declared.limits.TheConstants.{MOST_LARGE_NESTING}
+use Rattle.large_text.specs.declared.limits.TheConstants.{MOST_TASK_ITEMS}
 use Rattle.large_text.specs.LargeTrees.{too_many_items}
 
 -- what is wrong with the token by itself, after so many bytes of tokens
@@ -62,6 +62,6 @@ abbrev pub large_limit_by : (inside : Bool) (work all_items items open_blocks : 
 large_limit_by inside work all_items items open_blocks text =
     if is_value_too_large inside text then Some BadNumber
     else (if is_too_deep MOST_LARGE_NESTING open_blocks text then Some TooDeep
-    else option_or (too_many_items all_items) (if nat_lt MOST_ITEMS items then Some TooManyItems
+    else option_or (too_many_items all_items) (if nat_lt MOST_TASK_ITEMS items then Some TooManyItems
     else (if is_work_past inside work text then Some WorkTooLarge
     else None)))

@@ -2,7 +2,7 @@
 use Rattle.std.specs.Prelude.{◌≡◌, ℕ, ◌+◌, ◌≤◌, true, List, [], ◌∷◌, ◌++◌, length, map, reverse}
 use Rattle.std.specs.Prelude.{Option, Some, None, Result, Ok}
 use Rattle.program_text.specs.declared.fault.ReadFault.{ReadFault}
-use Rattle.program_text.specs.declared.limits.TheConstants.{MOST_ITEMS, MOST_WORK}
+use Rattle.program_text.specs.declared.limits.TheConstants.{MOST_WORK}
 use Rattle.program_text.specs.declared.limits.TheConstants.{LARGEST_COST}
 use Rattle.program_text.specs.Limits.{work_of}
 use Rattle.program_text.specs.Marks.{Mark}
@@ -19,6 +19,7 @@ use Rattle.task_program.specs.TreeSoFar.{Block, with_block}
 use Rattle.task_program.specs.TreeSoFar.Block.{TaskBlock, GroupBlock}
 use Rattle.large_text.specs.declared.limits.TheConstants.{MOST_LARGE_TOKEN_BYTES}
 use Rattle.large_text.specs.declared.limits.TheConstants.{MOST_LARGE_ITEMS}
+use Rattle.large_text.specs.declared.limits.TheConstants.{MOST_TASK_ITEMS}
 use Rattle.large_text.specs.declared.marks.TextMark.{TextMark}
 use Rattle.large_text.specs.declared.marks.TextMark.TheVariants.{TaskBegins, TaskEnds, Work, Wait}
 use Rattle.large_text.specs.declared.marks.TextMark.TheVariants.{GroupOpens, GroupCloses}
@@ -104,7 +105,7 @@ pub record IsLargeWithin (reader : MarkReader) : Type 0 where
   pub bytes : reader.bytes ≤ MOST_LARGE_TOKEN_BYTES
   pub all_items : reader.all_items ≤ MOST_LARGE_ITEMS
   pub names : length reader.names ≤ reader.all_items
-  pub items : length reader.items ≤ MOST_ITEMS
+  pub items : length reader.items ≤ MOST_TASK_ITEMS
   pub work : reader.work ≤ MOST_WORK
 
 -- the work goes on by what this mark does, where there is one, and no item is counted

@@ -17,7 +17,7 @@ use Rattle.task_program.specs.Nested.{IsNested}
 use Rattle.task_program.specs.ProgramMarks.{ProgramMarks}
 use Rattle.large_text.specs.declared.limits.TheConstants.{MOST_LARGE_TOKEN_BYTES}
 use Rattle.large_text.specs.declared.limits.TheConstants.{MOST_LARGE_NESTING}
-use Rattle.large_text.specs.declared.limits.TheConstants.{MOST_LARGE_ITEMS}
+use Rattle.large_text.specs.declared.limits.TheConstants.{MOST_LARGE_ITEMS, MOST_TASK_ITEMS}
 
 -- these tokens are a text of version 1 that stands for these marks, whatever its size
 pub record HasLargeTree (all : List (List ℕ)) (marks : List Mark) : Type 0 where
@@ -58,7 +58,7 @@ abbrev pub too_many_large : (body : List Token) → List ℕ → Option ReadKind
 too_many_large body text = too_many_items (all_items_in (texts body))
 
 abbrev pub large_rules : Rules
-large_rules = plain_rules MOST_LARGE_TOKEN_BYTES MOST_LARGE_NESTING too_many_large
+large_rules = plain_rules MOST_LARGE_TOKEN_BYTES MOST_LARGE_NESTING MOST_TASK_ITEMS too_many_large
 
 -- a text without a fault: a sentence within the limits, each token right
 abbrev pub IsLargeRightWhole : List Token → Type 0

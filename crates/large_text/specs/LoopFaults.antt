@@ -2,7 +2,7 @@
 use Rattle.std.specs.Prelude.{ℕ, ◌+◌, Bool, not, ◌||◌, nat_lt, nat_le, if◌then◌else◌, length, None}
 use Rattle.program_text.specs.declared.fault.ReadKind.TheVariants.{TooLong, BadNumber, TooManyItems}
 use Rattle.program_text.specs.declared.fault.ReadKind.TheVariants.{WorkTooLarge, TooManyTurns}
-use Rattle.program_text.specs.declared.limits.TheConstants.{MOST_ITEMS, MOST_WORK}
+use Rattle.program_text.specs.declared.limits.TheConstants.{MOST_WORK}
 use Rattle.program_text.specs.Limits.{work_of}
 use Rattle.task_program.specs.Expansion.Piece.{TurnBegins, TaskComes, ItemComes, TaskOpens}
 use Rattle.task_program.specs.Expansion.Piece.{GroupComes, GroupOpens, BlockEnds, WorkIs, WaitIs}
@@ -11,6 +11,7 @@ use Rattle.task_program.specs.SecondPass.{PieceTest}
 use Rattle.task_program.specs.TreeSoFar.{TreeSoFar}
 use Rattle.large_text.specs.declared.limits.TheConstants.{MOST_LARGE_TURNS, MOST_LARGE_LINES}
 use Rattle.large_text.specs.declared.limits.TheConstants.{MOST_LARGE_ITEMS}
+use Rattle.large_text.specs.declared.limits.TheConstants.{MOST_TASK_ITEMS}
 
 -- the lines of the canonical text so far, behind its header, with a `}` for each open block
 abbrev pub lines_of : TreeSoFar → ℕ
@@ -21,7 +22,7 @@ are_lines_too_many more tree = nat_lt MOST_LARGE_LINES (lines_of tree + more)
 
 -- the task that comes has so many items, and the expansion so many names, that no item can follow
 abbrev pub is_full : (items names : ℕ) → Bool
-is_full items names = nat_le MOST_ITEMS items || nat_le MOST_LARGE_ITEMS names
+is_full items names = nat_le MOST_TASK_ITEMS items || nat_le MOST_LARGE_ITEMS names
 
 -- the first test that holds
 abbrev pub large_fault_of : PieceTest

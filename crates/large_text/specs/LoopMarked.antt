@@ -1,7 +1,7 @@
 -- Carried out: what is held of the pieces of an expansion that have been taken.
 use Rattle.std.specs.Prelude.{◌≡◌, ℕ, ◌≤◌, Bool, false, List, [], ◌∷◌, ◌++◌, length, map, reverse}
 use Rattle.program_text.specs.declared.statement.Item.{Item}
-use Rattle.program_text.specs.declared.limits.TheConstants.{MOST_ITEMS, MOST_WORK}
+use Rattle.program_text.specs.declared.limits.TheConstants.{MOST_WORK}
 use Rattle.program_text.specs.Limits.{work_of}
 use Rattle.program_text.specs.Marks.{Mark}
 use Rattle.program_text.specs.Marks.Mark.{Begins, GroupBegins}
@@ -17,6 +17,7 @@ use Rattle.task_program.specs.SecondPass.{take_pieces_by}
 use Rattle.task_segments.specs.Moments.{last_moment}
 use Rattle.large_text.specs.declared.limits.TheConstants.{MOST_LARGE_TURNS, MOST_LARGE_LINES}
 use Rattle.large_text.specs.declared.limits.TheConstants.{MOST_LARGE_ITEMS}
+use Rattle.large_text.specs.declared.limits.TheConstants.{MOST_TASK_ITEMS}
 use Rattle.large_text.specs.declared.loop_marks.LoopMarks.{LoopMarks}
 use Rattle.large_text.specs.declared.reader.OpenBlock.{OpenBlock}
 use Rattle.large_text.specs.LargeReading.{block_seen}
@@ -52,7 +53,7 @@ pub record HasEntered (taker : LoopMarks) (state : ExpansionState) : Type 0 wher
   pub names : state.names ≡ taker.names
   pub few_names : length taker.names ≤ MOST_LARGE_ITEMS
   pub items : state.items ≡ taker.items
-  pub few_items : length taker.items ≤ MOST_ITEMS
+  pub few_items : length taker.items ≤ MOST_TASK_ITEMS
   pub blocks : state.tree.blocks ≡ blocks_seen taker.blocks.items
   pub open_are : AreOpen state.tree.blocks state.tree.marks
   pub tallies : Tallies taker.tally (last_moment state.tree.marks)

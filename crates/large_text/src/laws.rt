@@ -6,6 +6,7 @@ ghost use Rattle.large_text.specs.declared.limits.TheConstants.{LARGEST_TEXT, LA
 ghost use Rattle.large_text.specs.declared.limits.TheConstants.{MOST_LARGE_TOKEN_BYTES};
 ghost use Rattle.large_text.specs.declared.limits.TheConstants.{MOST_LARGE_NESTING, MOST_LARGE_ITEMS};
 ghost use Rattle.large_text.specs.declared.limits.TheConstants.{MOST_LARGE_TURNS, MOST_LARGE_LINES};
+ghost use Rattle.large_text.specs.declared.limits.TheConstants.{MOST_TASK_ITEMS};
 
 /// The limits are these numbers.
 pub fn limits()
@@ -15,6 +16,7 @@ pub fn limits()
     ensures tokens { MOST_LARGE_TOKEN_BYTES ≡ 2 ^ 63 - 2 }
     ensures nesting { MOST_LARGE_NESTING ≡ 1_048_576 }
     ensures items { MOST_LARGE_ITEMS ≡ 2 ^ 32 - 2 }
+    ensures task_items { MOST_TASK_ITEMS ≡ 65_536 }
     ensures turns { MOST_LARGE_TURNS ≡ 4_000_000_000 }
     ensures lines { MOST_LARGE_LINES ≡ 4_000_000_000 }
 {}

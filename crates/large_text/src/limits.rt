@@ -19,6 +19,9 @@ pub const MOST_LARGE_NESTING: usize = 1_048_576;
 /// 32 bits.
 pub const MOST_LARGE_ITEMS: u32 = 4_294_967_294;
 
+/// Depend items of one task.
+pub const MOST_TASK_ITEMS: usize = 65_536;
+
 /// Turns of all loops of a text of version 2 together.
 pub const MOST_LARGE_TURNS: u32 = 4_000_000_000;
 

@@ -22,7 +22,7 @@ ghost use Rattle.large_text.specs.Tallied.{IsBegunIn, keeps_rows, keeps_text};
 ghost use Rattle.large_text.specs.declared.limits.TheConstants.{MOST_LARGE_LINES};
 
 use crate::fault::LargeFault;
-use crate::limits::{MOST_LARGE_ITEMS, MOST_LARGE_LINES, MOST_LARGE_TURNS};
+use crate::limits::{MOST_LARGE_ITEMS, MOST_LARGE_LINES, MOST_LARGE_TURNS, MOST_TASK_ITEMS};
 use crate::marks::TextMark;
 use crate::printer::Printer;
 use crate::reader::OpenBlock;
@@ -34,7 +34,7 @@ use std::alloc::Global;
 use std::mem::replace;
 use task_program::AllocFault;
 use task_program::fault::{ReadFault, ReadKind};
-use task_program::limits::{MOST_ITEMS, MOST_WORK};
+use task_program::limits::MOST_WORK;
 use task_program::name_key::NameKey;
 use task_program::names::Names;
 use task_program::statement::{DependKind, Item, Items};
@@ -118,7 +118,7 @@ impl LoopMarks {
     fn is_full(&self) -> bool
         ensures { result ≡ is_full (length self.now.items) (length self.now.names) }
     {
-        self.items.len() >= MOST_ITEMS || self.names.len() >= MOST_LARGE_ITEMS
+        self.items.len() >= MOST_TASK_ITEMS || self.names.len() >= MOST_LARGE_ITEMS
     }
 
     fn item(&mut self, alloc: Global, values: &[u32], item: &LoopItem) -> Result<(), ReadFault>

@@ -8,8 +8,9 @@ ghost use Rattle.program_text.specs.Marks.{Mark};
 ghost use Rattle.program_text.specs.Tokens as tokens;
 ghost use Rattle.program_text.specs.Tokens.{texts};
 ghost use Rattle.program_text.specs.Words.{is_number, is_word, value_of, type_of};
-ghost use Rattle.program_text.specs.declared.limits.TheConstants.{LARGEST_COST, MOST_WORK, MOST_ITEMS};
+ghost use Rattle.program_text.specs.declared.limits.TheConstants.{LARGEST_COST, MOST_WORK};
 ghost use Rattle.large_text.specs.declared.limits.TheConstants.{MOST_LARGE_ITEMS};
+ghost use Rattle.large_text.specs.declared.limits.TheConstants.{MOST_TASK_ITEMS};
 ghost use Rattle.task_program.specs.Faults.{after_at, after_statement, after_clause, end_at, at};
 ghost use Rattle.task_program.specs.Faults.{line_of_block, start};
 ghost use Rattle.task_program.specs.TokenCounts.{is_value_too_large, is_work_past};
@@ -24,7 +25,7 @@ ghost use Rattle.large_text.specs.LargeTrees.{plain_program};
 
 use crate::fault::LargeFault;
 use crate::forms::form_fault;
-use crate::limits::{MOST_LARGE_ITEMS, MOST_LARGE_NESTING};
+use crate::limits::{MOST_LARGE_ITEMS, MOST_LARGE_NESTING, MOST_TASK_ITEMS};
 use crate::marks::TextMark;
 use crate::place_tests::{grammar_fault, is_inside, items_coming};
 use crate::words::{is_sign, is_task, is_work};
@@ -33,7 +34,7 @@ use program_text::words::{text_of, value_within};
 use std::alloc::Global;
 use std::mem::replace;
 use task_program::fault::ReadKind;
-use task_program::limits::{LARGEST_COST, MOST_ITEMS, MOST_WORK};
+use task_program::limits::{LARGEST_COST, MOST_WORK};
 use task_program::name_key::NameKey;
 use task_program::names::Names;
 use task_program::place::Place;
@@ -186,11 +187,11 @@ impl MarkReader {
     fn is_item_too_many(&self) -> bool
         requires { IsLargeWithin self.now }
         ensures { result ≡ nat_lt MOST_LARGE_ITEMS (self.now.all_items + items_coming self.now.place)
-            || nat_lt MOST_ITEMS (length self.now.items + items_coming self.now.place) }
+            || nat_lt MOST_TASK_ITEMS (length self.now.items + items_coming self.now.place) }
     {
         let coming = items_coming(self.place);
         u64::from(self.all_items) + u64::from(coming) > u64::from(MOST_LARGE_ITEMS)
-            || self.items.len() + coming as usize > MOST_ITEMS
+            || self.items.len() + coming as usize > MOST_TASK_ITEMS
     }
 
     // The token is one of the grammar, and passes no limit.

@@ -14,7 +14,7 @@ use Rattle.task_program.specs.declared.place.Place.TheVariants.{Header, Version,
 use Rattle.task_program.specs.declared.place.Place.TheVariants.{WorkNumber, GroupBrace, Clause}
 use Rattle.task_program.specs.declared.place.Place.TheVariants.{DependMore}
 use Rattle.program_text.specs.declared.limits.TheConstants.{MOST_TEXT_BYTES, MOST_TOKEN_BYTES}
-use Rattle.program_text.specs.declared.limits.TheConstants.{MOST_NESTING}
+use Rattle.program_text.specs.declared.limits.TheConstants.{MOST_NESTING, MOST_ITEMS}
 use Rattle.program_text.specs.Tokens.{Token, texts, tokens_of, line_at_end}
 use Rattle.program_text.specs.TokenFaults.{form_fault_within}
 use Rattle.program_text.specs.Words.{is_text}
@@ -128,7 +128,7 @@ header_limitless _ state text here = absurd cc
 
 limits_told : (before : List Token) (state : State) (text : List ℕ) → Counts before state
     → is_header state.place text ≡ true → is_allowed state.place state.head.has_if text ≡ true
-    → limit_fault_after MOST_NESTING (too_many_with (texts (drop 2 before)) text) (drop 2 before)
+    → limit_fault_after MOST_NESTING MOST_ITEMS (too_many_with (texts (drop 2 before)) text) (drop 2 before)
     text
     ≡ limits state text
 limits_told before state text c header allowed =
@@ -143,14 +143,14 @@ limits_told before state text c header allowed =
       header_short state.place (length (texts before)) c.began.length_is here,
     )
     in
-    ap (λ (ts : List Token). limit_fault_after MOST_NESTING (too_many_with (texts ts) text) ts text) (nothing_after before short)
+    ap (λ (ts : List Token). limit_fault_after MOST_NESTING MOST_ITEMS (too_many_with (texts ts) text) ts text) (nothing_after before short)
     ∙ header_limits state.place text here header
     ∙ sym (header_limitless state.place state text here))
 
 -- the limits counted on the tokens are those that the reading tests
 limits_so : (before : List Token) (state : State) (text : List ℕ) → Counts before state
     → is_header state.place text ≡ true → is_allowed state.place state.head.has_if text ≡ true
-    → limit_fault_after MOST_NESTING (too_many_after (drop 2 before) text) (drop 2 before) text
+    → limit_fault_after MOST_NESTING MOST_ITEMS (too_many_after (drop 2 before) text) (drop 2 before) text
     ≡ limits state text
 limits_so before state text c header allowed =
     let body = drop 2 before in
@@ -160,7 +160,7 @@ limits_so before state text c header allowed =
     let segments : segments_in (texts body)
     ≡ segments_of state.tree.marks + pending_segments state.place =
     ap (λ (t : Tally). t.segments) c.tally_is in
-    ap (λ (found : Option ReadKind). limit_fault_after MOST_NESTING found body text)
+    ap (λ (found : Option ReadKind). limit_fault_after MOST_NESTING MOST_ITEMS found body text)
     (too_many_so body text (omega (arith, tasks, c.within.tasks))
     (omega (arith, segments, c.within.segments)))
     ∙ limits_told before state text c header allowed
@@ -253,7 +253,7 @@ counts_more before state next token c h =
 
 -- ---- the fault of a token
 
-module _ (token_bytes nesting : ℕ) (too_many : List Token → List ℕ → Option ReadKind) where
+module _ (token_bytes nesting most_items : ℕ) (too_many : List Token → List ℕ → Option ReadKind) where
   -- the grammar has not the token there, or the fault is one that is looked for later
   pub misplaced_or : (before : List Token) (state : State) (text : List ℕ) (kind : ReadKind)
       (closes : Bool) (later : Option ReadKind)
@@ -268,15 +268,15 @@ module _ (token_bytes nesting : ℕ) (too_many : List Token → List ℕ → Opt
       → closes ≡ false
       → not (is_allowed state.place state.head.has_if text) ≡ false
       → later ≡ Some kind
-      → IsWrong (plain_rules token_bytes nesting too_many) before text kind)
-      → IsWrong (plain_rules token_bytes nesting too_many) before text kind
+      → IsWrong (plain_rules token_bytes nesting most_items too_many) before text kind)
+      → IsWrong (plain_rules token_bytes nesting most_items too_many) before text kind
   misplaced_or before state text kind closes later began formed closes_so h past =
       let place = state.place in
       let depth = length state.tree.blocks in
       let header_is = is_header place text in
       let allowed_is = is_allowed place state.head.has_if text in
       let closes_is = closes_none place depth text in
-      let wrong = IsWrong (plain_rules token_bytes nesting too_many) before text in
+      let wrong = IsWrong (plain_rules token_bytes nesting most_items too_many) before text in
       row_cases (not header_is) BadHeader kind _ h
       (λ bad same. subst wrong same (Misplaced formed
       (is_not_viable (texts before) state text began (no_header header_is closes_is allowed_is bad))
@@ -313,7 +313,7 @@ at_place : (before : List Token) (state : State) (text : List ℕ) (kind : ReadK
     → place_fault state text ≡ Some kind
     → IsWrong program_rules before text kind
 at_place before state text kind c formed h =
-    misplaced_or MOST_TOKEN_BYTES MOST_NESTING too_many_after before state text kind
+    misplaced_or MOST_TOKEN_BYTES MOST_NESTING MOST_ITEMS too_many_after before state text kind
     (closes_nothing state.place state.tree.blocks text) _ c.began formed
     (closes_same state.place state.tree.blocks text) h
     (λ header unopened allowed later. PastLimit formed
@@ -354,9 +354,9 @@ token_wrong before state token fault c h =
 
 -- ---- the end
 
-module _ (token_bytes nesting : ℕ) (too_many : List Token → List ℕ → Option ReadKind) where
+module _ (token_bytes nesting most_items : ℕ) (too_many : List Token → List ℕ → Option ReadKind) where
   abbrev rules : Rules
-  rules = plain_rules token_bytes nesting too_many
+  rules = plain_rules token_bytes nesting most_items too_many
 
   -- a text that ends where it may not ends too early, as the definition says
   pub end_by : (all : List Token) (place : Place) (has_if : Bool) (blocks : List Block)
@@ -368,7 +368,7 @@ module _ (token_bytes nesting : ℕ) (too_many : List Token → List ℕ → Opt
       → (fits_at place has_if (length blocks) (codes "}") ≡ false
       → IsViable IsSentence (texts all ++ codes "}" ∷ []) → ⊥)
       → end_at place blocks end_line ≡ Some fault
-      → EndsEarly (plain_rules token_bytes nesting too_many) all end_line fault
+      → EndsEarly (plain_rules token_bytes nesting most_items too_many) all end_line fault
   end_by all Header has_if blocks end_line fault long braces can cannot h =
       let same : fault_so BadHeader end_line ≡ fault = cc in
       subst (EndsEarly rules all end_line) same (InHeader (omega (arith, long)))
@@ -408,7 +408,7 @@ early_at : (all : List Token) (state : State) (end_line : ℕ) (fault : ReadFaul
     → end_at state.place state.tree.blocks end_line ≡ Some fault → EndsEarly program_rules all end_line fault
 early_at all state end_line fault c h =
     let began = c.began in
-    end_by MOST_TOKEN_BYTES MOST_NESTING too_many_after all state.place state.head.has_if state.tree.blocks end_line fault
+    end_by MOST_TOKEN_BYTES MOST_NESTING MOST_ITEMS too_many_after all state.place state.head.has_if state.tree.blocks end_line fault
     (subst (λ (n : ℕ). LengthAt state.place n) (texts_long all) began.length_is)
     (ap (λ (t : Tally). t.braces) c.tally_is) (viable_next (texts all) state (codes "}") began)
     (is_not_viable (texts all) state (codes "}") began) h

@@ -741,7 +741,7 @@ version_limits text number value =
 pub header_limits : (place : Place) (text : List ℕ)
     → is_past_header place ≡ false
     → is_header place text ≡ true
-    → limit_fault_after MOST_NESTING (too_many_with [] text) [] text ≡ None
+    → limit_fault_after MOST_NESTING MOST_ITEMS (too_many_with [] text) [] text ≡ None
 header_limits Header text past header =
     ap (λ (t : Tally). limit_of t text) nothing_counted
     ∙ rw (same_text text (codes "omptasks") header) refl

@@ -10,7 +10,7 @@ use Rattle.program_text.specs.declared.fault.ReadKind.TheVariants.{BadNumber, To
 use Rattle.program_text.specs.declared.fault.ReadKind.TheVariants.{TooManySegments, TooManyItems}
 use Rattle.program_text.specs.declared.fault.ReadKind.TheVariants.{WorkTooLarge}
 use Rattle.program_text.specs.declared.limits.TheConstants.{MOST_TASKS, MOST_SEGMENTS}
-use Rattle.program_text.specs.declared.limits.TheConstants.{MOST_ITEMS, LARGEST_COST, MOST_WORK}
+use Rattle.program_text.specs.declared.limits.TheConstants.{LARGEST_COST, MOST_WORK}
 use Rattle.program_text.specs.Tokens.{Token, texts}
 use Rattle.program_text.specs.Words.{is_text, is_number, value_of}
 
@@ -107,14 +107,15 @@ too_many_after body text =
     if nat_lt MOST_TASKS (tasks_in all) then Some TooManyTasks
     else (if nat_lt MOST_SEGMENTS (segments_in all) then Some TooManySegments else None)
 
--- the first limit that this token passes after these, where so many blocks may be open
-abbrev pub limit_fault_after : (nesting : ℕ) (too_many : Option ReadKind) (body : List Token)
+-- the first limit that this token passes after these, where so many blocks may be open, and a task
+-- may have so many items
+abbrev pub limit_fault_after : (nesting most_items : ℕ) (too_many : Option ReadKind) (body : List Token)
     → List ℕ
     → Option ReadKind
-limit_fault_after nesting too_many body text =
+limit_fault_after nesting most_items too_many body text =
     let before = texts body in
     if is_value_too_large (is_inside before) text then Some BadNumber
     else (if is_too_deep nesting (length (open_braces body)) text then Some TooDeep
-    else option_or too_many (if nat_lt MOST_ITEMS (items_in before) then Some TooManyItems
+    else option_or too_many (if nat_lt most_items (items_in before) then Some TooManyItems
     else (if is_work_past (is_inside before) (work_in before) text then Some WorkTooLarge
     else None)))

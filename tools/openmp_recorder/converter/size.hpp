@@ -5,7 +5,7 @@
 #include "run.hpp"
 
 constexpr uint64_t most_tasks = 4096;  // of the ten commands of spanprof
-constexpr uint64_t most_blocks = 1048576, most_items = 32;  // of spanprof_large
+constexpr uint64_t most_blocks = 1048576, most_items = 65536;  // of spanprof_large
 
 struct Size {
   uint64_t tasks = 0, segments = 1, blocks = 0, items = 0;

@@ -8,7 +8,7 @@
 
 namespace {
 constexpr uint64_t beyond_addresses = uint64_t{1} << 55;  // of any program
-constexpr unsigned most_waited_for = 28;  // turns by one piece: spanprof takes 32 items
+constexpr unsigned most_waited_for = 28;  // turns by one piece: spanprof itself takes 32 items
 constexpr int64_t at_once = 1000;  // nanoseconds between waits that are one
 constexpr int64_t woken = 20000;  // that it takes to see that a wait is over
 

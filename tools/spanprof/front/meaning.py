@@ -16,7 +16,7 @@ KINDS = {   # by the limits of the ten commands
     "TooDeep": "at most 64 blocks are open at a time",
     "TooManyTasks": "a text has at most 4,096 tasks",
     "TooManySegments": "a text has at most 16,384 segments",
-    "TooManyItems": "a task has at most 32 depend items",
+    "TooManyItems": "a task has at most 32 depend items, and 65,536 in a text of any size",
     "TooManyTurns": "all loops together have at most 65,536 turns"}
 TOO_LONG = "standard input has at most 8,388,608 bytes"
 

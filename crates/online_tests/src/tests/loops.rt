@@ -61,12 +61,6 @@ const FAULTS: &[(&str, ReadKind, u64)] = &[
         ReadKind::WorkTooLarge,
         3,
     ),
-    (
-        "omptasks 2\ntask depend(in: a, a, a, a, a, a, a, a, a, a, a, a, a, a, a, a, a, a, a, a, a, a, a, \
-            a, a, a, a, a, a, a, a, a,\na) { }",
-        ReadKind::TooManyItems,
-        3,
-    ),
 ];
 
 #[test]
@@ -74,6 +68,28 @@ fn faults(rt: HostRuntime) {
     for (text, kind, line) in FAULTS {
         assert_eq!(&rt; fault_of(rt.alloc(), text), Some((*kind, *line)), "{text}");
     }
+}
+
+/// A text with a task of so many items.
+fn with_items(alloc: Global, count: usize) -> Result<String, Fail> {
+    let mut text = String::from_str(alloc, "omptasks 2\ntask depend(in: a")?;
+    for _ in 1..count {
+        text.push_str(", a")?;
+    }
+    text.push_str(") { }")?;
+    Ok(text)
+}
+
+#[test]
+fn most_items(rt: HostRuntime) -> Result<(), Fail> {
+    let most = with_items(rt.alloc(), 65_536)?;
+    assert_eq!(&rt; fault_of(rt.alloc(), most.as_str()), None);
+    let more = with_items(rt.alloc(), 65_537)?;
+    assert_eq!(&rt;
+        fault_of(rt.alloc(), more.as_str()),
+        Some((ReadKind::TooManyItems, 2))
+    );
+    Ok(())
 }
 
 /// The canonical text of a text.

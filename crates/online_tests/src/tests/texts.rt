@@ -117,7 +117,7 @@ const AT_THE_LIMITS: &[(Parts, Numbers)] = &[
         (0, 1, 1_000_000_000_000_000, 1_000_000_000_000_000),
     ),
     (
-        &[("task depend(in: a", 1), (", a", 31), (") {}", 1)],
+        &[("task depend(in: a", 1), (", a", 65_535), (") {}", 1)],
         (1, 3, 0, 0),
     ),
 ];
@@ -130,7 +130,7 @@ const PAST_THE_LIMITS: &[(Parts, ReadKind)] = &[
         ReadKind::WorkTooLarge,
     ),
     (
-        &[("task depend(in: a", 1), (", a", 32), (") {}", 1)],
+        &[("task depend(in: a", 1), (", a", 65_536), (") {}", 1)],
         ReadKind::TooManyItems,
     ),
 ];
