@@ -1,16 +1,17 @@
 -- Items whose names ascend: each name has one item.
 use Rattle.std.proofs.Common.{ℕ, zero, suc, ◌+◌, ◌≡◌, ◌<◌, ◌≤◌, true, false, ◌==◌}
 use Rattle.std.proofs.Common.{List, [], ◌∷◌, length, get_or, take, refl, sym, ap, ◌∙◌, arith}
-use Rattle.std.proofs.Common.{Contains, Option, Some, None, cond, inl, inr, ◌⊎◌}
+use Rattle.std.proofs.Common.{Bool, Option, Some, None, cond}
 use Rattle.std.specs.Prelude.{nat_le}
 use Rattle.std.proofs.Math.Bool.{and-true}
-use Rattle.std.proofs.lemmas.Bool.{and_parts, leb-true, ne_eqb, eq-eqb}
+use Rattle.std.proofs.lemmas.Bool.{and_parts, and_from, leb-true, le-leb, ne_eqb, eq-eqb}
 use Rattle.program_text.specs.declared.statement.Item.{Item}
 use Rattle.program_text.specs.declared.statement.DependKind.{DependKind}
 use Rattle.program_text.specs.declared.statement.DependKind.TheVariants.{DependIn, DependOut}
 use Rattle.program_text.specs.declared.statement.DependKind.TheVariants.{DependInOut}
 use Rattle.program_text.specs.declared.statement.DependKind.TheVariants.{DependInOutSet}
 use Rattle.depend_table.specs.Generations.{mentions, is_kind, has_only, sharing_at, ascend_from}
+use Rattle.depend_table.specs.Merged.{alone}
 
 -- the names are numbered from the first number on
 name_from : (from i : ℕ) (d : Item) (items : List Item) → ascend_from from items ≡ true
@@ -67,30 +68,32 @@ not_repeated from (suc i) d (x ∷ xs) e h =
     ne_eqb x.name (get_or xs i d).name (λ same. omega arith) in
     rw other (not_repeated (x.name + 1) i d xs parts.1 (omega arith))
 
--- what an item that is alone on its name lets its task share
-abbrev alone : DependKind → Option DependKind
-alone kind = cond (is_kind kind DependIn) (Some DependIn)
+-- what an item that is alone on its name lets its task share, as the definition of sharing has it
+abbrev alone_by : DependKind → Option DependKind
+alone_by kind = cond (is_kind kind DependIn) (Some DependIn)
     (cond (is_kind kind DependInOutSet) (Some DependInOutSet) None)
 
-sharing_alone : (item : Item) (items : List Item) → Contains items item
-    → ascend_from 0 items ≡ true
-    → sharing_at item.name items ≡ alone item.kind
-sharing_alone item items at_place e = grind (arith, has_only_its)
+alone_so : (kind : DependKind) → alone_by kind ≡ alone kind
+alone_so DependIn = refl
+alone_so DependOut = refl
+alone_so DependInOut = refl
+alone_so DependInOutSet = refl
 
-pub shares_its_kind : (item : Item) (items : List Item) → Contains items item
-    → ascend_from 0 items ≡ true
-    → (item.kind ≡ DependIn) ⊎ (item.kind ≡ DependInOutSet)
-    → sharing_at item.name items ≡ Some item.kind
-shares_its_kind item items at_place e (inl reads) =
-    sharing_alone item items at_place e ∙ ap alone reads ∙ ap Some (sym reads)
-shares_its_kind item items at_place e (inr sets) =
-    sharing_alone item items at_place e ∙ ap alone sets ∙ ap Some (sym sets)
+pub sharing_alone : (i : ℕ) (d : Item) (items : List Item) → ascend_from 0 items ≡ true
+    → i < length items
+    → sharing_at (get_or items i d).name items ≡ alone (get_or items i d).kind
+sharing_alone i d items up inside =
+    let item = get_or items i d in
+    ap
+    (λ (b : Bool). cond b (Some DependIn) (cond (has_only item.name DependInOutSet items) (Some DependInOutSet) None))
+    (has_only_its 0 i d DependIn items up inside)
+    ∙ ap
+    (λ (b : Bool). cond (is_kind item.kind DependIn) (Some DependIn) (cond b (Some DependInOutSet) None))
+    (has_only_its 0 i d DependInOutSet items up inside)
+    ∙ alone_so item.kind
 
-pub shares_nothing : (item : Item) (items : List Item) → Contains items item
-    → ascend_from 0 items ≡ true
-    → (item.kind ≡ DependOut) ⊎ (item.kind ≡ DependInOut)
-    → sharing_at item.name items ≡ None
-shares_nothing item items at_place e (inl out) =
-    sharing_alone item items at_place e ∙ ap alone out
-shares_nothing item items at_place e (inr inout) =
-    sharing_alone item items at_place e ∙ ap alone inout
+-- one item ascends
+pub one_ascends : (items : List Item) → length items ≡ 1 → ascend_from 0 items ≡ true
+one_ascends [] one = absurd (omega (arith, one))
+one_ascends (x ∷ []) one = and_from (nat_le 0 x.name) true (le-leb 0 x.name (omega arith)) refl
+one_ascends (x ∷ y ∷ xs) one = absurd (omega (arith, one))
