@@ -24,6 +24,7 @@ struct Function {
 struct Found {
   uint64_t time = 0, end = 0;
   std::vector<size_t> samples;
+  size_t instructions = 0;  // from the first to the last that a sample interrupted
 };
 
 uint64_t in_file(const Interrupted &one, const ModuleOfRun &module) { return one.code - module.base; }
@@ -62,40 +63,59 @@ std::vector<std::pair<Function, Found>> longest_of(const std::map<Function, Foun
   return out;
 }
 
+// How many instructions stand between the first and the last sample of a function, with these.
+size_t between(const Instructions &code, const Found &function, const Stacks &stacks, const ModuleOfRun &module) {
+  uint64_t first = UINT64_MAX, last = 0;
+  for (size_t i : function.samples) {
+    first = std::min(first, in_file(stacks.interrupted[i], module));
+    last = std::max(last, in_file(stacks.interrupted[i], module));
+  }
+  return static_cast<size_t>(std::distance(code.lower_bound(first), code.upper_bound(last)));
+}
+
 // Of a function; an atomic operation goes as a whole where nothing is shared.
 void set_beyond(const Found &function, const Stacks &stacks, const std::vector<bool> &atomic,
                 std::vector<Contended> &all) {
   std::vector<Interrupted> some, others;
   for (size_t i : function.samples) (all[i].place ? some : others).push_back(stacks.interrupted[i]);
-  double beyond = beyond_others(some, others);
+  double beyond = beyond_others(some, others, function.instructions);
   for (size_t i : function.samples)
     if (!atomic[i]) all[i].beyond = beyond;
+}
+// Whether two threads used a line at the same time, and one of them wrote it.
+bool is_contended(const std::vector<Used> &all, std::vector<size_t> &uses) {
+  std::sort(uses.begin(), uses.end(), [&](size_t one, size_t other) { return all[one].wall < all[other].wall; });
+  for (size_t i = 0; i < uses.size(); i++)
+    for (size_t j = i + 1; j < uses.size() && all[uses[j]].wall - all[uses[i]].wall < at_once; j++) {
+      const Used &one = all[uses[i]], &other = all[uses[j]];
+      if (one.thread != other.thread && (one.writes || other.writes)) return true;
+    }
+  return false;
 }
 }  // namespace
 
 std::vector<bool> are_contended(const std::vector<Used> &all) {
   std::map<uint64_t, std::vector<size_t>> by_line;
-  for (size_t i = 0; i < all.size(); i++) by_line[all[i].address >> line_bits].push_back(i);
-  std::vector<bool> out(all.size());
-  for (auto &[line, uses] : by_line) {
-    std::sort(uses.begin(), uses.end(), [&](size_t one, size_t other) { return all[one].wall < all[other].wall; });
-    for (size_t i = 0; i < uses.size(); i++)
-      for (size_t j = i + 1; j < uses.size() && all[uses[j]].wall - all[uses[i]].wall < at_once; j++) {
-        const Used &one = all[uses[i]], &other = all[uses[j]];
-        if (one.thread != other.thread && (one.writes || other.writes)) out[uses[i]] = out[uses[j]] = true;
-      }
+  std::map<int64_t, std::set<unsigned>> threads;  // by time, those that used any line
+  for (size_t i = 0; i < all.size(); i++) {
+    by_line[all[i].address >> line_bits].push_back(i);
+    for (int64_t near : {-1, 0, 1}) threads[all[i].wall / at_once + near].insert(all[i].thread);
   }
+  std::vector<bool> out(all.size());
+  for (auto &[line, uses] : by_line)
+    if (is_contended(all, uses))
+      for (size_t i : uses) out[i] = threads[all[i].wall / at_once].size() > 1;
   return out;
 }
 
-double beyond_others(const std::vector<Interrupted> &some, const std::vector<Interrupted> &others) {
-  std::set<uint64_t> here, around;
+double beyond_others(const std::vector<Interrupted> &some, const std::vector<Interrupted> &others,
+                     size_t instructions) {
+  std::set<uint64_t> here;
   uint64_t time = 0, time_around = 0;
   for (const Interrupted &one : some) here.insert(one.code), time += one.stands_for;
-  for (const Interrupted &one : others)
-    if (!here.count(one.code)) around.insert(one.code), time_around += one.stands_for;
-  if (around.empty() || !time) return 1;
-  double each = static_cast<double>(time_around) / static_cast<double>(around.size());
+  for (const Interrupted &one : others) time_around += here.count(one.code) ? 0 : one.stands_for;
+  if (instructions <= here.size() || !time) return 1;
+  double each = static_cast<double>(time_around) / static_cast<double>(instructions - here.size());
   return std::max(0.0, 1 - each * static_cast<double>(here.size()) / static_cast<double>(time));
 }
 
@@ -106,6 +126,7 @@ std::vector<Contended> contending(const Stacks &stacks, const ModulesOfRun &modu
   for (auto &[function, found] : functions) {
     const ModuleOfRun &module = *function.module;
     Instructions code = disassembled(module, function.first, found.end);
+    found.instructions = between(code, found, stacks, module);
     for (size_t i : found.samples) {
       const Interrupted &one = stacks.interrupted[i];
       for (const MemoryUse &use : used_near(code, in_file(one, module))) {

@@ -16,13 +16,15 @@ struct Used {
 };
 
 // Of a sample the place behind the instruction that used such a line, null where it used none; and which part of its
-// time other instructions of the function do not take too.
+// time is more than another instruction of the function takes.
 struct Contended {
   const void *place = nullptr;
   double beyond = 1;
 };
 
+// A line is contended where two threads used it at once and one wrote it: then all its uses are, while others run too.
 std::vector<bool> are_contended(const std::vector<Used> &all);
-// The part of the time of some samples that the others, each at an instruction, do not take; all of it without others.
-double beyond_others(const std::vector<Interrupted> &some, const std::vector<Interrupted> &others);
+// The part of the time of some samples that is more than as many other instructions of their code take, by the samples
+// of these; most instructions have none. All of it where there are no others.
+double beyond_others(const std::vector<Interrupted> &some, const std::vector<Interrupted> &others, size_t instructions);
 std::vector<Contended> contending(const Stacks &stacks, const ModulesOfRun &modules);

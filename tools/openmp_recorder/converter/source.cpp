@@ -1,15 +1,20 @@
 #include "source.hpp"
 
+#include <unistd.h>
+
 #include <algorithm>
 #include <cstdint>
 #include <cstdio>
+#include <cstdlib>
 #include <cstring>
 #include <map>
+#include <sstream>
 
 #include "names.hpp"
 
 namespace {
 constexpr size_t most_at_once = 4000;  // addresses of one call
+constexpr int newest = 40, oldest = 14;  // versions of LLVM
 
 std::string base_name(const std::string &path) { return path.substr(path.rfind('/') + 1); }
 
@@ -77,6 +82,18 @@ std::string quoted(const std::string &word) {
   return out + "'";
 }
 
+std::string resolver_in(const std::string &folders) {
+  std::vector<std::string> names;
+  for (int version = newest; version >= oldest; version--) names.push_back("llvm-addr2line-" + std::to_string(version));
+  names.push_back("llvm-addr2line");
+  for (const std::string &name : names) {
+    std::istringstream all(folders);
+    for (std::string folder; std::getline(all, folder, ':');)
+      if (!access((folder + "/" + name).c_str(), X_OK)) return name;
+  }
+  return "addr2line";
+}
+
 bool is_of_system(const std::string &source) {
   for (const char *folder : {"/usr/include/", "/usr/lib/", "/usr/bin/../"})  // clang's paths go through its own folder
     if (!source.rfind(folder, 0)) return true;
@@ -114,7 +131,8 @@ void Places::take(const void *code, std::vector<Frame> frames) {
 
 // An answer is the address, and then a line for each function and one for each place.
 void Places::ask(const ModuleOfRun &module, const std::vector<const void *> &codes) {
-  std::string command = "addr2line -a -f -i -C -e " + quoted(module.path);
+  static const std::string resolver = resolver_in(getenv("PATH") ? getenv("PATH") : "");
+  std::string command = "DEBUGINFOD_URLS= " + resolver + " -a -f -i -e " + quoted(module.path);  // nothing is fetched
   for (const void *code : codes) {
     char text[32];
     snprintf(text, sizeof text, " 0x%zx", static_cast<size_t>(in_file(code, module)));
@@ -127,7 +145,7 @@ void Places::ask(const ModuleOfRun &module, const std::vector<const void *> &cod
   for (size_t i = 0; i < codes.size() && more && is_address(line); i++) {
     std::vector<Frame> frames;
     while ((more = next_line(answers, line)) && !is_address(line) && next_line(answers, at)) {
-      frames.push_back(frame_of(line, place_of(at)));
+      frames.push_back(frame_of(demangled(line), place_of(at)));
       take_path(at);
     }
     take(codes[i], std::move(frames));

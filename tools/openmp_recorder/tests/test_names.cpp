@@ -1,6 +1,13 @@
 // Names of functions.
 #include "names.hpp"
+
+#include <sys/stat.h>
+
+#include <cstdlib>
+#include <fstream>
+
 #include "check.hpp"
+#include "source.hpp"
 
 TEST(names_of_cpp_are_demangled) {
   EXPECT(demangled("_ZN3one3twoIiEEvT_"), "void one::two<int>(int)");
@@ -23,3 +30,20 @@ TEST(operators_with_angles_are_no_templates) {
 }
 
 TEST(what_does_not_end_stays_as_it_is) { EXPECT(short_name("a<b"), "a<b"); }
+
+TEST(lines_are_named_by_the_newest_of_llvm_or_else_by_binutils) {
+  char folder[] = "/tmp/spanprof-resolver-XXXXXX";
+  std::string in = mkdtemp(folder);
+  auto put = [&](const std::string &name) {
+    std::ofstream(in + "/" + name).close();
+    chmod((in + "/" + name).c_str(), 0700);
+  };
+  EXPECT(resolver_in("/none:" + in), "addr2line");
+  put("llvm-addr2line");
+  EXPECT(resolver_in("/none:" + in), "llvm-addr2line");
+  put("llvm-addr2line-16"), put("llvm-addr2line-19");
+  EXPECT(resolver_in("/none:" + in), "llvm-addr2line-19");
+  EXPECT(resolver_in(""), "addr2line");
+  for (const char *name : {"llvm-addr2line", "llvm-addr2line-16", "llvm-addr2line-19", ""})
+    std::remove((in + "/" + name).c_str());
+}

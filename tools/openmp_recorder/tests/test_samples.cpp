@@ -135,20 +135,30 @@ TEST(a_line_is_contended_where_threads_use_it_at_once_and_one_writes) {
   EXPECT(found == std::vector<bool>({true, true, false, false, false, false, false}), true);
 }
 
+TEST(all_uses_of_a_contended_line_are_while_others_run) {
+  constexpr int64_t later = 100000000;
+  std::vector<bool> found = are_contended({{0, 0x1000, 0, 5, true},
+                                           {1, 0x1038, 1, 9, false},
+                                           {2, 0x1000, 0, later, true},
+                                           {3, 0x3000, 1, later + 9, false},
+                                           {4, 0x1000, 0, 3 * later, true}});
+  EXPECT(found == std::vector<bool>({true, true, true, false, false}), true);
+}
+
 TEST(of_what_a_use_takes_as_much_as_other_instructions_is_its_own) {
   auto at = [](uint64_t code, unsigned times) {
     return std::vector<Interrupted>(times, Interrupted{0, 0, code, {}, 4000});
   };
   std::vector<Interrupted> some = at(10, 6), others = at(20, 2);
-  EXPECT(beyond_others(some, {}), 1.0);
-  EXPECT(beyond_others({}, others), 1.0);
-  EXPECT(beyond_others(some, others), 1 - 2.0 / 6);
-  for (const Interrupted &one : at(30, 4)) others.push_back(one);
+  EXPECT(beyond_others(some, {}, 1), 1.0);
+  EXPECT(beyond_others({}, others, 1), 1.0);
+  EXPECT(beyond_others(some, others, 2), 1 - 2.0 / 6);
+  EXPECT(beyond_others(some, others, 5), 1 - 0.5 / 6);
   for (const Interrupted &one : at(10, 9)) others.push_back(one);
-  EXPECT(beyond_others(some, others), 0.5);
+  EXPECT(beyond_others(some, others, 2), 1 - 2.0 / 6);
   for (const Interrupted &one : at(12, 2)) some.push_back(one);
-  EXPECT(beyond_others(some, others), 1 - 2 * 3.0 / 8);
-  EXPECT(beyond_others(at(10, 3), at(20, 5)), 0.0);
+  EXPECT(beyond_others(some, others, 4), 1 - 2 * 1.0 / 8);
+  EXPECT(beyond_others(at(10, 3), at(20, 5), 2), 0.0);
 }
 
 static std::string calls_of(const std::vector<const char *> &innermost_first) {

@@ -52,7 +52,8 @@ class Facts:
     runtime: str = ""
     threads: int = 1
     asked: Optional[int] = None
-    processors: Optional[int] = None
+    processors: Optional[int] = None    # that the program may use
+    of_machine: Optional[int] = None    # that there are
     elapsed: int = 0
     work: int = 0
     span: int = 0
@@ -299,6 +300,7 @@ def used_by_others(host, usage):
 def set_meta(facts, meta):
     threads, usage, host = meta.get("threads") or {}, meta.get("usage"), meta.get("host") or {}
     facts.asked, facts.processors = threads.get("asked"), meta.get("processors")
+    facts.of_machine = host.get("host_processors")
     facts.runtime = runtime_name(meta.get("runtime") or {})
     facts.is_of_gcc = facts.is_of_gcc or facts.runtime.startswith(RUNTIMES["gnu"])
     facts.is_imported = bool(meta.get("imported"))

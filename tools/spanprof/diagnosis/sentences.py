@@ -29,9 +29,9 @@ TRIED = {
     "in-for-inout": "depend(in: {item}) at {at} if only read, or a copy for each",
     "read-only": "depend({item}) at {at} if only read",
     "drop-depend": "finer depend items at {at}, or none if no order is needed",
-    "drop-wait": "leave out {waits}, if no result is needed yet",
+    "drop-wait": "remove {waits} if no result is needed yet",
     "defer": "defer more tasks at {at}: change its if or final",
-    "outside": "create the tasks of {at} in a parallel region, in single",
+    "outside": "create the tasks of {at} inside parallel and single",
     "task": "make {where} a task of its own"}
 BOUNDS = {"about": "about %s", "or less": "%s or less", "at best": "%s"}     # the first of several holds for all
 ONE_BY_ONE = r"schedule\s*\(\s*(\w+\s*:\s*)?(dynamic|guided)"
@@ -71,8 +71,16 @@ def words_of_memory(facts, names, place):
             names.place(place.name), place.cost / alone, facts.most_threads,
             "bandwidth" if is_bandwidth(facts, place.name) else "is contended")
     shares = facts.calls.shares.get(place.name, Counter())
-    lines = [line for line, _ in shares.most_common() if line_of(line)][:MOST_SHARED]
-    return "threads write the same cache lines at once: %s" % " and ".join(lines or [names.place(place.name)])
+    lines = list(filter(None, (line_of(line) for line, _ in shares.most_common())))[:MOST_SHARED]
+    return "threads write the same cache lines at once: %s" % (joined(lines) or names.place(place.name))
+
+
+def joined(lines):
+    """Those of one file by their numbers: `sort.c:11, 12 and 15`."""
+    of_file = {line.file: ["%d" % one.number for one in sorted(lines) if one.file == line.file] for line in lines}
+    told = ("%s:%s" % (file, " and ".join(filter(None, (", ".join(numbers[:-1]), numbers[-1]))))
+            for file, numbers in of_file.items())
+    return " and ".join(told)
 
 
 def words_of_schedule(names, name, place):
@@ -112,13 +120,13 @@ def words_of_kernel(facts, names, usage):
         smaller = "smaller firstprivate data at %s: a pointer, or shared" % names.at("task at " + copying)
         return {"kernel": "%s page faults" % grouped(usage.get("minor_faults") or 0) if has_many_faults(facts) else
                 "mapping memory", "less_kernel": smaller if copying else reuse}
-    return {"kernel": "system calls", "less_kernel": "fewer system calls, each for more: larger buffers"}
+    return {"kernel": "system calls", "less_kernel": "fewer, larger system calls: use larger buffers"}
 
 
 def words_of_run(facts, names):
     usage = facts.usage or {}
     used = (usage.get("user_ns") or 0) + (usage.get("system_ns") or 0)
-    return {"threads": facts.most_threads, "processors": facts.processors, "usable": facts.usable,
+    return {"threads": facts.most_threads, "processors": words_of_processors(facts), "usable": facts.usable,
             "all_tasks": grouped(facts.tasks), "average_task": lasting(average_task(facts)),
             "code": "%.0f" % min(100, 100 * facts.code / useful_time(facts, losses(facts))),
             "time": "the rest" if facts.taken else "the time",
@@ -168,7 +176,25 @@ def words_of_barriers(facts, names, name):
                 "longer_regions": "fewer barriers at %s: nowait, or larger loops" % at}
     words = "%s at %s take %s each: starting them"
     return {"short_regions": words % (several(region.times, "region"), at, lasting(region.elapsed // region.times)),
-            "longer_regions": "move parallel at %s out of the loop around it" % at}
+            "longer_regions": "move parallel at %s out of the loop around it, with few barriers" % at}
+
+
+def is_confined(facts):
+    """Whether the program may use only some of the machine's processors."""
+    return bool(facts.of_machine and facts.processors) and facts.processors < facts.of_machine
+
+
+def words_of_processors(facts):
+    of = " of %d" % facts.of_machine if is_confined(facts) else ""
+    return several(facts.processors or 0, "processor") + of
+
+
+def words_of_fewer(facts):
+    """Fewer threads, or more processors where there are some."""
+    threads = "use " + several(facts.processors or 0, "thread")
+    if is_confined(facts):
+        return "allow more processors (taskset, cgroup), or %s" % threads
+    return threads + ": num_threads or OMP_NUM_THREADS"
 
 
 def words_of_region(facts, names, name):
@@ -177,7 +203,7 @@ def words_of_region(facts, names, name):
     out = {"got": "", "who_asked": "", **words_of_barriers(facts, names, name),
            "others": " and in %s" % several(others, "other") if others else "",
            "in_region": "in the region at " + names.place(name) if name else "in some region",
-           "fewer": "use %s threads: num_threads or OMP_NUM_THREADS" % facts.processors}
+           "fewer": words_of_fewer(facts)}
     for region in facts.inner:
         if region.place == name:
             times = several(region.times, "region")
@@ -243,7 +269,7 @@ def instead(names, place, name):
     if is_bandwidth(names.facts, name):
         return "touch the data of %s once: fuse or block loops" % names.at(name)
     suspect = names.suspect([place]) if place else None
-    return suspect.instead if suspect else "a copy for each thread of what %s writes: reduction" % names.at(name)
+    return suspect.instead if suspect else "a copy for each thread of what %s writes, or a reduction" % names.at(name)
 
 
 def words(facts, names, name):
@@ -281,8 +307,7 @@ def waits(names, found):
     lines = [names.begin(name, name) for name in found]
     if len(found) == 1 or None in lines or len({line.file for line in lines}) > 1:
         return " and ".join(map(names.place, found))
-    numbers = ["%d" % line.number for line in sorted(lines)]
-    return "the waits at %s:%s and %s" % (lines[0].file, ", ".join(numbers[:-1]), numbers[-1])
+    return "the waits at " + joined(lines)
 
 
 def kind_of_parts(step, place):

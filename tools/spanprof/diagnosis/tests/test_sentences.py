@@ -13,9 +13,10 @@ from spanprof.diagnosis.names import Names, Suspect, block_end, items_in
 from spanprof.diagnosis.places import AFTER_REGION, OF_THREADS, OWN, SERIAL, SHARE, TASK, Place
 from spanprof.diagnosis.plan import Step
 from spanprof.diagnosis.schema import as_json
-from spanprof.diagnosis.sentences import (WIDTH, change_sentence, first_digits, lost_sentence, short_lines, shortened,
-                                          speed_words, sum_lines, times_of, waits, who_asked)
+from spanprof.diagnosis.sentences import (WIDTH, change_sentence, first_digits, joined, lost_sentence, short_lines,
+                                          shortened, speed_words, sum_lines, times_of, waits, who_asked)
 from spanprof.diagnosis.tests.worked import MS, facts, place
+from spanprof.source_lines import Line
 
 SOURCE = """static void tone(float *d, int n) {
   work(d);
@@ -117,20 +118,20 @@ class Sentences(unittest.TestCase):
         lines = short_lines(diagnose(run), Names(run, SOURCES), "spanprof-record --all")
         self.assertEqual(lines, [
             "image: 100 ms on 4 threads. At best 50.0 ms.",
-            "lost  25 %  8 tasks of image.c:9 (tone) are serial: all have depend(inout: tab[f(0, 1)])",
+            "lost  25 %  8 tasks of image.c:9 (tone) are serialised: all have depend(inout: tab[f(0, 1)])",
             "sure  1 run, 99.9 % of the program seen",
             "      not known: whether atomics or shared memory slow it: --full",
             "more  spanprof-record --all"])
 
     def test_page_faults_are_told_where_they_are_most_of_it(self):
         at = " in image.c:9 (tone)"
-        for faults, told in ((90000, "85 % of the processor time is the kernel's: 90,000 page faults" + at),
-                             (600, "85 % of the processor time is the kernel's: system calls" + at)):
+        for faults, told in ((90000, "85 % of the processor time is spent in the kernel: 90,000 page faults" + at),
+                             (600, "85 % of the processor time is spent in the kernel: system calls" + at)):
             run = found(usage={"user_ns": 60 * MS, "system_ns": 340 * MS, "minor_faults": faults})
             self.assertEqual(lost_sentence(run, Names(run, SOURCES), Loss("system", TASKS, 1)), told)
         run.calls = Sampled({TASKS: {("main", "tone", "munmap@libc.so.6"): 9000, ("main", "read@libc.so.6"): 5000}}, {})
         self.assertEqual(lost_sentence(run, Names(run, SOURCES), Loss("system", TASKS, 1)),
-                         "85 % of the processor time is the kernel's: mapping memory" + at)
+                         "85 % of the processor time is spent in the kernel: mapping memory" + at)
 
     def test_page_faults_in_the_copies_of_data_that_tasks_have(self):
         after, reuse = "after creating a task at image.c:9", "reuse memory: no large malloc, mmap or free in each task"
@@ -199,7 +200,7 @@ class Sentences(unittest.TestCase):
         lines = short_lines(diagnose(run), Names(run, SOURCES))
         self.assertEqual(lines[0], "image: 100 ms on 4 threads. At best about 40.0 ms.")
         self.assertEqual(lines[1:3], [
-            "lost  60 %  threads write the same cache lines at once: image.c:11 and image.c:12",
+            "lost  60 %  threads write the same cache lines at once: image.c:11 and 12",
             "do    a local copy of what image.c:11 writes, written back once              100 ms -> about 40.0 ms"])
         self.assertIn("not known: what it costs on one thread: --full", lines[4])
 
@@ -229,8 +230,8 @@ class Sentences(unittest.TestCase):
         run.calls = Sampled({TASKS: {("main", "tone"): 10 * 4000}}, {}, {}, {}, {TASKS: {"image.c:12 tone": 8000}})
         lines = short_lines(diagnose(run), Names(run, SOURCES))
         self.assertEqual(lines[1:3], [
-            "lost  20 %  memory allocation in tone (image.c:12): 20 % of the code in parallel",
-            "do    allocate once, outside of the loop, or per thread                      100 ms -> about 80.0 ms"])
+            "lost  20 %  allocating memory takes 20 % of parallel code, mostly in tone (image.c:12)",
+            "do    allocate once, outside the loop, or per thread                         100 ms -> about 80.0 ms"])
 
     def test_serial_code_is_told_by_the_lines_that_samples_saw(self):
         run = found()
@@ -258,6 +259,22 @@ class Sentences(unittest.TestCase):
         run.places[name] = Place(name, SERIAL, pieces=9000)
         self.assertEqual(lost_sentence(run, Names(run, SOURCES), Loss("small_regions", "image.c:6", 1)),
                          "9,000 barriers at image.c:6, 10.0 us apart: waiting at them costs too much")
+
+    def test_processors_that_the_program_may_not_use(self):
+        run = found(threads=4, regions=[Region("image.c:6", 4, 90 * MS)])
+        step = Step("too_many_threads", "image.c:6", 100 * MS, 50 * MS, 40 * MS, 60 * MS)
+        for allowed, there, lost, change in (
+                (1, 1, "4 threads on 1 processor, ", "use 1 thread: num_threads or OMP_NUM_THREADS"),
+                (2, 8, "4 threads on 2 processors of 8, ",
+                 "allow more processors (taskset, cgroup), or use 2 threads")):
+            run.processors, run.of_machine = allowed, there
+            self.assertEqual(lost_sentence(run, Names(run, SOURCES), Loss("too_many_threads", "image.c:6", 1)),
+                             lost + "in the region at image.c:6")
+            self.assertEqual(change_sentence(run, Names(run, SOURCES), step), change)
+
+    def test_lines_of_one_file_are_joined(self):
+        self.assertEqual(joined([Line("a.c", 12), Line("a.c", 9), Line("a.c", 10)]), "a.c:9, 10 and 12")
+        self.assertEqual(joined([Line("a.c", 12), Line("b.c", 9)]), "a.c:12 and b.c:9")
 
     def test_of_a_lock_of_the_system_only_the_waits_are_counted(self):
         self.assertEqual([times_of(Held("a.c:1", kind, 9000, 1, 2)) for kind in ("critical", "mutex")],
@@ -292,7 +309,7 @@ class Sentences(unittest.TestCase):
                 ("drop-depend", TASKS, "dependence",
                  "finer depend items at image.c:9, or none if no order is needed"),
                 ("drop-wait", "taskwait at image.c:12", "wait",
-                 "leave out the taskwait at image.c:12, if no result is needed yet"),
+                 "remove the taskwait at image.c:12 if no result is needed yet"),
                 ("defer", TASKS, "undeferred", "defer more tasks at image.c:9: change its if or final"),
                 ("task", "after taskwait at image.c:12", "too_few_tasks",
                  "make main (image.c:13-14) a task of its own"),
@@ -309,12 +326,12 @@ class Sentences(unittest.TestCase):
         one.items.update({("inout", "b%d" % number): 1 for number in range(8)})
         one.positions = {item: int(item[1][0] == "b") for item in one.items}
         self.assertRegex(lost_sentence(run, Names(run, SOURCES), Loss("dependence", TASKS, 9)),
-                         r"are serial: all have depend\(inout: tab\[f\(0, 1\)\]\)$")
+                         r"are serialised: all have depend\(inout: tab\[f\(0, 1\)\]\)$")
 
     def test_tasks_outside_of_regions_want_one(self):
         run, step = found(tasks_in_regions=False), Step("undeferred", TASKS, 2, 1, 1, 1, 1.0, single("defer", TASKS))
         self.assertEqual(change_sentence(run, Names(run, SOURCES), step),
-                         "create the tasks of image.c:9 in a parallel region, in single")
+                         "create the tasks of image.c:9 inside parallel and single")
 
     def test_a_task_that_goes_on_after_it_has_created_another_could_create_more(self):
         rest = "after creating a task at image.c:9"
