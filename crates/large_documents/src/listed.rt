@@ -5,7 +5,7 @@ ghost use Rattle.large_documents.specs.ChangeLists.{NamesLine};
 ghost use Rattle.large_documents.specs.ListReports.{SaysOfList, TellsFault, word_of};
 
 use crate::change_list::{ListFault, WrongLine, read_list};
-use crate::time_refusals::at_line;
+use crate::time_refusals::{at_line, count_lines};
 use dispatch_core::graph::graph_of;
 use spanprof_command::{Report, try_on_graph};
 use std::alloc::Global;
@@ -41,7 +41,7 @@ fn list_refused(alloc: Global, program: &[u8], fault: ListFault) -> Result<Repor
     ensures { IfOk result (λ report. TellsFault program.now fault report) }
 {
     match fault {
-        ListFault::Wrong { line, why } => at_line(alloc, program, line, word_of(why)),
+        ListFault::Wrong { line, why } => at_line(alloc, count_lines(program), line, word_of(why)),
         ListFault::OutOfMemory => Err(AllocFault),
     }
 }

@@ -99,7 +99,7 @@ fn total_length(begins: &[u64], ends: &[u64]) -> u64
 }
 
 /// The first of some moments.
-fn first_of(moments: &[u64]) -> u64
+pub(crate) fn first_of(moments: &[u64]) -> u64
     requires { 0 < length moments.now }
     ensures { result ≡ at moments.now 0 }
 {
@@ -116,7 +116,7 @@ fn last_of(moments: &[u64]) -> u64
 
 /// What is known of a legal run, by the moments at which segments become ready, begin and end. It
 /// does nothing when it runs.
-fn known(graph: &Graph, region: Region, times: &Times, changes: &Changes)
+pub(crate) fn known(graph: &Graph, region: Region, times: &Times, changes: &Changes)
     requires legal { IsTimedRun (length graph.now.costs) (Precedes graph.now)
         region.threads region.first region.last times.now }
     requires changes { AreChanges graph.now times.now
