@@ -15,3 +15,4 @@ mod PlaceWords
 mod PlaceRows
 mod PlaceParts
 mod OnePlaces
+mod PlaceTimes

@@ -6,7 +6,7 @@ use Rattle.program_text.specs.Document.{program_part}
 use Rattle.span_analysis.specs.Findings.{Findings, IsAnalysis}
 use Rattle.spanprof_command.specs.Report.{Report, table_report}
 use Rattle.task_segments.specs.Schedule.{at}
-use Rattle.time_accounts.specs.BySegment.{delayed_by_segment}
+use Rattle.time_accounts.specs.BySegment.{delayed_by_segment, starved_by_segment}
 use Rattle.time_accounts.specs.TimedRun.{TimedRun, durations}
 use Rattle.time_text.specs.declared.line.RegionTimes.{RegionTimes}
 use Rattle.large_documents.specs.Places.{no_sums, place_count, places_header, row_of, segments_at, sums_at}
@@ -18,22 +18,23 @@ abbrev pub sum_at : (places numbers : List ℕ) → ℕ → ℕ
 sum_at places numbers p = sum_by (at numbers) (segments_at places p)
 
 abbrev pub timed_header : List (List ℕ)
-timed_header = places_header ++ codes "busy" ∷ codes "delayed" ∷ []
+timed_header = places_header ++ codes "busy" ∷ codes "delayed" ∷ codes "starved" ∷ []
 
--- a place, what is told of it without times, how long its segments ran, and how long threads were
--- delayed while one of them had been ready longest
-abbrev pub timed_row_of : PlaceSums → (busy delayed : ℕ) → ℕ → List (Option ℕ)
-timed_row_of sums busy delayed p = row_of sums p ++ Some busy ∷ Some delayed ∷ []
+-- a place, what is told of it without times, how long its segments ran, how long threads were delayed
+-- while one of them had been ready longest, and how long they starved while one had run longest
+abbrev pub timed_row_of : PlaceSums → (busy delayed starved : ℕ) → ℕ → List (Option ℕ)
+timed_row_of sums busy delayed starved p =
+    row_of sums p ++ Some busy ∷ Some delayed ∷ Some starved ∷ []
 
-abbrev pub timed_line : List PlaceSums → (busy delayed : List ℕ) → ℕ → List (Option ℕ)
-timed_line sums busy delayed p =
-    timed_row_of (slice_index_or sums p no_sums) (at busy p) (at delayed p) p
+abbrev pub timed_line : List PlaceSums → (busy delayed starved : List ℕ) → ℕ → List (Option ℕ)
+timed_line sums busy delayed starved p =
+    timed_row_of (slice_index_or sums p no_sums) (at busy p) (at delayed p) (at starved p) p
 
-abbrev pub timed_row : (costs places : List ℕ) → Findings → (busy delayed : List ℕ) → ℕ
+abbrev pub timed_row : (costs places : List ℕ) → Findings → (busy delayed starved : List ℕ) → ℕ
     → List (Option ℕ)
-timed_row costs places found busy delayed p =
+timed_row costs places found busy delayed starved p =
     timed_row_of (sums_at places costs found.slacks found.chain p) (sum_at places busy p)
-    (sum_at places delayed p) p
+    (sum_at places delayed p) (sum_at places starved p) p
 
 -- a row for each place up to the largest
 abbrev pub timed_places_of : RecordedGraph → RegionTimes → TimedRun → Findings → (places : List ℕ)
@@ -41,7 +42,8 @@ abbrev pub timed_places_of : RecordedGraph → RegionTimes → TimedRun → Find
 timed_places_of graph region run found places =
     table_report timed_header
     (timed_row graph.costs places found (durations run)
-    (delayed_by_segment graph region.threads region.first region.last run))
+    (delayed_by_segment graph region.threads region.first region.last run)
+    (starved_by_segment graph region.threads region.first region.last run))
     (place_count places)
 
 -- what an analysis of the graph and a run on it say of these places

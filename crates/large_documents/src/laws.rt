@@ -31,7 +31,8 @@ pub fn places_add_up()
         → AddUp graph.costs found places }
 {}
 
-/// With the times of a run, all places together have all of its busy and its delayed time.
+/// With the times of a run, all places together have all of its busy, delayed and starved
+/// time.
 pub fn times_add_up()
     ensures { (graph : RecordedGraph) (p first last : ℕ) (run : TimedRun) (places : List ℕ)
         → IsGraph graph → IsTimedRun (length graph.costs) (Precedes graph) p first last run

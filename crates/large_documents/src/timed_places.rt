@@ -4,6 +4,7 @@ ghost use Rattle.csv_table.specs.Tables.{numbered_table};
 ghost use Rattle.dispatch_core.specs.RecordedGraph.{Precedes};
 ghost use Rattle.time_accounts.specs.Faults.{IsRanged};
 ghost use Rattle.time_accounts.specs.BySegment.{delayed_by_segment as delayed_by_segment_of};
+ghost use Rattle.time_accounts.specs.BySegment.{starved_by_segment as starved_by_segment_of};
 ghost use Rattle.time_accounts.specs.TimedRun.{IsTimedRun, durations};
 ghost use Rattle.large_documents.specs.PlaceSteps.{AreSums};
 ghost use Rattle.large_documents.specs.Places.{segments_of};
@@ -17,7 +18,7 @@ use dispatch_core::graph::Graph;
 use spanprof_command::{Report, Status};
 use std::alloc::Global;
 use task_program::AllocFault;
-use time_accounts::by_segment::{busy_by_segment, delayed_by_segment};
+use time_accounts::by_segment::{busy_by_segment, delayed_by_segment, starved_by_segment};
 use time_accounts::region::Region;
 use time_accounts::times::Times;
 use time_text::RegionTimes;
@@ -59,8 +60,25 @@ fn tell_run_at(
     let sums = analysed_sums(alloc, graph, places)?;
     let busy = busy_by_place(alloc, graph, region, times, places)?;
     let delayed = delayed_by_place(alloc, graph, region, times, places)?;
-    let text = timed_table(alloc, sums.as_slice(), busy.as_slice(), delayed.as_slice())?;
+    let starved = starved_by_place(alloc, graph, region, times, places)?;
+    let text = timed_table(
+        alloc,
+        sums.as_slice(),
+        busy.as_slice(),
+        delayed.as_slice(),
+        starved.as_slice(),
+    )?;
     Ok(Report::new(text, Status::Done))
+}
+
+fn region_of(times: RegionTimes) -> Region
+    ensures { result ≡ record { threads = times.threads; first = times.first; last = times.last } }
+{
+    Region {
+        threads: times.threads,
+        first: times.first,
+        last: times.last,
+    }
 }
 
 /// How long the segments of each place ran.
@@ -100,13 +118,29 @@ fn delayed_by_place(
         region.threads region.first region.last times.now) (segments_of places.now) sums.items) }
 {
     dispatch_core::laws::is_graph(graph);
-    let within = Region {
-        threads: region.threads,
-        first: region.first,
-        last: region.last,
-    };
-    let delayed = delayed_by_segment(alloc, graph, within, times)?;
+    let delayed = delayed_by_segment(alloc, graph, region_of(region), times)?;
     sum_by_place(alloc, places, delayed.as_slice())
+}
+
+/// How long they starved while a segment of each place had run longest.
+fn starved_by_place(
+    alloc: Global,
+    graph: &Graph,
+    region: RegionTimes,
+    times: &Times,
+    places: &[u32],
+) -> Result<Vec<u64>, AllocFault>
+    requires each { length places.now ≡ length graph.now.costs }
+    requires legal { IsTimedRun (length graph.now.costs) (Precedes graph.now)
+        region.threads region.first region.last times.now }
+    requires within { IsRanged (length graph.now.costs) region.threads region.first region.last
+        times.now }
+    ensures { IfOk result (λ sums. AreSums places.now (starved_by_segment_of graph.now
+        region.threads region.first region.last times.now) (segments_of places.now) sums.items) }
+{
+    dispatch_core::laws::is_graph(graph);
+    let starved = starved_by_segment(alloc, graph, region_of(region), times)?;
+    sum_by_place(alloc, places, starved.as_slice())
 }
 
 /// Of numbers of each segment the sum of those of each place.
@@ -129,27 +163,37 @@ fn timed_table(
     sums: &[PlaceSums],
     busy: &[u64],
     delayed: &[u64],
+    starved: &[u64],
 ) -> Result<Vec<u8>, AllocFault>
     requires busy { length busy.now ≡ length sums.now }
     requires delayed { length delayed.now ≡ length sums.now }
+    requires starved { length starved.now ≡ length sums.now }
     ensures { IfOk result (λ text. text.items ≡ numbered_table timed_header
-        (timed_line sums.now busy.now delayed.now) 0 (length sums.now)) }
+        (timed_line sums.now busy.now delayed.now starved.now) 0 (length sums.now)) }
 {
     let header = [
-        "place", "segments", "work", "on_path", "path", "slack", "busy", "delayed",
+        "place", "segments", "work", "on_path", "path", "slack", "busy", "delayed", "starved",
     ];
     let mut rows = Table::new(alloc, &header)?;
     for place in 0..sums.len() {
-        rows = rows.with_row(&timed_line(sums, busy, delayed, place))?;
+        rows = rows.with_row(&timed_line(sums, busy, delayed, starved, place))?;
     }
     rows.into_text()
 }
 
-fn timed_line(sums: &[PlaceSums], busy: &[u64], delayed: &[u64], place: usize) -> [Option<u64>; 8]
+fn timed_line(
+    sums: &[PlaceSums],
+    busy: &[u64],
+    delayed: &[u64],
+    starved: &[u64],
+    place: usize,
+) -> [Option<u64>; 9]
     requires sums { place < length sums.now }
     requires busy { place < length busy.now }
     requires delayed { place < length delayed.now }
-    ensures { result ≡ timed_line sums.now busy.now delayed.now place }
+    requires starved { place < length starved.now }
+    ensures { result ≡ timed_line sums.now busy.now delayed.now starved.now
+        place }
 {
     let of = sums[place];
     [
@@ -161,5 +205,6 @@ fn timed_line(sums: &[PlaceSums], busy: &[u64], delayed: &[u64], place: usize) -
         of.slack,
         Some(busy[place]),
         Some(delayed[place]),
+        Some(starved[place]),
     ]
 }

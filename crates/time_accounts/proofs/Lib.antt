@@ -16,6 +16,6 @@ pub mod OfProgram
 pub mod PathSteps
 pub mod FirstSegment
 pub mod Longest
-pub mod CountedDelays
+pub mod CountedIdle
 pub mod CountedOnce
 pub mod CountedShares

@@ -15,7 +15,7 @@ use crate::changes::{Changes, sorted_changes};
 use crate::checks::check_times;
 use crate::fault::TimesFault;
 use crate::region::Region;
-use crate::sweep::delayed_between;
+use crate::sweep::idle_between;
 use crate::times::Times;
 use dispatch_core::graph::Graph;
 use std::alloc::Global;
@@ -145,7 +145,8 @@ fn measured(graph: &Graph, region: Region, times: &Times, changes: &Changes) -> 
     let from = first_of(&changes.begins);
     let to = last_of(&changes.ends);
     let busy = busy_time(times);
-    let delayed = delayed_between(
+    let delayed = idle_between(
+        true,
         &changes.readies,
         &changes.begins,
         &changes.ends,
