@@ -16,7 +16,10 @@ use Rattle.time_text.specs.TimesTexts.{IsTextFault, TellsTimes}
 use Rattle.time_text.specs.declared.line.RegionTimes.{RegionTimes}
 use Rattle.time_text.specs.declared.line.SegmentTimes.{SegmentTimes}
 use Rattle.large_documents.specs.AccountReports.{SaysOfTimes}
-use Rattle.large_documents.specs.RunReading.{ReadsRun, SaysOfRead, TellsRead}
+use Rattle.large_documents.specs.RunReading.{IsRunRead, MayTell, ReadsNoRun, ReadsNoTimes, ReadsRun, SaysOfRead}
+use Rattle.large_documents.specs.RunReading.{TellsOfRead, TellsRead}
+use Rattle.large_documents.specs.declared.accounts.RunRead.{RunRead}
+use Rattle.large_documents.specs.declared.accounts.RunRead.TheVariants.{Legal, Refused}
 use Rattle.large_documents.specs.Accounts.{wait_at}
 use Rattle.large_documents.specs.TimesOfEach.{AreMembers, AreTimes}
 
@@ -98,7 +101,7 @@ says_of_read tells before rest table graph output is of (inr (inr read)) =
     })
 
 -- what is told of a run that was read
-pub says_of_run : (tells : RecordedGraph → RegionTimes → TimedRun → Report → Type 0)
+says_of_run : (tells : RecordedGraph → RegionTimes → TimedRun → Report → Type 0)
     (rest : List ℕ) (graph : RecordedGraph) (region : RegionTimes) (run : TimedRun) (output : Report)
     → ReadsRun graph rest region run
     → tells graph region run output
@@ -113,3 +116,20 @@ says_of_run tells rest graph region run output read says = record {
       region.last r) read.are read.within;
   says = subst (λ (r : TimedRun). tells graph region r output) read.are says;
 }
+
+pub may_tell : (graph : RecordedGraph) (before : ℕ) (rest : List ℕ) (read : RunRead)
+    → IsRunRead graph before rest read → MayTell graph read
+may_tell graph before rest (Legal region run) is = (is.legal, is.within)
+may_tell graph before rest (Refused why) is = tt
+
+pub says_of : (telling : RecordedGraph → RegionTimes → TimedRun → Report → Type 0)
+    (graph : RecordedGraph) (before : ℕ) (rest : List ℕ) (read : RunRead) (output : Report)
+    → IsRunRead graph before rest read
+    → TellsOfRead telling graph read output
+    → SaysOfRead telling graph before rest output
+says_of telling graph before rest (Legal region run) output is told =
+    inl (says_of_run telling rest graph region run output is told)
+says_of telling graph before rest (Refused why) output (inl is) told =
+    inr (inl (subst (ReadsNoRun graph rest) (sym told) is))
+says_of telling graph before rest (Refused why) output (inr is) told =
+    inr (inr (subst (ReadsNoTimes graph before rest) (sym told) is))

@@ -1,5 +1,5 @@
 -- Sums of numbers of each place.
-use Rattle.std.proofs.Common.{◌≡◌, ◌+◌, ◌<◌, ◌≤◌, ◌∙◌, ◌++◌, ℕ, List, [], ◌∷◌, ap, arith, length, sym, refl}
+use Rattle.std.proofs.Common.{◌≡◌, ◌+◌, ◌-◌, ◌^◌, ◌<◌, ◌≤◌, ◌∙◌, ◌++◌, ℕ, List, [], ◌∷◌, ap, arith, length, sym, refl}
 use Rattle.std.proofs.Common.{Option, inl, inr, replicate, set, sum, sum_by, take}
 use Rattle.std.specs.List.{range_with_len}
 use Rattle.std.proofs.lemmas.Bool.{cases_eq}
@@ -11,7 +11,10 @@ use Rattle.csv_table.specs.Row.{line_of}
 use Rattle.csv_table.specs.Tables.{numbered_table}
 use Rattle.dispatch_core.specs.RecordedGraph.{IsGraph, Precedes, RecordedGraph}
 use Rattle.task_segments.specs.Schedule.{at}
-use Rattle.time_accounts.proofs.AllShares.{busy_sum}
+use Rattle.time_accounts.proofs.AllShares.{busy_sum, shares_sum}
+use Rattle.time_accounts.proofs.Measured.{product-le}
+use Rattle.time_accounts.specs.Faults.{IsRanged}
+use Rattle.time_accounts.specs.Shares.{shares_of}
 use Rattle.time_accounts.proofs.CountedShares.{delayed_sum, starved_sum}
 use Rattle.time_accounts.proofs.TimedRuns.{each_duration}
 use Rattle.time_accounts.specs.BySegment.{delayed_by_segment, starved_by_segment}
@@ -133,3 +136,18 @@ times_add_up graph p first last run places is timed each =
           (length-map-range_with_len _ 0 (length run.begins) ∙ of_all)
           ∙ sym (starved_sum graph n p first last run (record { up = is.smaller }) is.each timed);
     }
+
+-- ---- room
+
+pub share_room : (graph : RecordedGraph) (n p first last : ℕ) (run : TimedRun)
+    → IsTimedRun n (Precedes graph) p first last run
+    → IsRanged n p first last run
+    → (shares_of graph p first last run).busy + (shares_of graph p first last run).delayed
+    + (shares_of graph p first last run).starved < 2 ^ 64
+share_room graph n p first last run timed within =
+    omega (
+      arith,
+      shares_sum graph timed,
+      product-le p (last - first) within.counted.threads.few
+          (omega (arith, within.counted.moments.soon)),
+    )

@@ -56,7 +56,7 @@ times_refusal times.OutOfMemory = out_of_memory
 -- ---- the times of a run on a program
 
 -- the times are those of a legal run, of which this is told
-pub record AcceptsRun (tells : RecordedGraph → RegionTimes → TimedRun → Report → Type 0)
+pub record AcceptsRun (telling : RecordedGraph → RegionTimes → TimedRun → Report → Type 0)
     (graph : RecordedGraph) (region : RegionTimes) (segments : List SegmentTimes) (output : Report)
     : Type 0 where
   pub legal : IsTimedRun (length graph.costs) (Precedes graph) region.threads region.first region.last
@@ -64,7 +64,7 @@ pub record AcceptsRun (tells : RecordedGraph → RegionTimes → TimedRun → Re
   -- the number of threads and the moments are within the limits
   pub within : IsRanged (length graph.costs) region.threads region.first region.last
       (run_of segments)
-  pub says : tells graph region (run_of segments) output
+  pub says : telling graph region (run_of segments) output
 
 -- they are not, and this fault is told
 pub record RefusesRun (graph : RecordedGraph) (region : RegionTimes) (segments : List SegmentTimes)
@@ -77,7 +77,7 @@ pub record RefusesRun (graph : RecordedGraph) (region : RegionTimes) (segments :
   pub says : output ≡ times_refusal fault
 
 -- the text tells times of the program's segments
-pub record TakesTimes (tells : RecordedGraph → RegionTimes → TimedRun → Report → Type 0)
+pub record TakesTimes (telling : RecordedGraph → RegionTimes → TimedRun → Report → Type 0)
     (rest : List ℕ) (table : Table) (output : Report)
     : Type 0 where
   pub region : RegionTimes
@@ -86,7 +86,7 @@ pub record TakesTimes (tells : RecordedGraph → RegionTimes → TimedRun → Re
   pub graph : RecordedGraph
   pub is_graph : IsGraph graph
   pub is_graph_of : IsGraphOf table graph
-  pub answers : AcceptsRun tells graph region segments output
+  pub answers : AcceptsRun telling graph region segments output
       ⊎ RefusesRun graph region segments output
 
 -- it does not, and this fault is told
@@ -101,8 +101,8 @@ pub record RefusesTimes (before : ℕ) (rest : List ℕ) (table : Table) (output
 -- so many lines have ended
 abbrev pub SaysOfTimes : (RecordedGraph → RegionTimes → TimedRun → Report → Type 0) → (before : ℕ)
     → (rest : List ℕ) → Table → Report → Type 0
-SaysOfTimes tells before rest table output =
-    TakesTimes tells rest table output ⊎ RefusesTimes before rest table output
+SaysOfTimes telling before rest table output =
+    TakesTimes telling rest table output ⊎ RefusesTimes before rest table output
 
 -- and what is asked of an account
 abbrev pub SaysOfAccount : AccountRequest → (program rest : List ℕ) → Table → Report → Type 0

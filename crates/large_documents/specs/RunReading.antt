@@ -1,5 +1,5 @@
 -- Carried out: the times of a run are read, or a refusal is told.
-use Rattle.std.specs.Prelude.{ℕ, ◌≡◌, ◌≢◌, ◌⊎◌, List, length}
+use Rattle.std.specs.Prelude.{ℕ, ◌≡◌, ◌≢◌, ◌⊎◌, ⊤, List, length}
 use Rattle.dispatch_core.specs.RecordedGraph.{Precedes, RecordedGraph}
 use Rattle.program_text.specs.Document.{lines_of}
 use Rattle.spanprof_command.specs.Report.{Report}
@@ -53,8 +53,21 @@ IsRunRead graph before rest (Legal region run) = ReadsRun graph rest region run
 IsRunRead graph before rest (Refused output) =
     ReadsNoRun graph rest output ⊎ ReadsNoTimes graph before rest output
 
+-- what is told of a run that was read, or of why none was
+abbrev pub TellsOfRead : (RecordedGraph → RegionTimes → TimedRun → Report → Type 0) → RecordedGraph
+    → RunRead → Report → Type 0
+TellsOfRead telling graph (Legal region run) output = telling graph region run output
+TellsOfRead telling graph (Refused why) output = output ≡ why
+
+-- a run that was read is legal and within the limits
+abbrev pub MayTell : RecordedGraph → RunRead → Type 0
+MayTell graph (Legal region run) =
+    IsTimedRun (length graph.costs) (Precedes graph) region.threads region.first region.last run
+    × IsRanged (length graph.costs) region.threads region.first region.last run
+MayTell graph (Refused why) = ⊤
+
 -- the lines tell the times of a legal run, of which this is told
-pub record TellsRead (tells : RecordedGraph → RegionTimes → TimedRun → Report → Type 0)
+pub record TellsRead (telling : RecordedGraph → RegionTimes → TimedRun → Report → Type 0)
     (graph : RecordedGraph) (rest : List ℕ) (output : Report)
     : Type 0 where
   pub region : RegionTimes
@@ -64,11 +77,11 @@ pub record TellsRead (tells : RecordedGraph → RegionTimes → TimedRun → Rep
       (run_of segments)
   pub within : IsRanged (length graph.costs) region.threads region.first region.last
       (run_of segments)
-  pub says : tells graph region (run_of segments) output
+  pub says : telling graph region (run_of segments) output
 
 -- what is told of a graph, and of the lines of a run on it
 abbrev pub SaysOfRead : (RecordedGraph → RegionTimes → TimedRun → Report → Type 0) → RecordedGraph
     → (before : ℕ) → (rest : List ℕ) → Report → Type 0
-SaysOfRead tells graph before rest output =
-    TellsRead tells graph rest output
+SaysOfRead telling graph before rest output =
+    TellsRead telling graph rest output
     ⊎ (ReadsNoRun graph rest output ⊎ ReadsNoTimes graph before rest output)

@@ -1,7 +1,8 @@
 //! What is told of a program and the times of a run of it.
 ghost use Rattle.std.specs.Prelude.{◌≡◌, IfOk, length};
 ghost use Rattle.large_documents.specs.AccountReports.{SaysOfAccount};
-ghost use Rattle.large_documents.specs.RunReading.{IsJudged, IsRunRead};
+ghost use Rattle.large_documents.specs.Accounts.{TellsRun};
+ghost use Rattle.large_documents.specs.RunReading.{IsJudged, IsRunRead, MayTell, TellsOfRead};
 ghost use Rattle.large_documents.specs.Times.{run_of};
 
 use crate::run_tables::tell_run;
@@ -33,8 +34,22 @@ pub(crate) fn tell_account(
     let graph = graph_of(alloc, &table)?;
     drop(table);
     dispatch_core::laws::is_graph(&graph);
-    match read_run(alloc, count_lines(program), rest, &graph)? {
-        RunRead::Legal(region, times) => tell_run(alloc, asked, &graph, region, &times),
+    let read = read_run(alloc, count_lines(program), rest, &graph)?;
+    tell_read(alloc, asked, &graph, read)
+}
+
+/// What is told of the times that were read, or were not.
+fn tell_read(
+    alloc: Global,
+    asked: AccountRequest,
+    graph: &Graph,
+    read: RunRead,
+) -> Result<Report, AllocFault>
+    requires { MayTell graph.now read }
+    ensures { IfOk result (TellsOfRead (TellsRun asked) graph.now read) }
+{
+    match read {
+        RunRead::Legal(region, times) => tell_run(alloc, asked, graph, region, &times),
         RunRead::Refused(report) => Ok(report),
     }
 }

@@ -9,7 +9,7 @@ ghost use Rattle.time_accounts.specs.TimedRun.{IsTimedRun, durations};
 ghost use Rattle.large_documents.specs.PlaceSteps.{AreSums};
 ghost use Rattle.large_documents.specs.Places.{segments_of};
 ghost use Rattle.large_documents.specs.TimedPlaces.{TellsTimedSums, timed_header, timed_line};
-ghost use Rattle.large_documents.specs.RunReading.{SaysOfRead};
+ghost use Rattle.large_documents.specs.RunReading.{MayTell, SaysOfRead, TellsOfRead};
 
 use crate::accounts::{RunRead, read_run};
 use crate::places::{PlaceSums, analysed_sums, place_count};
@@ -36,7 +36,22 @@ pub(crate) fn tell_timed(
     ensures { IfOk result (λ report. SaysOfRead (TellsTimedSums places.now) graph.now before
         times.now report) }
 {
-    match read_run(alloc, before, times, graph)? {
+    let read = read_run(alloc, before, times, graph)?;
+    tell_read(alloc, graph, read, places)
+}
+
+/// What is told of the places and of the times that were read, or were not.
+fn tell_read(
+    alloc: Global,
+    graph: &Graph,
+    read: RunRead,
+    places: &[u32],
+) -> Result<Report, AllocFault>
+    requires each { length places.now ≡ length graph.now.costs }
+    requires read { MayTell graph.now read }
+    ensures { IfOk result (TellsOfRead (TellsTimedSums places.now) graph.now read) }
+{
+    match read {
         RunRead::Legal(region, times) => tell_run_at(alloc, graph, region, &times, places),
         RunRead::Refused(report) => Ok(report),
     }
