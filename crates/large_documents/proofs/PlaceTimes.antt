@@ -1,6 +1,6 @@
 -- Sums of numbers of each place.
 use Rattle.std.proofs.Common.{◌≡◌, ◌+◌, ◌-◌, ◌^◌, ◌<◌, ◌≤◌, ◌∙◌, ◌++◌, ℕ, List, [], ◌∷◌, ap, arith, length, sym, refl}
-use Rattle.std.proofs.Common.{Option, inl, inr, replicate, set, sum, sum_by, take}
+use Rattle.std.proofs.Common.{Option, inl, inr, replicate, set, subst, sum, sum_by, take}
 use Rattle.std.specs.List.{range_with_len}
 use Rattle.std.proofs.lemmas.Bool.{cases_eq}
 use Rattle.std.proofs.lemmas.List.{get_or-replicate, get_or-set_other, length-replicate, length-set}
@@ -9,6 +9,10 @@ use Rattle.std.proofs.lemmas.List.Sums.{sum_by-cons, sum_by_push}
 use Rattle.std.proofs.lemmas.Grind.{get_or-set_at}
 use Rattle.csv_table.specs.Row.{line_of}
 use Rattle.csv_table.specs.Tables.{numbered_table}
+use Rattle.program_text.specs.Document.{program_part, rest_part}
+use Rattle.spanprof_command.specs.Report.{Report}
+use Rattle.task_segments.specs.Table.{Table}
+use Rattle.large_documents.specs.PlaceReports.{TakesPlaces, TellsOfPlaces}
 use Rattle.dispatch_core.specs.RecordedGraph.{IsGraph, Precedes, RecordedGraph}
 use Rattle.task_segments.specs.Schedule.{at}
 use Rattle.time_accounts.proofs.AllShares.{busy_sum, shares_sum}
@@ -19,12 +23,12 @@ use Rattle.time_accounts.proofs.CountedShares.{delayed_sum, starved_sum}
 use Rattle.time_accounts.proofs.TimedRuns.{each_duration}
 use Rattle.time_accounts.specs.BySegment.{delayed_by_segment, starved_by_segment}
 use Rattle.time_accounts.specs.TimedRun.{IsTimedRun, TimedRun, durations}
-use Rattle.large_documents.specs.Places.{is_at, members, place_count, segments_of, sums_at}
+use Rattle.large_documents.specs.Places.{ArePlaces, is_at, members, place_count, segments_of, sums_at}
 use Rattle.large_documents.proofs.PlaceParts.{IsSumOf, inside_range, parts}
 use Rattle.large_documents.proofs.PlaceRows.{same_rows}
 use Rattle.large_documents.specs.PlaceLaws.{TimesAddUp}
 use Rattle.large_documents.specs.PlaceSteps.{ArePlaceSums, AreSums}
-use Rattle.large_documents.specs.TimedPlaces.{sum_at, timed_header, timed_line, timed_row_of}
+use Rattle.large_documents.specs.TimedPlaces.{before_times, sum_at, timed_header, timed_line, timed_row_of}
 use Rattle.large_documents.specs.declared.places.PlaceSums.{PlaceSums}
 use Rattle.large_documents.proofs.PlaceCounts.{below_count}
 use Rattle.large_documents.proofs.PlaceGrowth.{IsNth, all_work, nth_segment, of_other, of_place, room}
@@ -151,3 +155,23 @@ share_room graph n p first last run timed within =
       product-le p (last - first) within.counted.threads.few
           (omega (arith, within.counted.moments.soon)),
     )
+
+-- ---- the parts of the text
+
+-- what is told of the parts of a text is told of the text
+pub takes_places : (program rest given : List ℕ) (times : Option (List ℕ)) (before : ℕ) (table : Table)
+    (places : List ℕ) (output : Report)
+    → given ≡ program_part rest
+    → times ≡ rest_part rest
+    → before ≡ before_times program rest
+    → ArePlaces (length table.segments) given places
+    → TellsOfPlaces before table places times output
+    → TakesPlaces program rest table output
+takes_places program rest given times before table places output is_given is_times is_before are says =
+    record {
+      places = places;
+      are_places = subst (λ (text : List ℕ). ArePlaces (length table.segments) text places) is_given
+          are;
+      says = subst (λ (n : ℕ). TellsOfPlaces n table places (rest_part rest) output) is_before
+          (subst (λ (t : Option (List ℕ)). TellsOfPlaces before table places t output) is_times says);
+    }
