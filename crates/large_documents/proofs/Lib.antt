@@ -1,4 +1,3 @@
-mod Lines
 mod Members
 mod OneAccount
 mod OneFault

@@ -1,7 +1,6 @@
 //! The lines of what is wrong with the times of a run.
-ghost use Rattle.std.specs.Prelude.{◌≡◌, ◌-◌, ◌^◌, ◌<◌, ◌≤◌, IfOk, count_by, length};
+ghost use Rattle.std.specs.Prelude.{◌≡◌, ◌≤◌, IfOk, count_by, length};
 ghost use Rattle.program_text.specs.Tokens.{is_line_feed};
-ghost use Rattle.time_text.specs.TimesTexts.{NamesLineBelow};
 ghost use Rattle.spanprof_command.specs.Certificates.{refused_as, refused_pair};
 ghost use Rattle.large_documents.specs.AccountReports.{at_line, numbered, of_segment};
 ghost use Rattle.large_documents.specs.AccountReports.{text_refusal, times_refusal};
