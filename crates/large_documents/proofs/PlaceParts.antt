@@ -9,6 +9,7 @@ use Rattle.std.proofs.lemmas.List.{get_or_default}
 use Rattle.std.proofs.lemmas.List.FromFn.{get_or-range_with_len, length-range_with_len}
 use Rattle.task_segments.specs.Schedule.{at}
 use Rattle.span_analysis.specs.Findings.{Findings}
+use Rattle.time_accounts.proofs.CountedOnce.{nothing, two_sums}
 use Rattle.large_documents.specs.Places.{is_at, least_of, least_with, members, place_count, segments_at}
 use Rattle.large_documents.specs.Places.{segments_of}
 use Rattle.std.proofs.lemmas.List.Sums.{sum_by-cons}
@@ -48,23 +49,6 @@ one_share q v a (suc n) from below = elim (cases_eq q a) [
       omega (arith, here, later, sum_by-cons (share q v) a (range_with_len (a + 1) n))
 ]
 
-two_sums : (f g h : ℕ → ℕ) (xs : List ℕ) → ((p : ℕ) → h p ≡ f p + g p)
-    → sum_by h xs ≡ sum_by f xs + sum_by g xs
-two_sums f g h [] each = refl
-two_sums f g h (x ∷ xs) each =
-    omega (
-      arith,
-      each x,
-      two_sums f g h xs each,
-      sum_by-cons f x xs,
-      sum_by-cons g x xs,
-      sum_by-cons h x xs,
-    )
-
-all_zero : (h : ℕ → ℕ) (xs : List ℕ) → ((p : ℕ) → h p ≡ 0) → sum_by h xs ≡ 0
-all_zero h [] each = refl
-all_zero h (x ∷ xs) each = omega (arith, each x, all_zero h xs each, sum_by-cons h x xs)
-
 -- a sum over lists that adds up member by member
 pub record IsSumOf (F : List ℕ → ℕ) (f : ℕ → ℕ) : Type 0 where
   pub none : F [] ≡ 0
@@ -78,7 +62,7 @@ with_first F f s rest false is = omega arith
 pub parts : (F : List ℕ → ℕ) (f : ℕ → ℕ) (places : List ℕ) (n : ℕ) (segments : List ℕ) → IsSumOf F f
     → ((k : ℕ) → k < length segments → at places (at segments k) < n)
     → sum_by (λ p. F (members places p segments)) (range_with_len 0 n) ≡ F segments
-parts F f places n [] is inside = all_zero (λ p. F []) (range_with_len 0 n) (λ p. is.none) ∙ sym is.none
+parts F f places n [] is inside = nothing (λ p. F []) (range_with_len 0 n) (λ p. is.none) ∙ sym is.none
 parts F f places n (s ∷ segments) is inside =
     let q = at places s in
     let two = two_sums (share q (f s)) (λ p. F (members places p segments))

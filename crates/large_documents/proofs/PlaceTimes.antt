@@ -156,6 +156,28 @@ share_room graph n p first last run timed within =
           (omega (arith, within.counted.moments.soon)),
     )
 
+module _ (graph : RecordedGraph) (p first last : ℕ) (run : TimedRun) (is : IsGraph graph)
+    (timed : IsTimedRun (length graph.costs) (Precedes graph) p first last run)
+    (within : IsRanged (length graph.costs) p first last run) (given : List ℕ) where
+  pub delayed_fits : given ≡ delayed_by_segment graph p first last run → sum given < 2 ^ 64
+  delayed_fits are =
+      omega (
+        arith,
+        ap sum are,
+        delayed_sum graph (length graph.costs) p first last run is.each timed,
+        share_room graph (length graph.costs) p first last run timed within,
+      )
+
+  pub starved_fits : given ≡ starved_by_segment graph p first last run → sum given < 2 ^ 64
+  starved_fits are =
+      omega (
+        arith,
+        ap sum are,
+        starved_sum graph (length graph.costs) p first last run (record { up = is.smaller })
+            is.each timed,
+        share_room graph (length graph.costs) p first last run timed within,
+      )
+
 -- ---- the parts of the text
 
 -- what is told of the parts of a text is told of the text

@@ -263,7 +263,7 @@ fn places_table(alloc: Global, sums: &[PlaceSums]) -> Result<Vec<u8>, AllocFault
     rows.into_text()
 }
 
-fn place_row(sums: &[PlaceSums], place: usize) -> [Option<u64>; 6]
+pub(crate) fn place_row(sums: &[PlaceSums], place: usize) -> [Option<u64>; 6]
     requires { place < length sums.now }
     ensures { result ≡ place_row sums.now place }
 {

@@ -12,7 +12,7 @@ ghost use Rattle.large_documents.specs.TimedPlaces.{TellsTimedSums, timed_header
 ghost use Rattle.large_documents.specs.RunReading.{MayTell, SaysOfRead, TellsOfRead};
 
 use crate::accounts::{RunRead, read_run};
-use crate::places::{PlaceSums, analysed_sums, place_count};
+use crate::places::{PlaceSums, analysed_sums, place_count, place_row};
 use csv_table::Table;
 use dispatch_core::graph::Graph;
 use spanprof_command::{Report, Status};
@@ -210,14 +210,14 @@ fn timed_line(
     ensures { result ≡ timed_line sums.now busy.now delayed.now starved.now
         place }
 {
-    let of = sums[place];
+    let [number, segments, work, on_path, path, slack] = place_row(sums, place);
     [
-        Some(place as u64),
-        Some(of.segments),
-        Some(of.work),
-        Some(of.on_path),
-        Some(of.path),
-        of.slack,
+        number,
+        segments,
+        work,
+        on_path,
+        path,
+        slack,
         Some(busy[place]),
         Some(delayed[place]),
         Some(starved[place]),

@@ -14,8 +14,7 @@ use Rattle.time_accounts.specs.Shares.{is_outside, last_end, moments, ready_mome
 use Rattle.time_accounts.specs.Sweep.{AreChanges, idle_at}
 use Rattle.time_accounts.proofs.AllShares.{Outside, Starved, Delayed, kind_of, delayed_part}
 use Rattle.time_accounts.proofs.AllShares.{starved_part}
-use Rattle.time_accounts.proofs.Between.{AreOuter, delayed_between_at, outside_after, outside_before}
-use Rattle.time_accounts.proofs.Between.{starved_between_at}
+use Rattle.time_accounts.proofs.Between.{AreOuter, idle_between_at, outside_after, outside_before}
 use Rattle.time_accounts.proofs.Longest.{part, part_sum, part_zero}
 use Rattle.time_accounts.proofs.Measured.{same_idle}
 use Rattle.time_accounts.proofs.Outer.{outer_of}
@@ -118,7 +117,7 @@ module _ (graph : RecordedGraph) (n p first last : ℕ) (run : TimedRun) (readie
       let other : ℕ → ℕ = idle_at true readies begins ends p in
       all_counted (ready_moments graph run) run.begins counts
       (λ m. (shares_at graph p run m).delayed) other (delayed_outside graph p run)
-      (λ m h l. delayed_between_at graph m each timed outer h l
+      (λ m h l. (idle_between_at graph m each timed outer h l).delayed
       ∙ sym (same_idle true graph p run readies begins ends changes m))
       (length-map graph.predecessors (last_end run.ends) ∙ each ∙ sym timed.each_begin)
       (λ r l.
@@ -137,7 +136,7 @@ module _ (graph : RecordedGraph) (n p first last : ℕ) (run : TimedRun) (readie
       let other : ℕ → ℕ = idle_at false readies begins ends p in
       all_counted run.begins run.ends counts
       (λ m. (shares_at graph p run m).starved) other (starved_outside graph p run)
-      (λ m h l. starved_between_at graph m each timed outer h l
+      (λ m h l. (idle_between_at graph m each timed outer h l).starved
       ∙ sym (same_idle false graph p run readies begins ends changes m))
       refl
       (λ r l. outer.no_later r (omega (arith, l, timed.each_end)))

@@ -11,7 +11,7 @@ use Rattle.time_accounts.proofs.Longest.{part_zero}
 
 -- ---- sums
 
-nothing : (f : ℕ → ℕ) (xs : List ℕ) → ((x : ℕ) → f x ≡ 0) → sum_by f xs ≡ 0
+pub nothing : (f : ℕ → ℕ) (xs : List ℕ) → ((x : ℕ) → f x ≡ 0) → sum_by f xs ≡ 0
 nothing f [] each = refl
 nothing f (x ∷ xs) each = omega (arith, each x, nothing f xs each, sum_by-cons f x xs)
 
@@ -20,7 +20,7 @@ alike f g [] each = refl
 alike f g (x ∷ xs) each =
     omega (arith, each x, alike f g xs each, sum_by-cons f x xs, sum_by-cons g x xs)
 
-two_sums : (f g h : ℕ → ℕ) (xs : List ℕ) → ((x : ℕ) → h x ≡ f x + g x)
+pub two_sums : (f g h : ℕ → ℕ) (xs : List ℕ) → ((x : ℕ) → h x ≡ f x + g x)
     → sum_by h xs ≡ sum_by f xs + sum_by g xs
 two_sums f g h [] each = refl
 two_sums f g h (x ∷ xs) each =
@@ -134,6 +134,36 @@ module _ (froms tos : List ℕ) where
   abbrev Found : ℕ → ℕ → Type 0
   Found m k = NoneBelow m k ⊎ ((s : ℕ) × IsFirstBelow m k s)
 
+  -- the one that was found stays, unless the next one comes before it
+  stays : (m k s : ℕ) → IsFirstBelow m k s
+      → (at froms k ≤ m → m < at tos k → Earlier froms tos k s → ⊥)
+      → IsFirstBelow m (suc k) s
+  stays m k s found not_k = record {
+    inside = omega (arith, found.inside);
+    from_then = found.from_then;
+    before = found.before;
+    first = λ r h a b earlier. elim (below_or_last r k h) [
+      | inl less ↦ found.first r less a b earlier
+      | inr last ↦
+          not_k (omega (arith, a, ap (at froms) last)) (omega (arith, b, ap (at tos) last))
+          (subst (λ (x : ℕ). Earlier froms tos x s) last earlier)
+    ];
+  }
+
+  -- or the next one is the first
+  goes : (m k : ℕ) → at froms k ≤ m → m < at tos k
+      → ((r : ℕ) → r < k → at froms r ≤ m → m < at tos r → Earlier froms tos r k → ⊥)
+      → IsFirstBelow m (suc k) k
+  goes m k from_then before none = record {
+    inside = omega arith;
+    from_then = from_then;
+    before = before;
+    first = λ r h a b earlier. elim (below_or_last r k h) [
+      | inl less ↦ none r less a b earlier
+      | inr last ↦ not_itself k (subst (λ (x : ℕ). Earlier froms tos x k) last earlier)
+    ];
+  }
+
   -- one that the moment does not lie within
   passed_over : (m k : ℕ) → (at froms k ≤ m → m < at tos k → ⊥) → Found m k → Found m (suc k)
   passed_over m k never (inl none) = inl (λ r h a b. elim (below_or_last r k h) [
@@ -141,60 +171,20 @@ module _ (froms tos : List ℕ) where
     | inr last ↦
         never (omega (arith, a, ap (at froms) last)) (omega (arith, b, ap (at tos) last))
   ])
-  passed_over m k never (inr found) = inr (
-    found.0,
-    record {
-      inside = omega (arith, found.1.inside);
-      from_then = found.1.from_then;
-      before = found.1.before;
-      first = λ r h a b earlier. elim (below_or_last r k h) [
-        | inl less ↦ found.1.first r less a b earlier
-        | inr last ↦
-            never (omega (arith, a, ap (at froms) last)) (omega (arith, b, ap (at tos) last))
-      ];
-    },
-  )
+  passed_over m k never (inr found) =
+      inr (found.0, stays m k found.0 found.1 (λ a b earlier. never a b))
 
   taken_up : (m k : ℕ) → at froms k ≤ m → m < at tos k → Found m k → Found m (suc k)
-  taken_up m k from_then before (inl none) = inr (
-    k,
-    record {
-      inside = omega arith;
-      from_then = from_then;
-      before = before;
-      first = λ r h a b earlier. elim (below_or_last r k h) [
-        | inl less ↦ none r less a b
-        | inr last ↦ not_itself k (subst (λ (x : ℕ). Earlier froms tos x k) last earlier)
-      ];
-    },
-  )
+  taken_up m k from_then before (inl none) =
+      inr (k, goes m k from_then before (λ r less a b earlier. none r less a b))
   taken_up m k from_then before (inr found) =
       let s = found.0 in
       elim (one_or_other s k (λ e. omega (arith, e, found.1.inside))) [
-        | inl stays ↦ inr (
-          s,
-          record {
-            inside = omega (arith, found.1.inside);
-            from_then = found.1.from_then;
-            before = found.1.before;
-            first = λ r h a b earlier. elim (below_or_last r k h) [
-              | inl less ↦ found.1.first r less a b earlier
-              | inr last ↦
-                  not_back s k stays (subst (λ (x : ℕ). Earlier froms tos x s) last earlier)
-            ];
-          },
-        )
-        | inr goes ↦ inr (
+        | inl sooner ↦ inr (s, stays m k s found.1 (λ a b earlier. not_back s k sooner earlier))
+        | inr later ↦ inr (
           k,
-          record {
-            inside = omega arith;
-            from_then = from_then;
-            before = before;
-            first = λ r h a b earlier. elim (below_or_last r k h) [
-              | inl less ↦ found.1.first r less a b (through r k s earlier goes)
-              | inr last ↦ not_itself k (subst (λ (x : ℕ). Earlier froms tos x k) last earlier)
-            ];
-          },
+          goes m k from_then before (λ r less a b earlier.
+              found.1.first r less a b (through r k s earlier later)),
         )
       ]
 

@@ -1,9 +1,8 @@
-use Rattle.std.proofs.Common.{◌∙◌, ap, arith, length, sum, sym}
+use Rattle.std.proofs.Common.{◌∙◌, ap, length, sym}
 use Rattle.std.proofs.lemmas.List.FromFn.{length-map-range_with_len}
-use Rattle.time_accounts.proofs.CountedShares.{starved_sum}
 use Rattle.time_accounts.specs.BySegment.{starved_by_segment}
 use Rattle.time_accounts.specs.declared.region.Region.{Region}
-use Rattle.large_documents.proofs.PlaceTimes.{share_room}
+use Rattle.large_documents.proofs.PlaceTimes.{starved_fits}
 use Rattle.large_documents.proofs.timed_places.starved_by_place.Goals as goal
 
 pub sum_by_place-requires-clause-each : goal.sum_by_place-requires-clause-each
@@ -14,15 +13,9 @@ sum_by_place-requires-clause-each c =
 
 pub sum_by_place-requires-clause-little : goal.sum_by_place-requires-clause-little
 sum_by_place-requires-clause-little c =
-    omega (
-      arith,
-      ap sum (c.as_slice.ensures.value ∙ c.in_ok-starved.ensures),
-      ap (λ (r : Region). sum (starved_by_segment c.args.graph.now r.threads r.first r.last
-          c.args.times.now)) c.region_of.ensures,
-      starved_sum c.args.graph.now (length c.args.graph.now.costs) c.args.region.threads
-          c.args.region.first c.args.region.last c.args.times.now (record { up = c.is_graph.ensures.smaller }) c.is_graph.ensures.each
-          c.requires.legal,
-      share_room c.args.graph.now (length c.args.graph.now.costs) c.args.region.threads
-          c.args.region.first c.args.region.last c.args.times.now c.requires.legal
-          c.requires.within,
-    )
+    let graph = c.args.graph.now in
+    let run = c.args.times.now in
+    starved_fits graph c.args.region.threads c.args.region.first c.args.region.last run
+    c.is_graph.ensures c.requires.legal c.requires.within c.as_slice.result.now
+    (c.as_slice.ensures.value ∙ c.in_ok-starved.ensures
+    ∙ ap (λ (r : Region). starved_by_segment graph r.threads r.first r.last run) c.region_of.ensures)
