@@ -138,9 +138,17 @@ def compare_text(small, large, text, seed):
         large.compare("places", text + rest)
 
 
+def with_places(document):
+    """A timed document with places of its segments in between."""
+    text, _, times = document.partition("---\n")
+    segments = max(1, sum(bool(line.split()) for line in times.split("\n")) - 1)
+    return f"{text}---\n{' '.join(str(s * s % min(segments, 77)) for s in range(segments))}\n---\n{times}"
+
+
 def compare_account(large, document):
     for words in ("account", "account --rows", "account --path"):
         large.compare(words, document)
+    large.compare("places", with_places(document))
 
 
 def compare_damaged(small, large, words, text):

@@ -196,7 +196,8 @@ def listed(refuser, program):
 def places(refuser, program):
     """Places: some that are told, and every kind of refusal."""
     for text in (f"{WORKED}---\n0 1 0 0\n", WORKED, "omptasks 1\ntask {", f"{WORKED}---\n0 1 0 4\n",
-                 f"{WORKED}---\n0 1 0\n"):
+                 f"{WORKED}---\n0 1 0\n", f"{WORKED}---\n0 1 0 0\n---\n{TIMES}\n",
+                 f"{WORKED}---\n0 1 0 0\n---\ntimes 2 0 14\n"):
         command(refuser, program, ["places"], text)
 
 

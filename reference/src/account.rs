@@ -3,13 +3,13 @@
 use crate::documents::Document;
 use crate::graph::Graph;
 use crate::growth::listed;
-use crate::refusal::Refusal;
+use crate::refusal::{bad_form, Refusal};
 use crate::times::{read_times, Times};
 use std::cmp::Reverse;
 use std::io::Write;
 
 pub fn account(graph: &Graph, document: &Document, flag: Option<&str>) -> Result<Vec<u8>, Refusal> {
-    let times = read_times(document, graph.len())?;
+    let times = read_times(document.ended(), document.rest.ok_or_else(bad_form)?, graph.len())?;
     times.check(graph)?;
     Ok(match flag {
         Some("--rows") => rows(&readies(graph, &times)?, &times),
@@ -33,7 +33,7 @@ pub fn readies(graph: &Graph, times: &Times) -> Result<Vec<u64>, Refusal> {
     listed(graph.segments().map(|segment| last_end(segment).unwrap_or(times.first)))
 }
 
-fn sorted(mut moments: Vec<u64>) -> Vec<u64> {
+pub fn sorted(mut moments: Vec<u64>) -> Vec<u64> {
     moments.sort_unstable();
     moments
 }

@@ -23,8 +23,12 @@ impl<'a> Document<'a> {
 
     /// The lines of the rest, each with its number in the document.
     pub fn lines(&self) -> impl Iterator<Item = (usize, &'a [u8])> {
-        let before = self.program.iter().filter(|byte| **byte == b'\n').count();
-        (before + 2..).zip(self.rest.unwrap_or_default().split(|byte| *byte == b'\n'))
+        (self.ended() + 2..).zip(self.rest.unwrap_or_default().split(|byte| *byte == b'\n'))
+    }
+
+    /// How many lines end before the divider.
+    pub fn ended(&self) -> usize {
+        self.program.iter().filter(|byte| **byte == b'\n').count()
     }
 }
 

@@ -21,6 +21,7 @@ pub mod growth;
 pub mod limits;
 pub mod memory;
 mod meter;
+mod idle;
 mod places;
 pub mod program;
 pub mod read;

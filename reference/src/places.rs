@@ -1,11 +1,15 @@
 //! What is told of each place of a program: how many segments stand there and their work, the same of those on the
-//! critical path, and the least of all slacks.
+//! critical path, and the least of all slacks. With the times of a run also how long the segments ran, and for how long
+//! threads were idle because of one.
 
+use crate::account::readies;
 use crate::analysis::analyse;
 use crate::documents::{number, words, Document};
 use crate::graph::Graph;
 use crate::growth::{filled, push};
+use crate::idle::{idle_by_segment, Idle};
 use crate::refusal::{bad_form, ensure, refused, Refusal};
+use crate::times::read_times;
 use std::io::Write;
 
 #[derive(Clone, Default)]
@@ -15,10 +19,17 @@ struct Sums {
     on_path: u64,
     path: u64,
     slack: Option<u64>,
+    busy: u64,
+    delayed: u64,
+    starved: u64,
 }
 
 pub fn places(graph: &Graph, document: &Document) -> Result<Vec<u8>, Refusal> {
-    let places = read_places(document, graph.len())?;
+    let rest = Document::split(document.rest.ok_or_else(bad_form)?);
+    let places = read_places(rest.program, graph.len())?;
+    let before = document.ended() + rest.ended() + 1;
+    let times = rest.rest.map(|lines| read_times(before, lines, graph.len())).transpose()?;
+    times.iter().try_for_each(|times| times.check(graph))?;
     let found = analyse(graph)?;
     let count = places.iter().max().map_or(0, |largest| largest + 1);
     let mut told = filled(Sums::default(), count)?;
@@ -33,25 +44,36 @@ pub fn places(graph: &Graph, document: &Document) -> Result<Vec<u8>, Refusal> {
         sums.on_path += 1;
         sums.path += graph.costs[*member as usize];
     }
-    Ok(table(&told))
+    if let Some(times) = &times {
+        let Idle { delayed, starved } = idle_by_segment(&readies(graph, times)?, times)?;
+        for (segment, place) in places.iter().enumerate() {
+            let (sums, ran) = (&mut told[*place], times.ran[segment]);
+            sums.busy += ran.end - ran.begin;
+            sums.delayed += delayed[segment];
+            sums.starved += starved[segment];
+        }
+    }
+    Ok(table(&told, times.is_some()))
 }
 
 /// A place for each segment, in their order. Places are numbered below the number of segments.
-fn read_places(document: &Document, segments: usize) -> Result<Vec<usize>, Refusal> {
+fn read_places(text: &[u8], segments: usize) -> Result<Vec<usize>, Refusal> {
     let mut places = Vec::new();
-    for word in words(document.rest.ok_or_else(bad_form)?) {
+    for word in words(text) {
         push(&mut places, number(word, segments as u64 - 1).ok_or_else(bad_form)? as usize)?;
     }
     ensure(places.len() == segments, || refused("Count"))?;
     Ok(places)
 }
 
-fn table(told: &[Sums]) -> Vec<u8> {
-    let mut text = b"place,segments,work,on_path,path,slack\n".to_vec();
+fn table(told: &[Sums], is_timed: bool) -> Vec<u8> {
+    let more = if is_timed { ",busy,delayed,starved" } else { "" };
+    let mut text = format!("place,segments,work,on_path,path,slack{more}\n").into_bytes();
     for (place, sums) in told.iter().enumerate() {
         let slack = sums.slack.map_or(String::new(), |slack| slack.to_string());
-        let Sums { segments, work, on_path, path, .. } = sums;
-        writeln!(text, "{place},{segments},{work},{on_path},{path},{slack}").expect("memory takes it");
+        let Sums { segments, work, on_path, path, busy, delayed, starved, .. } = sums;
+        let more = if is_timed { format!(",{busy},{delayed},{starved}") } else { String::new() };
+        writeln!(text, "{place},{segments},{work},{on_path},{path},{slack}{more}").expect("memory takes it");
     }
     text
 }
@@ -85,6 +107,34 @@ mod tests {
         ];
         for (rest, rows) in worked {
             assert_eq!(told_of(rest), format!("{header}{rows}"), "{rest}");
+        }
+    }
+
+    #[test]
+    fn with_times() {
+        // Segments 1 and 2 are ready from 5 on: from 5 to 6 both threads are delayed at segment 1, then one at 2, and from
+        // 11 to 12 both at 3. No segment is ready while 0, 2 and 3 run alone.
+        let times = "---\ntimes 2 0 14\n0 0 0 5\n1 0 6 9\n2 0 9 11\n3 1 12 13\n";
+        let header = "place,segments,work,on_path,path,slack,busy,delayed,starved\n";
+        let worked = [
+            ("0 1 2 3", "0,1,5,1,5,0,5,0,5\n1,1,3,1,3,0,3,2,0\n2,1,2,0,0,1,2,3,2\n3,1,1,1,1,0,1,2,1\n"),
+            ("0 0 0 0", "0,4,11,3,9,0,11,7,8\n"),
+            ("2 0 2 2", "0,1,3,1,3,0,3,2,0\n1,0,0,0,0,,0,0,0\n2,3,8,2,6,0,8,5,8\n"),
+        ];
+        for (places, rows) in worked {
+            assert_eq!(told_of(&format!("---\n{places}\n{times}")), format!("{header}{rows}"), "{places}");
+        }
+    }
+
+    #[test]
+    fn refused_times() {
+        let wrong = [
+            ("", "line 6: BadForm"), ("times 2 0 14\n0 0 0 +5\n", "line 7: BadForm"),
+            ("times 2 0 14\n0 0 0 5\n", "NotTimed 1"),
+            ("times 2 0 14\n0 0 0 5\n1 0 4 9\n2 0 9 11\n3 1 12 13\n", "TooSoon 1 0"),
+        ];
+        for (times, why) in wrong {
+            assert_eq!(told_of(&format!("---\n0 0 0 0\n---\n{times}")), why, "{times}");
         }
     }
 

@@ -1,10 +1,10 @@
 //! The times of a run: read from the lines of a timed document, and checked to be those of a legal run.
 
-use crate::documents::{number, small_number, words, Document};
+use crate::documents::{number, small_number, words};
 use crate::graph::Graph;
 use crate::growth::{filled, listed};
 use crate::limits::{MOST_MOMENT, MOST_THREADS, MOST_WORK};
-use crate::refusal::{bad_form, ensure, refused, Refusal};
+use crate::refusal::{ensure, refused, Refusal};
 
 /// On which thread a segment ran, and when.
 #[derive(Clone, Copy)]
@@ -45,12 +45,11 @@ fn read_line(line: &[u8]) -> Option<Line> {
     }
 }
 
-/// The times of all segments, in any order.
-pub fn read_times(document: &Document, segments: usize) -> Result<Times, Refusal> {
-    document.rest.ok_or_else(bad_form)?;
+/// The times of all segments, in any order, behind a divider before which so many lines end.
+pub fn read_times(before: usize, rest: &[u8], segments: usize) -> Result<Times, Refusal> {
     let wrong = |line| Refusal::Line(line, "BadForm");
     let (mut region, mut ran, mut last_line) = (None, vec![None; segments], 0);
-    for (number, line) in document.lines() {
+    for (number, line) in (before + 2..).zip(rest.split(|byte| *byte == b'\n')) {
         last_line = number;
         match (read_line(line).ok_or(wrong(number))?, region) {
             (Line::Blank, _) => {}

@@ -1,5 +1,6 @@
 //! Worked runs, as the definitions give them by hand, runs of random programs, and greedy runs.
 mod cases;
+mod idle;
 
 use crate::tests::cases::{CASES, Case};
 use dispatch_core::graph::Graph;

@@ -24,7 +24,7 @@ Questions about a document, which is a program text, a line ---, and more:
   account               where the time of a run's threads went
   account --rows        when each segment was ready, began and ended
   account --path        the path that the run's elapsed time lay on
-  places                each place's work, its part of the critical path and its least slack
+  places                each place's work, path and least slack; with times its busy and idle time
   whatif --listed       work and span with a list of other costs
   replay                what a run recorded, by its events
   check                 whether a certificate holds

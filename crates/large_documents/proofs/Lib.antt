@@ -1,4 +1,3 @@
-mod Lines
 mod Members
 mod OneAccount
 mod OneFault
@@ -15,3 +14,4 @@ mod PlaceWords
 mod PlaceRows
 mod PlaceParts
 mod OnePlaces
+mod PlaceTimes

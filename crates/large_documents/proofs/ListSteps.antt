@@ -9,7 +9,7 @@ use Rattle.dispatch_core.specs.RecordedGraph.{RecordedGraph}
 use Rattle.program_text.specs.declared.limits.TheConstants.{MOST_WORK}
 use Rattle.whatif_costs.proofs.Refusals.{accepted_inside, accepted_small}
 use Rattle.whatif_costs.specs.declared.fault.WhatFault.{WhatFault}
-use Rattle.large_documents.specs.ChangeLists.{IsListFault, NamesLine, costs_behind, first_wrong}
+use Rattle.large_documents.specs.ChangeLists.{IsListFault, costs_behind, first_wrong}
 use Rattle.large_documents.specs.ChangeLists.{line_says, listed, or_later, refused_with, with_line}
 use Rattle.large_documents.specs.ChangeLists.{wrong_from, wrong_with}
 use Rattle.large_documents.specs.Listing.{FitsPut, IsFaultOfLine, changes_on}
@@ -149,14 +149,6 @@ refused_line costs after lines n changes said (Wrong i why) next so_far is =
     wrong_here costs after lines n changes said why next so_far is.1
     ∙ ap (λ (k : ℕ). Some (k, why)) (sym is.0)
 refused_line costs after lines n changes said OutOfMemory next so_far is = tt
-
-pub named_line : (after : List ℕ) (lines : List (List ℕ)) (n : ℕ) (said : Option ChangeLine)
-    (fault : ListFault)
-    → SaysNext lines n said
-    → IsFaultOfLine after n said fault
-    → NamesLine (length lines) fault
-named_line after lines n said (Wrong i why) next is = omega (arith, is.0, next.inside)
-named_line after lines n said OutOfMemory next is = tt
 
 -- all lines are right
 pub none_wrong : (costs after : List ℕ) (lines : List (List ℕ)) (n : ℕ) (changes : List Change)

@@ -13,6 +13,7 @@ use Rattle.spanprof_command.specs.Report.{Report}
 use Rattle.spanprof_command.specs.Trials.{TriesChanges}
 use Rattle.large_documents.specs.AccountReports.{at_line}
 use Rattle.large_documents.specs.ChangeLists.{first_wrong}
+use Rattle.large_documents.specs.Times.{ended}
 use Rattle.large_documents.specs.ListReports.{SaysOfList, word_of}
 use Rattle.large_documents.specs.declared.change_list.WrongLine.{WrongLine}
 use Rattle.large_documents.proofs.ListSteps.{right_lists}
@@ -49,7 +50,7 @@ one_list program rest marks one other (inr a) (inl b) =
     not_both _ (a.line, a.why) b.right a.is_first
 one_list program rest marks one other (inr a) (inr b) =
     let same = same_place _ (a.line, a.why) (b.line, b.why) a.is_first b.is_first in
-    a.says ∙ ap (λ (found : ℕ × WrongLine). at_line program found.0 (word_of found.1)) same
+    a.says ∙ ap (λ (found : ℕ × WrongLine). at_line (ended program) found.0 (word_of found.1)) same
     ∙ sym b.says
 
 told : (program rest : List ℕ) (marks : List Mark) (wrong : Option (ℕ × WrongLine))
@@ -68,7 +69,7 @@ told program rest marks None whole is =
       }),
     )
 told program rest marks (Some (line, why)) whole is = (
-  at_line program line (word_of why),
+  at_line (ended program) line (word_of why),
   inr (record { line = line; why = why; is_first = is; says = refl }),
 )
 

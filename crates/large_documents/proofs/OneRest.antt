@@ -26,7 +26,7 @@ one_report Replay program rest marks reading =
     one_said MOST_LARGE_EVENTS (Some rest) (table_of marks)
 one_report Check program rest marks reading = one_claim (table_of marks) rest
 one_report WhatIf program rest marks reading = one_list program rest marks
-one_report Places program rest marks reading = one_places rest (table_of marks)
+one_report Places program rest marks reading = one_places program rest (table_of marks)
 
 pub some_report : (asked : DocumentRequest) (program rest : List ℕ) (marks : List Mark)
     → IsReading marks → HasReport asked program rest marks
@@ -39,4 +39,4 @@ some_report Check program rest marks reading =
 some_report WhatIf program rest marks reading =
     some_list program rest marks (whole_marks marks reading)
 some_report Places program rest marks reading =
-    some_places rest marks (whole_marks marks reading)
+    some_places program rest marks (whole_marks marks reading)

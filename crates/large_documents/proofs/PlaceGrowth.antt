@@ -90,13 +90,13 @@ append_none : (xs : List ℕ) → xs ++ [] ≡ xs
 append_none [] = refl
 append_none (x ∷ xs) = ap (λ (l : List ℕ). x ∷ l) (append_none xs)
 
-of_place : (places : List ℕ) (segments : List ℕ) (i s : ℕ) → IsNth segments i s
+pub of_place : (places : List ℕ) (segments : List ℕ) (i s : ℕ) → IsNth segments i s
     → members places (at places s) (take (i + 1) segments)
     ≡ members places (at places s) (take i segments) ++ s ∷ []
 of_place places segments i s nth =
     kept_if places (at places s) segments i s true nth (eq-eqb (at places s) (at places s) refl)
 
-of_other : (places : List ℕ) (p : ℕ) (segments : List ℕ) (i s : ℕ) → IsNth segments i s
+pub of_other : (places : List ℕ) (p : ℕ) (segments : List ℕ) (i s : ℕ) → IsNth segments i s
     → (p ≡ at places s → ⊥)
     → members places p (take (i + 1) segments) ≡ members places p (take i segments)
 of_other places p segments i s nth other =

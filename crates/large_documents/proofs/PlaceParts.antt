@@ -9,6 +9,7 @@ use Rattle.std.proofs.lemmas.List.{get_or_default}
 use Rattle.std.proofs.lemmas.List.FromFn.{get_or-range_with_len, length-range_with_len}
 use Rattle.task_segments.specs.Schedule.{at}
 use Rattle.span_analysis.specs.Findings.{Findings}
+use Rattle.time_accounts.proofs.CountedOnce.{nothing, two_sums}
 use Rattle.large_documents.specs.Places.{is_at, least_of, least_with, members, place_count, segments_at}
 use Rattle.large_documents.specs.Places.{segments_of}
 use Rattle.std.proofs.lemmas.List.Sums.{sum_by-cons}
@@ -48,37 +49,20 @@ one_share q v a (suc n) from below = elim (cases_eq q a) [
       omega (arith, here, later, sum_by-cons (share q v) a (range_with_len (a + 1) n))
 ]
 
-two_sums : (f g h : ℕ → ℕ) (xs : List ℕ) → ((p : ℕ) → h p ≡ f p + g p)
-    → sum_by h xs ≡ sum_by f xs + sum_by g xs
-two_sums f g h [] each = refl
-two_sums f g h (x ∷ xs) each =
-    omega (
-      arith,
-      each x,
-      two_sums f g h xs each,
-      sum_by-cons f x xs,
-      sum_by-cons g x xs,
-      sum_by-cons h x xs,
-    )
-
-all_zero : (h : ℕ → ℕ) (xs : List ℕ) → ((p : ℕ) → h p ≡ 0) → sum_by h xs ≡ 0
-all_zero h [] each = refl
-all_zero h (x ∷ xs) each = omega (arith, each x, all_zero h xs each, sum_by-cons h x xs)
-
 -- a sum over lists that adds up member by member
-record IsSumOf (F : List ℕ → ℕ) (f : ℕ → ℕ) : Type 0 where
-  none : F [] ≡ 0
-  more : (s : ℕ) (xs : List ℕ) → F (s ∷ xs) ≡ f s + F xs
+pub record IsSumOf (F : List ℕ → ℕ) (f : ℕ → ℕ) : Type 0 where
+  pub none : F [] ≡ 0
+  pub more : (s : ℕ) (xs : List ℕ) → F (s ∷ xs) ≡ f s + F xs
 
 with_first : (F : List ℕ → ℕ) (f : ℕ → ℕ) (s : ℕ) (rest : List ℕ) (b : Bool) → IsSumOf F f
     → F (cond b (s ∷ rest) rest) ≡ cond b (f s) 0 + F rest
 with_first F f s rest true is = is.more s rest
 with_first F f s rest false is = omega arith
 
-parts : (F : List ℕ → ℕ) (f : ℕ → ℕ) (places : List ℕ) (n : ℕ) (segments : List ℕ) → IsSumOf F f
+pub parts : (F : List ℕ → ℕ) (f : ℕ → ℕ) (places : List ℕ) (n : ℕ) (segments : List ℕ) → IsSumOf F f
     → ((k : ℕ) → k < length segments → at places (at segments k) < n)
     → sum_by (λ p. F (members places p segments)) (range_with_len 0 n) ≡ F segments
-parts F f places n [] is inside = all_zero (λ p. F []) (range_with_len 0 n) (λ p. is.none) ∙ sym is.none
+parts F f places n [] is inside = nothing (λ p. F []) (range_with_len 0 n) (λ p. is.none) ∙ sym is.none
 parts F f places n (s ∷ segments) is inside =
     let q = at places s in
     let two = two_sums (share q (f s)) (λ p. F (members places p segments))
@@ -88,7 +72,7 @@ parts F f places n (s ∷ segments) is inside =
     let later = parts F f places n segments is (λ k h. inside (suc k) (omega (arith, h))) in
     omega (arith, two, first, later, is.more s segments)
 
-inside_range : (places : List ℕ) (k : ℕ) → k < length (segments_of places)
+pub inside_range : (places : List ℕ) (k : ℕ) → k < length (segments_of places)
     → at places (at (segments_of places) k) < place_count places
 inside_range places k h =
     let n = length places in

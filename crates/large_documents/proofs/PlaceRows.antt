@@ -11,7 +11,7 @@ use Rattle.large_documents.specs.Places.{sums_at}
 use Rattle.large_documents.specs.PlaceSteps.{ArePlaceSums}
 use Rattle.large_documents.specs.declared.places.PlaceSums.{PlaceSums}
 
-same_rows : (f g : ℕ → List (Option ℕ)) (a n : ℕ) → ((p : ℕ) → p < a + n → f p ≡ g p)
+pub same_rows : (f g : ℕ → List (Option ℕ)) (a n : ℕ) → ((p : ℕ) → p < a + n → f p ≡ g p)
     → rows_from f a n ≡ rows_from g a n
 same_rows f g a zero same = refl
 same_rows f g a (suc n) same =

@@ -7,7 +7,7 @@ use Rattle.dispatch_core.specs.RecordedGraph.{IsGraph, Precedes, RecordedGraph}
 use Rattle.program_text.specs.Document.{lines_of}
 use Rattle.task_segments.specs.Table.{Table}
 use Rattle.time_accounts.specs.Faults.{IsRanged, IsTimesFault}
-use Rattle.time_accounts.specs.TimedRun.{IsTimedRun}
+use Rattle.time_accounts.specs.TimedRun.{IsTimedRun, TimedRun}
 use Rattle.time_accounts.specs.declared.fault.TimesFault.{TimesFault}
 use Rattle.time_accounts.specs.declared.fault.TimesFault.TheVariants as times
 use Rattle.time_text.specs.TimesTexts.{IsTextFault, TellsTimes}
@@ -18,7 +18,7 @@ use Rattle.time_text.specs.declared.line.SegmentTimes.{SegmentTimes}
 use Rattle.spanprof_command.specs.Certificates.{refused_as, refused_pair}
 use Rattle.spanprof_command.specs.Report.{Report, out_of_memory}
 use Rattle.large_documents.specs.Accounts.{TellsRun}
-use Rattle.large_documents.specs.Times.{line_behind, run_of}
+use Rattle.large_documents.specs.Times.{ended, line_behind, run_of}
 
 -- ---- error lines
 
@@ -29,17 +29,17 @@ of_segment word s = refused_as (word ++ 32 ∷ decimal s)
 abbrev pub numbered : ℕ → List ℕ → Report
 numbered number word = refused_as (codes "line " ++ (decimal number ++ (codes ": " ++ word)))
 
--- what is wrong with a line behind the program
-abbrev pub at_line : List ℕ → ℕ → List ℕ → Report
-at_line program i word = numbered (line_behind program i) word
+-- what is wrong with a line behind a divider, before which so many lines have ended
+abbrev pub at_line : ℕ → ℕ → List ℕ → Report
+at_line before i word = numbered (line_behind before i) word
 
--- why times are not read, behind the text of this program
-abbrev pub text_refusal : List ℕ → TimeTextFault → Report
-text_refusal program (text.BadForm i) = at_line program i (codes "BadForm")
-text_refusal program (text.UnknownSegment i) = at_line program i (codes "UnknownSegment")
-text_refusal program (text.TimedTwice i) = at_line program i (codes "TimedTwice")
-text_refusal program (text.NotTimed s) = of_segment (codes "NotTimed") s
-text_refusal program text.OutOfMemory = out_of_memory
+-- why times are not read there
+abbrev pub text_refusal : ℕ → TimeTextFault → Report
+text_refusal before (text.BadForm i) = at_line before i (codes "BadForm")
+text_refusal before (text.UnknownSegment i) = at_line before i (codes "UnknownSegment")
+text_refusal before (text.TimedTwice i) = at_line before i (codes "TimedTwice")
+text_refusal before (text.NotTimed s) = of_segment (codes "NotTimed") s
+text_refusal before text.OutOfMemory = out_of_memory
 
 -- why times are not those of a legal run
 abbrev pub times_refusal : TimesFault → Report
@@ -55,16 +55,16 @@ times_refusal times.OutOfMemory = out_of_memory
 
 -- ---- the times of a run on a program
 
--- the times are those of a legal run: what is asked of it
-pub record AcceptsRun (asked : AccountRequest) (graph : RecordedGraph) (region : RegionTimes)
-    (segments : List SegmentTimes) (output : Report)
+-- the times are those of a legal run, of which this is told
+pub record AcceptsRun (telling : RecordedGraph → RegionTimes → TimedRun → Report → Type 0)
+    (graph : RecordedGraph) (region : RegionTimes) (segments : List SegmentTimes) (output : Report)
     : Type 0 where
   pub legal : IsTimedRun (length graph.costs) (Precedes graph) region.threads region.first region.last
       (run_of segments)
   -- the number of threads and the moments are within the limits
   pub within : IsRanged (length graph.costs) region.threads region.first region.last
       (run_of segments)
-  pub says : TellsRun asked graph region (run_of segments) output
+  pub says : telling graph region (run_of segments) output
 
 -- they are not, and this fault is told
 pub record RefusesRun (graph : RecordedGraph) (region : RegionTimes) (segments : List SegmentTimes)
@@ -77,7 +77,8 @@ pub record RefusesRun (graph : RecordedGraph) (region : RegionTimes) (segments :
   pub says : output ≡ times_refusal fault
 
 -- the text tells times of the program's segments
-pub record TakesTimes (asked : AccountRequest) (rest : List ℕ) (table : Table) (output : Report)
+pub record TakesTimes (telling : RecordedGraph → RegionTimes → TimedRun → Report → Type 0)
+    (rest : List ℕ) (table : Table) (output : Report)
     : Type 0 where
   pub region : RegionTimes
   pub segments : List SegmentTimes
@@ -85,17 +86,25 @@ pub record TakesTimes (asked : AccountRequest) (rest : List ℕ) (table : Table)
   pub graph : RecordedGraph
   pub is_graph : IsGraph graph
   pub is_graph_of : IsGraphOf table graph
-  pub answers : AcceptsRun asked graph region segments output
+  pub answers : AcceptsRun telling graph region segments output
       ⊎ RefusesRun graph region segments output
 
 -- it does not, and this fault is told
-pub record RefusesTimes (program rest : List ℕ) (table : Table) (output : Report) : Type 0 where
+pub record RefusesTimes (before : ℕ) (rest : List ℕ) (table : Table) (output : Report) : Type
+    0 where
   pub fault : TimeTextFault
   pub of_text : fault ≢ text.OutOfMemory
   pub is_fault : IsTextFault (length table.segments) (lines_of rest) fault
-  pub says : output ≡ text_refusal program fault
+  pub says : output ≡ text_refusal before fault
 
--- what is told of a program with this text and this table, and of the lines behind it
-abbrev pub SaysOfTimes : AccountRequest → (program rest : List ℕ) → Table → Report → Type 0
-SaysOfTimes asked program rest table output =
-    TakesTimes asked rest table output ⊎ RefusesTimes program rest table output
+-- what is told of a program with this table, and of the lines of a run behind a divider, before which
+-- so many lines have ended
+abbrev pub SaysOfTimes : (RecordedGraph → RegionTimes → TimedRun → Report → Type 0) → (before : ℕ)
+    → (rest : List ℕ) → Table → Report → Type 0
+SaysOfTimes telling before rest table output =
+    TakesTimes telling rest table output ⊎ RefusesTimes before rest table output
+
+-- and what is asked of an account
+abbrev pub SaysOfAccount : AccountRequest → (program rest : List ℕ) → Table → Report → Type 0
+SaysOfAccount asked program rest table output =
+    SaysOfTimes (TellsRun asked) (ended program) rest table output

@@ -73,8 +73,3 @@ first_wrong costs lines = wrong_from costs 0 lines
 abbrev pub IsListFault : List ℕ → List (List ℕ) → ListFault → Type 0
 IsListFault costs lines (Wrong i why) = first_wrong costs lines ≡ Some (i, why)
 IsListFault costs lines OutOfMemory = ⊤
-
--- the line that a fault names is one of the first n
-abbrev pub NamesLine : ℕ → ListFault → Type 0
-NamesLine n (Wrong i why) = i < n
-NamesLine n OutOfMemory = ⊤

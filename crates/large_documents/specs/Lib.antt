@@ -6,8 +6,10 @@ pub mod Listing
 pub mod ListReports
 pub mod Places
 pub mod PlaceSteps
+pub mod TimedPlaces
 pub mod PlaceReports
 pub mod PlaceLaws
 pub mod RestReports
 pub mod OneRest
 pub mod TimesOfEach
+pub mod RunReading

@@ -9,6 +9,7 @@ use Rattle.spanprof_command.specs.Report.{Report}
 use Rattle.spanprof_command.specs.Trials.{TriesChanges}
 use Rattle.large_documents.specs.AccountReports.{at_line}
 use Rattle.large_documents.specs.ChangeLists.{first_wrong, listed}
+use Rattle.large_documents.specs.Times.{ended}
 use Rattle.large_documents.specs.declared.change_list.ListFault.{ListFault}
 use Rattle.large_documents.specs.declared.change_list.ListFault.TheVariants.{Wrong}
 use Rattle.large_documents.specs.declared.change_list.ListFault.TheVariants as of_list
@@ -24,7 +25,7 @@ word_of (Refused OutOfMemory) = codes "OutOfMemory"
 
 -- the line of a fault; want of memory has none
 abbrev pub TellsFault : List ℕ → ListFault → Report → Type 0
-TellsFault program (Wrong i why) output = output ≡ at_line program i (word_of why)
+TellsFault program (Wrong i why) output = output ≡ at_line (ended program) i (word_of why)
 TellsFault program of_list.OutOfMemory output = ⊥
 
 -- no line is wrong: what `whatif` tells of these changes
@@ -39,7 +40,7 @@ pub record RefusesList (program rest : List ℕ) (table : Table) (output : Repor
   pub line : ℕ
   pub why : WrongLine
   pub is_first : first_wrong (costs_of table) (lines_of rest) ≡ Some (line, why)
-  pub says : output ≡ at_line program line (word_of why)
+  pub says : output ≡ at_line (ended program) line (word_of why)
 
 -- what is told of a program with this text and this table, and of the lines behind it
 abbrev pub SaysOfList : (program rest : List ℕ) → Table → Report → Type 0

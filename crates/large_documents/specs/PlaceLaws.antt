@@ -3,6 +3,11 @@ use Rattle.std.specs.Prelude.{ℕ, ◌<◌, ◌≤◌, ◌≡◌, Contains, List
 use Rattle.std.specs.List.{range_with_len}
 use Rattle.span_analysis.specs.Findings.{Findings}
 use Rattle.task_segments.specs.Schedule.{at}
+use Rattle.dispatch_core.specs.RecordedGraph.{RecordedGraph}
+use Rattle.time_accounts.specs.BySegment.{delayed_by_segment, starved_by_segment}
+use Rattle.time_accounts.specs.Shares.{shares_of}
+use Rattle.time_accounts.specs.TimedRun.{TimedRun, durations}
+use Rattle.large_documents.specs.TimedPlaces.{sum_at}
 use Rattle.large_documents.specs.Places.{place_count, segments_at, sums_at}
 use Rattle.large_documents.specs.declared.places.PlaceSums.{PlaceSums}
 
@@ -18,6 +23,19 @@ pub record AddUp (costs : List ℕ) (found : Findings) (places : List ℕ) : Typ
   pub work : over_places costs found places (λ sums. sums.work) ≡ found.work
   pub on_path : over_places costs found places (λ sums. sums.on_path) ≡ length found.chain
   pub path : over_places costs found places (λ sums. sums.path) ≡ found.span
+
+-- with the times of a run, all places together have all of its busy, delayed and starved time
+pub record TimesAddUp (graph : RecordedGraph) (p first last : ℕ) (run : TimedRun)
+    (places : List ℕ)
+    : Type 0 where
+  pub busy : sum_by (sum_at places (durations run)) (range_with_len 0 (place_count places))
+      ≡ (shares_of graph p first last run).busy
+  pub delayed : sum_by (sum_at places (delayed_by_segment graph p first last run))
+      (range_with_len 0 (place_count places))
+      ≡ (shares_of graph p first last run).delayed
+  pub starved : sum_by (sum_at places (starved_by_segment graph p first last run))
+      (range_with_len 0 (place_count places))
+      ≡ (shares_of graph p first last run).starved
 
 -- a segment counts at its place, of which a row tells
 pub record HasPlace (places : List ℕ) (s : ℕ) : Type 0 where

@@ -4,8 +4,10 @@ use Rattle.std.specs.Prelude.{None, slice_index_or, sum, sum_by, ◌-◌}
 use Rattle.std.specs.Option.{option_map}
 use Rattle.program_text.specs.PlainWords.{number_in_word}
 use Rattle.program_text.specs.declared.limits.TheConstants.{MOST_WORK}
+use Rattle.dispatch_core.specs.RecordedGraph.{RecordedGraph}
+use Rattle.span_analysis.specs.Findings.{Findings, IsAnalysis}
 use Rattle.task_segments.specs.Schedule.{at}
-use Rattle.large_documents.specs.Places.{least_with, no_sums, place_count, sums_among}
+use Rattle.large_documents.specs.Places.{least_with, members, no_sums, place_count, segments_of, sums_among}
 use Rattle.large_documents.specs.declared.places.PlaceSums.{PlaceSums}
 use Rattle.large_documents.specs.declared.places.PlacesFault.{PlacesFault}
 use Rattle.large_documents.specs.declared.places.PlacesFault.TheVariants.{BadForm, Count}
@@ -27,6 +29,19 @@ pub record ArePlaceSums (places costs slacks segments path : List ℕ) (sums : L
   pub count : length sums ≡ place_count places
   pub each : (p : ℕ) → p < length sums
       → slice_index_or sums p no_sums ≡ sums_among places costs slacks segments path p
+
+-- the sums of each place, by an analysis of the graph
+pub record AreAnalysedSums (graph : RecordedGraph) (places : List ℕ) (sums : List PlaceSums) : Type
+    0 where
+  pub found : Findings
+  pub is_analysis : IsAnalysis graph found
+  pub are : ArePlaceSums places graph.costs found.slacks (segments_of places) found.chain sums
+
+-- of numbers of each segment the sums of each place, of some segments
+pub record AreSums (places numbers segments sums : List ℕ) : Type 0 where
+  pub count : length sums ≡ place_count places
+  pub each : (p : ℕ) → p < length sums
+      → at sums p ≡ sum_by (at numbers) (members places p segments)
 
 -- each segment has a cost and a slack, and their sums have room
 pub record CanCount (places costs slacks : List ℕ) : Type 0 where

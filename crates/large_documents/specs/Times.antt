@@ -12,7 +12,11 @@ run_of segments = record {
   ends = map (λ (times : SegmentTimes). times.end) segments;
 }
 
--- The number in a document, from 1 on, of the line with this index behind the divider: before it
--- stand the lines of the program, the divider, and as many lines as the index says.
-abbrev pub line_behind : List ℕ → ℕ → ℕ
-line_behind program i = count_by is_line_feed program + i + 2
+-- how many lines end in a text
+abbrev pub ended : List ℕ → ℕ
+ended text = count_by is_line_feed text
+
+-- The number in a document, from 1 on, of the line with this index behind a divider, before which so
+-- many lines have ended: there are those, the divider, and as many lines as the index says.
+abbrev pub line_behind : ℕ → ℕ → ℕ
+line_behind before i = before + i + 2

@@ -3,7 +3,7 @@ ghost use Rattle.std.specs.Prelude.{◌≡◌, ◌≤◌, ◌++◌, ◌∷◌, [
 ghost use Rattle.std.specs.Prelude.{map, slice_set, sum};
 ghost use Rattle.program_text.specs.Document.{lines_of};
 ghost use Rattle.program_text.specs.declared.limits.TheConstants.{MOST_WORK};
-ghost use Rattle.large_documents.specs.ChangeLists.{IsListFault, NamesLine, first_wrong, line_says};
+ghost use Rattle.large_documents.specs.ChangeLists.{IsListFault, first_wrong, line_says};
 ghost use Rattle.large_documents.specs.ChangeLists.{costs_behind, listed, words_say, wrong_with};
 ghost use Rattle.large_documents.specs.ChangeLists.{refused_with};
 ghost use Rattle.large_documents.specs.Listing.{FitsPut, IsFaultOfChange, IsFaultOfLine, changes_on};
@@ -67,7 +67,6 @@ pub(crate) fn read_list(alloc: Global, graph: &Graph, text: &[u8]) -> Result<Vec
     ensures right { OnOk result (first_wrong graph.now.costs (lines_of text.now) ≡ None) }
     ensures listed { IfOk result (λ changes. listed (lines_of text.now) ≡ Some changes.items) }
     ensures refused { IfErr result (IsListFault graph.now.costs (lines_of text.now)) }
-    ensures inside { IfErr result (NamesLine (length (lines_of text.now))) }
 {
     let mut list = new_listing(alloc, graph)?;
     let mut number = 0;

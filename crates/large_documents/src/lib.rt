@@ -9,5 +9,6 @@ mod places;
 mod rest;
 mod run_tables;
 mod time_refusals;
+mod timed_places;
 
 pub use rest::{MOST_LARGE_EVENTS, tell_rest};

@@ -1,11 +1,9 @@
 //! What is told of a program and a list of changes of costs.
-ghost use Rattle.std.specs.Prelude.{◌≡◌, ◌-◌, ◌^◌, ◌<◌, IfOk, length};
-ghost use Rattle.large_documents.specs.AccountReports.{at_line};
-ghost use Rattle.large_documents.specs.ChangeLists.{NamesLine};
+ghost use Rattle.std.specs.Prelude.{◌≡◌, IfOk};
 ghost use Rattle.large_documents.specs.ListReports.{SaysOfList, TellsFault, word_of};
 
 use crate::change_list::{ListFault, WrongLine, read_list};
-use crate::time_refusals::at_line;
+use crate::time_refusals::{at_line, count_lines};
 use dispatch_core::graph::graph_of;
 use spanprof_command::{Report, try_on_graph};
 use std::alloc::Global;
@@ -21,8 +19,6 @@ pub(crate) fn tell_listed(
     program: &[u8],
     list: &[u8],
 ) -> Result<Report, AllocFault>
-    requires program { length program.now < 2 ^ 63 - 1 }
-    requires list { length list.now < 2 ^ 63 }
     ensures { IfOk result (λ report. SaysOfList program.now list.now table report) }
 {
     depend_table::laws::kept_schedules(&table);
@@ -36,12 +32,10 @@ pub(crate) fn tell_listed(
 
 /// Why a list is refused that stands behind a program of this text.
 fn list_refused(alloc: Global, program: &[u8], fault: ListFault) -> Result<Report, AllocFault>
-    requires short { length program.now < 2 ^ 63 - 1 }
-    requires line { NamesLine (2 ^ 63) fault }
     ensures { IfOk result (λ report. TellsFault program.now fault report) }
 {
     match fault {
-        ListFault::Wrong { line, why } => at_line(alloc, program, line, word_of(why)),
+        ListFault::Wrong { line, why } => at_line(alloc, count_lines(program), line, word_of(why)),
         ListFault::OutOfMemory => Err(AllocFault),
     }
 }

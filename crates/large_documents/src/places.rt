@@ -1,19 +1,22 @@
 //! What is told of a program and the places of its segments.
-ghost use Rattle.std.specs.Prelude.{◌≡◌, ◌+◌, ◌<◌, ◌^◌, [], IfErr, IfOk, OnOk, Some, length};
+ghost use Rattle.std.specs.Prelude.{◌≡◌, ◌+◌, ◌-◌, ◌<◌, ◌^◌, [], IfErr, IfOk, OnOk, Some, length};
 ghost use Rattle.csv_table.specs.Tables.{numbered_table};
 ghost use Rattle.large_documents.specs.PlaceReports.{SaysOfPlaces, TellsFault, TellsSums};
-ghost use Rattle.large_documents.specs.PlaceSteps.{ArePlaceSums, CanCount, IsPathWithin, IsWordFault};
+ghost use Rattle.large_documents.specs.PlaceSteps.{AreAnalysedSums, ArePlaceSums, CanCount};
+ghost use Rattle.large_documents.specs.PlaceSteps.{IsPathWithin, IsWordFault};
 ghost use Rattle.large_documents.specs.PlaceSteps.{next_places, with_member, with_segment};
 ghost use Rattle.large_documents.specs.Places.{ArePlaces, IsPlacesFault, place_count, place_row};
 ghost use Rattle.large_documents.specs.Places.{places_header, segments_of};
 
-use crate::time_refusals::refused_as;
+use crate::time_refusals::{count_lines, refused_as};
+use crate::timed_places::tell_timed;
 use csv_table::Table;
 use dispatch_core::graph::{Graph, graph_of};
 use span_analysis::analysis::{Analysis, analyse};
 use spanprof_command::{Report, Status};
 use std::alloc::Global;
 use task_program::AllocFault;
+use task_program::document::{Document, split_document};
 use task_program::plain_words::{is_blank, read_number};
 use task_segments::table::LargeTable;
 
@@ -52,20 +55,32 @@ const NO_SUMS: PlaceSums = PlaceSums {
     slack: None,
 };
 
-/// What is told of a program with this table and of the places behind it. The table is dropped once
-/// its graph is made.
+/// What is told of a program with this text and this table, of the places behind it, and of the
+/// times of a run behind these, if there are any. The table is dropped once its graph is made.
 pub(crate) fn tell_places(
     alloc: Global,
-    table: LargeTable,
+    program: &[u8],
     rest: &[u8],
+    table: LargeTable,
 ) -> Result<Report, AllocFault>
-    ensures { IfOk result (λ report. SaysOfPlaces rest.now table report) }
+    requires { length program.now < 2 ^ 63 - 1 }
+    ensures { IfOk result (λ report. SaysOfPlaces program.now rest.now table report) }
 {
     span_analysis::laws::same_findings(&table);
     let graph = graph_of(alloc, &table)?;
     drop(table);
-    match read_places(alloc, rest, graph.len()) {
-        Ok(places) => tell_sums(alloc, &graph, places.as_slice()),
+    let Document {
+        program: given,
+        rest: times,
+    } = split_document(rest);
+    match read_places(alloc, given, graph.len()) {
+        Ok(places) => match times {
+            None => tell_sums(alloc, &graph, places.as_slice()),
+            Some(times) => {
+                let before = count_lines(program) + count_lines(given) + 1;
+                tell_timed(alloc, before, times, &graph, places.as_slice())
+            }
+        },
         Err(fault) => places_refused(alloc, fault),
     }
 }
@@ -86,11 +101,23 @@ fn tell_sums(alloc: Global, graph: &Graph, places: &[u32]) -> Result<Report, All
     requires { length places.now ≡ length graph.now.costs }
     ensures { IfOk result (λ report. TellsSums graph.now places.now report) }
 {
-    dispatch_core::laws::is_graph(graph);
-    let found = analyse(alloc, graph)?;
-    let sums = sums_by_place(alloc, graph.costs(), &found, places)?;
+    let sums = analysed_sums(alloc, graph, places)?;
     let text = places_table(alloc, sums.as_slice())?;
     Ok(Report::new(text, Status::Done))
+}
+
+/// The sums of each place, by an analysis of the graph.
+pub(crate) fn analysed_sums(
+    alloc: Global,
+    graph: &Graph,
+    places: &[u32],
+) -> Result<Vec<PlaceSums>, AllocFault>
+    requires { length places.now ≡ length graph.now.costs }
+    ensures { IfOk result (λ sums. AreAnalysedSums graph.now places.now sums.items) }
+{
+    dispatch_core::laws::is_graph(graph);
+    let found = analyse(alloc, graph)?;
+    sums_by_place(alloc, graph.costs(), &found, places)
 }
 
 /// Reads the places of so many segments: the number of one for each of them, in their order. Each
@@ -152,7 +179,7 @@ fn sums_by_place(
 
 /// One more than the largest place.
 #[tactic(auto, using(crate::proofs::PlaceCounts::count_more))]
-fn place_count(places: &[u32]) -> usize
+pub(crate) fn place_count(places: &[u32]) -> usize
     ensures { result ≡ place_count places.now }
 {
     let mut count = 0;
@@ -236,7 +263,7 @@ fn places_table(alloc: Global, sums: &[PlaceSums]) -> Result<Vec<u8>, AllocFault
     rows.into_text()
 }
 
-fn place_row(sums: &[PlaceSums], place: usize) -> [Option<u64>; 6]
+pub(crate) fn place_row(sums: &[PlaceSums], place: usize) -> [Option<u64>; 6]
     requires { place < length sums.now }
     ensures { result ≡ place_row sums.now place }
 {

@@ -34,6 +34,6 @@ pub fn tell_rest(
         DocumentRequest::Replay => tell_replay(alloc, MOST_LARGE_EVENTS, Some(rest), table),
         DocumentRequest::Check => tell_claim(alloc, &table, rest),
         DocumentRequest::WhatIf => tell_listed(alloc, table, program, rest),
-        DocumentRequest::Places => tell_places(alloc, table, rest),
+        DocumentRequest::Places => tell_places(alloc, program, rest, table),
     }
 }

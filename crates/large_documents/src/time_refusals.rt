@@ -1,7 +1,6 @@
 //! The lines of what is wrong with the times of a run.
-ghost use Rattle.std.specs.Prelude.{◌≡◌, ◌-◌, ◌^◌, ◌<◌, ◌≤◌, IfOk, count_by, length};
+ghost use Rattle.std.specs.Prelude.{◌≡◌, ◌≤◌, IfOk, count_by, length};
 ghost use Rattle.program_text.specs.Tokens.{is_line_feed};
-ghost use Rattle.time_text.specs.TimesTexts.{NamesLineBelow};
 ghost use Rattle.spanprof_command.specs.Certificates.{refused_as, refused_pair};
 ghost use Rattle.large_documents.specs.AccountReports.{at_line, numbered, of_segment};
 ghost use Rattle.large_documents.specs.AccountReports.{text_refusal, times_refusal};
@@ -12,20 +11,18 @@ use task_program::AllocFault;
 use time_accounts::fault::TimesFault;
 use time_text::TimeTextFault;
 
-/// Why times are not read, behind a program of this text.
+/// Why times are not read behind a divider, before which so many lines have ended.
 pub(crate) fn text_refused(
     alloc: Global,
-    program: &[u8],
+    before: usize,
     fault: TimeTextFault,
 ) -> Result<Report, AllocFault>
-    requires short { length program.now < 2 ^ 63 - 1 }
-    requires line { NamesLineBelow (2 ^ 63) fault }
-    ensures { IfOk result (λ report. report ≡ text_refusal program.now fault) }
+    ensures { IfOk result (λ report. report ≡ text_refusal before fault) }
 {
     match fault {
-        TimeTextFault::BadForm { line } => at_line(alloc, program, line, "BadForm"),
-        TimeTextFault::UnknownSegment { line } => at_line(alloc, program, line, "UnknownSegment"),
-        TimeTextFault::TimedTwice { line } => at_line(alloc, program, line, "TimedTwice"),
+        TimeTextFault::BadForm { line } => at_line(alloc, before, line, "BadForm"),
+        TimeTextFault::UnknownSegment { line } => at_line(alloc, before, line, "UnknownSegment"),
+        TimeTextFault::TimedTwice { line } => at_line(alloc, before, line, "TimedTwice"),
         TimeTextFault::NotTimed { segment } => of_segment(alloc, "NotTimed", segment),
         TimeTextFault::OutOfMemory => Err(AllocFault),
     }
@@ -70,22 +67,22 @@ fn refused_pair(alloc: Global, word: &str, s: u32, t: u32) -> Result<Report, All
     Ok(Report::new(text.into_bytes(), Status::Refused))
 }
 
-/// What is wrong with a line behind the program and the divider, by its index there.
+/// What is wrong with a line behind a divider, by its index there. So many lines have ended before the
+/// divider.
 pub(crate) fn at_line(
     alloc: Global,
-    program: &[u8],
+    before: usize,
     line: usize,
     word: &str,
 ) -> Result<Report, AllocFault>
-    requires short { length program.now < 2 ^ 63 - 1 }
-    requires line { line < 2 ^ 63 }
-    ensures { IfOk result (λ report. report ≡ at_line program.now line word.now) }
+    ensures { IfOk result (λ report. report ≡ at_line before line word.now) }
 {
-    let number = count_lines(program) + line + 2;
+    // The sum of two lengths may pass what a length can be.
+    let number = before as u128 + line as u128 + 2;
     numbered(alloc, number, word)
 }
 
-fn numbered(alloc: Global, number: usize, word: &str) -> Result<Report, AllocFault>
+fn numbered(alloc: Global, number: u128, word: &str) -> Result<Report, AllocFault>
     ensures { IfOk result (λ report. report ≡ numbered number word.now) }
 {
     let text = format!(in alloc; "error: line {number}: {word}\n")?;
@@ -93,7 +90,7 @@ fn numbered(alloc: Global, number: usize, word: &str) -> Result<Report, AllocFau
 }
 
 /// How many lines end in a text.
-fn count_lines(text: &[u8]) -> usize
+pub(crate) fn count_lines(text: &[u8]) -> usize
     ensures is { result ≡ count_by is_line_feed text.now }
     ensures few { result ≤ length text.now }
 {

@@ -72,7 +72,7 @@ busy_part e = ap (λ (x : Shares). x.busy) e
 pub delayed_part : {s t : Shares} → s ≡ t → s.delayed ≡ t.delayed
 delayed_part e = ap (λ (x : Shares). x.delayed) e
 
-starved_part : {s t : Shares} → s ≡ t → s.starved ≡ t.starved
+pub starved_part : {s t : Shares} → s ≡ t → s.starved ≡ t.starved
 starved_part e = ap (λ (x : Shares). x.starved) e
 
 pub outside_part : {s t : Shares} → s ≡ t → s.outside ≡ t.outside

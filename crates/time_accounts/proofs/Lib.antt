@@ -15,3 +15,7 @@ pub mod Checked
 pub mod OfProgram
 pub mod PathSteps
 pub mod FirstSegment
+pub mod Longest
+pub mod CountedIdle
+pub mod CountedOnce
+pub mod CountedShares

@@ -15,7 +15,7 @@ use crate::changes::{Changes, sorted_changes};
 use crate::checks::check_times;
 use crate::fault::TimesFault;
 use crate::region::Region;
-use crate::sweep::delayed_between;
+use crate::sweep::idle_between;
 use crate::times::Times;
 use dispatch_core::graph::Graph;
 use std::alloc::Global;
@@ -99,7 +99,7 @@ fn total_length(begins: &[u64], ends: &[u64]) -> u64
 }
 
 /// The first of some moments.
-fn first_of(moments: &[u64]) -> u64
+pub(crate) fn first_of(moments: &[u64]) -> u64
     requires { 0 < length moments.now }
     ensures { result ≡ at moments.now 0 }
 {
@@ -116,7 +116,7 @@ fn last_of(moments: &[u64]) -> u64
 
 /// What is known of a legal run, by the moments at which segments become ready, begin and end. It
 /// does nothing when it runs.
-fn known(graph: &Graph, region: Region, times: &Times, changes: &Changes)
+pub(crate) fn known(graph: &Graph, region: Region, times: &Times, changes: &Changes)
     requires legal { IsTimedRun (length graph.now.costs) (Precedes graph.now)
         region.threads region.first region.last times.now }
     requires changes { AreChanges graph.now times.now
@@ -145,7 +145,8 @@ fn measured(graph: &Graph, region: Region, times: &Times, changes: &Changes) -> 
     let from = first_of(&changes.begins);
     let to = last_of(&changes.ends);
     let busy = busy_time(times);
-    let delayed = delayed_between(
+    let delayed = idle_between(
+        true,
         &changes.readies,
         &changes.begins,
         &changes.ends,

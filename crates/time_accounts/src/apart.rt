@@ -14,8 +14,9 @@ use dispatch_core::graph::Graph;
 use std::alloc::Global;
 use task_program::AllocFault;
 
-/// All segments, each behind its begin, by begins, and of one begin by numbers.
-fn by_begin(alloc: Global, begins: &[u64]) -> Result<Vec<(u64, u32)>, AllocFault>
+/// All segments, each behind its begin, by begins, and of one begin by numbers. The same of other
+/// moments of segments.
+pub(crate) fn by_begin(alloc: Global, begins: &[u64]) -> Result<Vec<(u64, u32)>, AllocFault>
     requires { length begins.now < 2 ^ 32 }
     ensures { IfOk result (λ order. AreByBegin begins.now order.items) }
 {

@@ -8,6 +8,7 @@ ghost use Rattle.dispatch_core.specs.RecordedGraph.{IsGraph, Precedes, RecordedG
 ghost use Rattle.greedy_sim.specs.Greedy.{IsGreedy, IsLegalOn, ReadyBy};
 ghost use Rattle.time_accounts.specs.TimedRun.{TimedRun, IsTimedRun, durations};
 ghost use Rattle.time_accounts.specs.Shares.{running, ready, ready_moments, is_outside, shares_of};
+ghost use Rattle.time_accounts.specs.BySegment.{delayed_by_segment, starved_by_segment};
 ghost use Rattle.time_accounts.specs.OwnPath.{IsLastBefore, IsOwnPath, waits_on};
 
 use task_segments::table::BoundedTable;
@@ -20,7 +21,8 @@ pub fn is_schedule()
         → IsLegalOn (durations run) (Precedes graph) p run.begins }
 {}
 
-/// The four shares are the whole time of the threads, and the busy one is the sum of the durations.
+/// The four shares are the whole time of the threads. The busy one is the sum of the durations, and
+/// the delayed and the starved one the sum of what counts at each segment.
 pub fn shares_add_up()
     ensures whole { (graph : RecordedGraph) (p first last : ℕ) (run : TimedRun)
         → IsTimedRun (length graph.costs) (Precedes graph) p first last run
@@ -29,6 +31,14 @@ pub fn shares_add_up()
     ensures busy { (graph : RecordedGraph) (p first last : ℕ) (run : TimedRun)
         → IsTimedRun (length graph.costs) (Precedes graph) p first last run
         → (shares_of graph p first last run).busy ≡ sum (durations run) }
+    ensures delayed { (graph : RecordedGraph) (p first last : ℕ) (run : TimedRun) → IsGraph graph
+        → IsTimedRun (length graph.costs) (Precedes graph) p first last run
+        → (shares_of graph p first last run).delayed
+        ≡ sum (delayed_by_segment graph p first last run) }
+    ensures starved { (graph : RecordedGraph) (p first last : ℕ) (run : TimedRun) → IsGraph graph
+        → IsTimedRun (length graph.costs) (Precedes graph) p first last run
+        → (shares_of graph p first last run).starved
+        ≡ sum (starved_by_segment graph p first last run) }
 {}
 
 /// Segment 0 begins first. So a moment is outside where segment 0 has not begun or all have ended.

@@ -7,6 +7,7 @@
 
 pub mod account;
 mod apart;
+pub mod by_segment;
 mod changes;
 pub mod checks;
 pub mod fault;

@@ -59,7 +59,7 @@ USAGES = {
     "account": ("spanprof account [--rows | --path]" + FILE,
                 "The time breakdown of a timed document, its rows, or the run's own path."),
     "places": ("spanprof places" + FILE, "A table (CSV) of places: their segments, work, part of the critical path and "
-               "least slack."),
+               "least slack, and with times busy and idle time."),
     "graph": ("spanprof graph" + FILE, "A table (CSV) of the segments: task, cost, and predecessors with blanks "
               "between them.\n`spanprof graph --dot FILE` writes it for Graphviz."),
 }

@@ -23,13 +23,19 @@ fn begun(alloc: Global) -> Result<String, Fail> {
 }
 
 /// One thread runs the segments in order, each for a moment.
-fn timed_run(alloc: Global) -> Result<String, Fail> {
-    let mut document = begun(alloc)?;
+fn add_times(document: &mut String) -> Result<(), Fail> {
     document.push_str("times 1 0 10001\n")?;
     for segment in 0..10_001 {
         let end = segment + 1;
         write!(document, "{segment} 0 {segment} {end}\n")?;
     }
+    Ok(())
+}
+
+/// The program and the times of that run.
+fn timed_run(alloc: Global) -> Result<String, Fail> {
+    let mut document = begun(alloc)?;
+    add_times(&mut document)?;
     Ok(document)
 }
 
@@ -98,6 +104,17 @@ fn places(rt: HostRuntime) -> Result<(), Fail> {
     let document = placed(rt.alloc())?;
     let text =
         "place,segments,work,on_path,path,slack\n0,5001,0,1,0,0\n1,2500,2500,1,1,0\n2,2500,2500,0,0,0\n";
+    assert!(&rt; command_gives(&rt, "places", &[], document.as_str(), text, Status::Done)?);
+    Ok(())
+}
+
+#[test]
+fn timed_places(rt: HostRuntime) -> Result<(), Fail> {
+    let mut document = placed(rt.alloc())?;
+    document.push_str("---\n")?;
+    add_times(&mut document)?;
+    let text = "place,segments,work,on_path,path,slack,busy,delayed,starved\n\
+        0,5001,0,1,0,0,5001,0,0\n1,2500,2500,1,1,0,2500,0,0\n2,2500,2500,0,0,0,2500,0,0\n";
     assert!(&rt; command_gives(&rt, "places", &[], document.as_str(), text, Status::Done)?);
     Ok(())
 }

@@ -6,7 +6,7 @@ use Rattle.program_text.specs.Document.{lines_of}
 use Rattle.program_text.specs.Tokens.{is_line_feed}
 use Rattle.large_documents.specs.ChangeLists.{line_says}
 use Rattle.large_documents.specs.declared.change_list.ChangeLine.{ChangeLine}
-use Rattle.large_documents.proofs.ListSteps.{SaysNext, all_listed, named_line, none_listed}
+use Rattle.large_documents.proofs.ListSteps.{SaysNext, all_listed, none_listed}
 use Rattle.large_documents.proofs.ListSteps.{none_wrong, one_more, refused_line}
 use Rattle.large_documents.proofs.change_list.read_list.Goals.{In-None, In-Some}
 use Rattle.large_documents.proofs.change_list.read_list.Goals as goal
@@ -57,14 +57,6 @@ returns-in_err-take-clause-refused c =
     (lines_of c.args.text.now) c.loop-line.number c.loop-line.list.changes.items c.in_ok-said.said
     c.in_err-take.field-0.0 (next_line here c.in_ok-said.said c.in_ok-said.ensures)
     c.loop-line.invariant.so_far c.in_err-take.ensures.wrong in
-    search (rules, bad)
-
-pub returns-in_err-take-clause-inside : goal.returns-in_err-take-clause-inside
-returns-in_err-take-clause-inside c =
-    let here = (goal.at.returns-in_err-take-clause-inside c).In-Some in
-    let bad = named_line c.loop-line.list.costs.items (lines_of c.args.text.now)
-    c.loop-line.number c.in_ok-said.said c.in_err-take.field-0.0
-    (next_line here c.in_ok-said.said c.in_ok-said.ensures) c.in_err-take.ensures.wrong in
     search (rules, bad)
 
 pub loop-line-preserved : goal.loop-line-preserved

@@ -1,10 +1,9 @@
-use Rattle.std.proofs.Common.{◌≡◌, ◌∙◌, ◌-◌, ◌^◌, List, None, Some, ap, arith, inl, inr, subst, sym, ℕ}
+use Rattle.std.proofs.Common.{◌≡◌, ◌∙◌, List, None, Some, ap, inl, inr, subst, sym, ℕ}
 use Rattle.std.proofs.lemmas.Result.{IfOk-weaker}
 use Rattle.command_words.specs.declared.changes.Change.{Change}
 use Rattle.program_text.specs.Document.{lines_of}
 use Rattle.task_segments.specs.Table.{Table, costs_of}
 use Rattle.spanprof_command.specs.Report.{Report}
-use Rattle.large_documents.proofs.Lines.{names_listed}
 use Rattle.large_documents.specs.ChangeLists.{IsListFault, first_wrong}
 use Rattle.large_documents.specs.ListReports.{RefusesList, TellsFault}
 use Rattle.large_documents.specs.declared.change_list.ListFault.{ListFault}
@@ -33,11 +32,6 @@ returns-in-Ok c =
       tries = tries c.args.table c.in_ok-graph.ensures c.kept_schedules.ensures.span;
     }))
     c.try_on_graph.ensures
-
-pub list_refused-requires-clause-line : goal.list_refused-requires-clause-line
-list_refused-requires-clause-line c =
-    names_listed c.args.list.now (2 ^ 63 - 1) c.in-Err.fault (omega (arith, c.requires.list))
-    c.in-Err.ensures.inside
 
 pub returns-in-Err : goal.returns-in-Err
 returns-in-Err c =

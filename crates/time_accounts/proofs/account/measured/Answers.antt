@@ -2,9 +2,9 @@ use Rattle.std.proofs.Common.{ℕ, List, ap, arith}
 use Rattle.time_accounts.specs.Sweep.{count_upto}
 use Rattle.time_accounts.proofs.account.measured.Goals as goal
 
-pub delayed_between-delayed-requires-clause-enough :
-    goal.delayed_between-delayed-requires-clause-enough
-delayed_between-delayed-requires-clause-enough c m =
+pub idle_between-delayed-requires-clause-enough :
+    goal.idle_between-delayed-requires-clause-enough
+idle_between-delayed-requires-clause-enough c m =
     omega (
       arith,
       c.known.ensures.enough m,
@@ -12,9 +12,9 @@ delayed_between-delayed-requires-clause-enough c m =
       ap (λ (xs : List ℕ). count_upto xs m) c.deref-5.ensures.value,
     )
 
-pub delayed_between-delayed-requires-clause-at_most :
-    goal.delayed_between-delayed-requires-clause-at_most
-delayed_between-delayed-requires-clause-at_most c m =
+pub idle_between-delayed-requires-clause-at_most :
+    goal.idle_between-delayed-requires-clause-at_most
+idle_between-delayed-requires-clause-at_most c m =
     omega (
       arith,
       c.known.ensures.at_most m,
