@@ -5,14 +5,23 @@
 # failed; the status is 0 where none did.
 #
 #     checks/quick.sh                       all of them
-#     checks/quick.sh --changed [COMMIT]    those that the changes since a commit concern (origin/main), committed or not
+#     checks/quick.sh --changed [COMMIT]    those that the changes since a commit concern (origin/main), committed or not:
+#                                           what is left out reads no changed file and imports none. CI runs all.
 set -uo pipefail
 cd "$(dirname "$0")/.." || exit 1
 unset SPANPROF SPANPROF_LARGE   # no check here asks a program
 changed=
 if [ "${1:-}" = --changed ]; then
+    [ "${CI:-}" != true ] || { echo "CI runs all checks, without --changed"; exit 2; }
     base=$(git merge-base "${2:-origin/main}" HEAD) || exit 2
-    changed=$(git diff --name-only "$base"; git ls-files --others --exclude-standard; echo)
+    changed=$(git diff --name-only "$base"; git ls-files --others --exclude-standard)
+    changed=${changed:-none}
+    ! grep -qE '^checks/(quick\.sh|sources/reached\.py)$' <<< "$changed" || changed=   # then all are
+fi
+declare -A reached=()   # files that the changes concern by their imports
+if [ -n "$changed" ]; then
+    found=$(python3 -B checks/sources/reached.py <<< "$changed") || exit 2
+    while read -r file; do reached[${file:-none}]=1; done <<< "$found"
 fi
 count=0
 answers=$(mktemp -d)
@@ -29,12 +38,20 @@ answer() {
     fi
 }
 
-# concerns PATTERN: whether the checks that follow run: a changed file matches, or all are asked for.
-concerns() { if [ -z "$changed" ] || grep -qE "$1" <<< "$changed"; then wanted=1; else wanted=; fi; }
+# reads PATTERN: what the checks that follow read: they run where a changed file matches, or all are asked for.
+reads() { if [ -z "$changed" ] || grep -qE "$1" <<< "$changed"; then wanted=1; else wanted=; fi; }
 
-# passes NAME WORD..: begins to run the words, as soon as there is a processor for it.
+# concerned FILE ..: whether the changes concern one of these by its imports, or all are asked for.
+concerned() {
+    local file
+    [ -n "$changed" ] || return 0
+    for file; do [ -z "${reached[$file]:-}" ] || return 0; done
+    return 1
+}
+
+# passes NAME WORD..: begins to run the words, as soon as there is a processor for it, where they are wanted or concerned.
 passes() {
-    [ -n "$wanted" ] || return 0
+    [ -n "$wanted" ] || concerned "${@:2}" || return 0
     while [ "$(jobs -rp | wc -l)" -ge "$(nproc)" ]; do wait -n; done
     count=$((count + 1))
     answer "$@" > "$answers/$count" &
@@ -54,13 +71,14 @@ installed() {
 no_symbolic_links() { ! git ls-files -s | grep '^120000'; }
 
 # tested FOLDER TOP: the unit tests of a folder, which import from TOP.
-tested() { passes "$1" python3 -B -m unittest discover -q -s "$1" -t "$2"; }
+tested() { ! concerned "$1"/test_*.py || wanted=1 passes "$1" python3 -B -m unittest discover -q -s "$1" -t "$2"; }
 
-python='\.py$|^checks/quick\.sh$'
-proofs='^crates|^docs/|^README\.md$|^CONTRIBUTING\.md$|^checks/(sources|edits)/'
 wanted=1
 passes no_symbolic_links no_symbolic_links
-concerns "$python"
+for script in version sentences links speed_numbers places; do   # which read files of all kinds
+    passes "$script.py" python3 -B "checks/sources/$script.py"
+done
+reads '\.py$|^tools/spanprof-'
 passes style.py python3 -B checks/sources/style.py
 passes imports.py python3 -B checks/sources/imports.py
 read -rd '' -a files < <(these '\.py$' tools checks bench examples)
@@ -73,15 +91,9 @@ fi
 # are kept for what was measured.
 installed vulture --exclude '*/tests/*,*test_*.py' tools checks bench examples \
     --ignore-names 'write_*,dont_write_bytecode,__getattr__,namespace,option_string,only_first'
-core='^tools/spanprof/(tests/)?[^/]+$'
 names=()
-for tests in tools/tests tools/spanprof/tests tools/spanprof/*/tests tools/spanprof/*/*/tests; do
-    case $tests in
-        tools/spanprof/conformance/*) concerns "^tools/(spanprof/)?conformance|$core" ;;
-        tools/spanprof/*/tests) concerns "^${tests%tests}|$core" ;;
-        *) concerns "^${tests%tests}(tests/)?[^/]+\$" ;;
-    esac
-    for test in ${wanted:+"$tests"/test_*.py}; do test=${test#tools/} && test=${test%.py} && names+=("${test//\//.}"); done
+for test in tools/tests/test_*.py tools/spanprof/{,*/,*/*/}tests/test_*.py; do
+    if concerned "$test"; then test=${test#tools/} && test=${test%.py} && names+=("${test//\//.}"); fi
 done
 for part in 0 1 2; do   # three processes for all of the tools
     own=()
@@ -89,29 +101,27 @@ for part in 0 1 2; do   # three processes for all of the tools
     wanted=${own:+1}
     passes "tests of the tools, part $((part + 1))" env -C tools python3 -B -m unittest -q "${own[@]}"
 done
-concerns "$proofs"
+reads '^crates|^docs/|^README\.md$|^checks/edits/'
 for script in definitions proof_map; do
     passes "$script.py" python3 -B "checks/sources/$script.py" --check
 done
-for script in crate_picture signatures places clauses believed_lines left_edits limits repeated_lines waiting/lines; do
+for script in crate_picture signatures clauses believed_lines left_edits limits repeated_lines waiting/lines; do
     passes "$script.py" python3 -B "checks/sources/$script.py"
 done
-concerns '\.md$|^VERSION$|^bench/|^docs/|^crates|^checks/sources/'
-for script in version sentences retired_words links speed_numbers; do passes "$script.py" python3 -B "checks/sources/$script.py"; done
-concerns '\.sh$|^demo$|^\.ci/'
+reads '\.md$|^tools/'
+passes retired_words.py python3 -B checks/sources/retired_words.py
+reads '\.sh$|^demo$|^\.ci/'
 read -rd '' -a files < <(these '\.sh$|^demo$|^\.ci/run$' demo .ci/run "$(git ls-files '*.sh')")
 [ ${#files[@]} -eq 0 ] || installed shellcheck -S warning "${files[@]}"
-concerns '^tools/openmp_recorder/'
+reads '^tools/openmp_recorder/.*pp$'
 passes cpp_format.sh checks/sources/cpp_format.sh
+wanted=
 for test in checks/*/test_*.py checks/sources/waiting/test_*.py checks/agree/large_recordings/test_*.py bench/test_*.py \
     bench/recording/test_*.py; do
-    concerns "^${test%/*}/|$core"
-    passes "$test" python3 -B "$test"
+    ! concerned "$test" || wanted=1 passes "$test" python3 -B "$test"
 done
-concerns '^checks/sources/believed'
 tested checks/sources/believed/tests checks/sources
 for tests in checks/llvm/tests checks/real/tests checks/programs/*/tests checks/recorders/*/tests; do
-    concerns "^${tests%/tests}/|^checks/llvm/|$core"
     tested "$tests" "${tests%/tests}"
 done
 wait

@@ -40,14 +40,15 @@ install_packages() { # without a word where all are there, and none where they c
 }
 
 # one SECONDS NAME WORD..: runs the words and reports what came of it, with the end of what they printed where they
-# failed. Their last line may say that they were skipped, and lines `again WHAT` which part had a second try. The seconds
-# end what hangs: a busy machine takes ten times as long as a quiet one.
+# failed. Their last line may say that they were skipped, and lines `skipped WHAT` or `again WHAT` which part was, or had a
+# second try. The seconds end what hangs: a busy machine takes ten times as long as a quiet one.
 one() {
     local name=$2 began=$SECONDS status=0 printed last
     printed=$(timeout "$1" "${@:3}" 2>&1) || status=$?
     last=${printed##*$'\n'}
     second_tries=$((second_tries + $(grep -c '^again ' <<< "$printed")))
-    grep '^again ' <<< "$printed"
+    skipped=$((skipped + $(grep -c '^skipped ' <<< "$printed")))
+    grep -E '^(again|skipped) ' <<< "$printed"
     if [ "$status" -eq 0 ] && [[ $last != 'skipped: '* ]]; then
         printf 'ok      %s, %s s\n' "$name" $((SECONDS - began))
         passed=$((passed + 1))

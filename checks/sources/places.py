@@ -7,7 +7,7 @@ A file that names all commands or causes but one at most has a place for each, a
 statements or three quarters of the events of a log. Words that are plain English, such as `run` and `work`, don't
 count. CONTRIBUTING.md has a table for each. Its first column names files and folders, or `FOLDER`: and then what lies
 there. Each of them has to hold such a file, or one that names a word, and each such file has to be one of them or lie
-below one.
+below one. Files and folders that its other guides name have to exist.
 """
 import pathlib
 import re
@@ -57,6 +57,14 @@ def listed(page, heading):
         yield from (within + name for name in re.findall(r"`([^`]*)`", rest))
 
 
+def gone(page, paths):
+    """The files and folders that the page names and that do not exist; capitals such as NAME stand for any word."""
+    for name in re.findall(r"`([\w./-]*(?:/|\.[a-z]+))`", page):
+        pattern = re.sub("[A-Z_]{4,}", r"\\w+", re.escape(name.rstrip("/")))
+        if not any(re.search("(^|/)%s(/|$)" % pattern, path) for path in paths):
+            yield f"CONTRIBUTING.md names {name}, which does not exist"
+
+
 def is_below(path, place):
     return path == place or path.startswith(place + "/")
 
@@ -72,11 +80,15 @@ def faults(what, places, files, words, least):
             yield f"CONTRIBUTING.md lists {place}, which names no {what}"
 
 
+def paths_of(top):
+    told = subprocess.run(["git", "ls-files", "-co", "--exclude-standard"], cwd=top, capture_output=True, text=True)
+    return told.stdout.split("\n")
+
+
 def files_of(top):
     """The texts of the files that are kept, by path."""
-    told = subprocess.run(["git", "ls-files", "-co", "--exclude-standard"], cwd=top, capture_output=True, text=True)
     texts = {}
-    for path in told.stdout.split("\n"):
+    for path in paths_of(top):
         if path and not NO_PLACES.search(path) and (top / path).is_file():
             try:
                 texts[path] = (top / path).read_text()
@@ -103,6 +115,7 @@ def main(arguments):
         return 0
     wrong = [line for what, heading, texts, among, least in asked
              for line in faults(what, list(listed(page, heading)), texts, among, least)]
+    wrong += gone(page.partition("\n## To add something else")[2], paths_of(TOP))
     print(*wrong, f"{len(wrong)} wrong", sep="\n")
     return 1 if wrong else 0
 

@@ -5,7 +5,7 @@ import sys
 import unittest
 
 sys.path.insert(0, str(pathlib.Path(__file__).resolve().parent))
-from places import NO_CODE, causes, commands, events, faults, listed, named, statements
+from places import NO_CODE, causes, commands, events, faults, gone, listed, named, statements
 
 PROGRAM = '''
     let command = with_command(command, Command::new(alloc, "span"))?;
@@ -64,6 +64,11 @@ class Places(unittest.TestCase):
         self.assertEqual(list(faults("command", ["a/c.rt", "d.rt", "e.rt"], files, words, 2)),
                          ["a/b.rt has a place for each command, and CONTRIBUTING.md does not list it",
                           "CONTRIBUTING.md lists e.rt, which names no command"])
+
+    def test_what_is_gone(self):
+        page = "- **A part**: `tools/part_NAME.py`, `figures.py`, `parts` of `old.py`; `report/`; `OF.md` and `2 > 1.x`"
+        paths = ["tools/part_bars.py", "tools/report/figures.py", "tools/threshold.py", "OF.md"]
+        self.assertEqual(list(gone(page, paths)), ["CONTRIBUTING.md names old.py, which does not exist"])
 
     def test_what_is_code(self):
         for path in ("crates/large_text/src/place_tests.rt", "tools/openmp_recorder/converter/compose.cpp",

@@ -18,6 +18,7 @@ struct Paths {
   std::mutex adding;
   std::string file;
   std::map<std::vector<uintptr_t>, uint64_t> numbers;
+  uint64_t lines = 0;  // in the file: a path's number is that of its line
   uint64_t bytes = 0;
   bool is_full = false;
 };
@@ -44,16 +45,19 @@ bool append(const std::string &line) {
   ssize_t written = write(file, line.data(), line.size());
   close(file);
   paths.bytes += line.size();
-  return written == static_cast<ssize_t>(line.size());
+  if (written != static_cast<ssize_t>(line.size())) return false;
+  paths.lines++;
+  return true;
 }
 
 uint64_t add(const std::vector<uintptr_t> &calls) {
-  if (paths.is_full || paths.numbers.size() >= log_form::most_paths || !append(line_of(calls))) {
+  if (paths.is_full || paths.lines >= log_form::most_paths || !append(line_of(calls))) {
     paths.is_full = true;
     return 0;
   }
-  // The line is in the file by now: a record may name the number as soon as this returns.
-  return paths.numbers[calls] = paths.numbers.size() + 1;
+  // The line is in the file by now: a record may name the number as soon as this returns. Where memory is out here the
+  // path gets no number, but its line still counts.
+  return paths.numbers[calls] = paths.lines;
 }
 }  // namespace
 

@@ -83,7 +83,8 @@ Samples *new_samples() {
   return made;
 }
 
-// A thread of LLVM's runtime ends without a word.
+// A thread of LLVM's runtime ends without a word. One of gcc's has its log left too (`Leaving`): whichever destructor
+// comes first ends the samples, and the other finds none.
 struct AtEnd {
   ~AtEnd() {
     if (own_samples) own_samples->end_thread();

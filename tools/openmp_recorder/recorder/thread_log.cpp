@@ -240,7 +240,7 @@ void ThreadLog::wait_begins(Moment &now) {
 }
 
 // Others wait for the lock, so where switches are known the clocks are read once it is let go: until then the word says
-// whether the thread was switched out since.
+// whether the thread was switched out since. The last look is set so far back that the next record looks.
 void ThreadLog::wait_ends(Moment &now) {
   if (kept.is_known()) {
     if (kept.stands()) return;
@@ -300,7 +300,8 @@ uint64_t time_since(const Moment &began) {
 }
 
 // By the wall clock: while another program had the processor it is no work of the recorder, but code of the program
-// that was put off. The kernel often does that where the clocks are read, which is a call of it.
+// that was put off. The kernel often does that where the clocks are read, which is a call of it. Where switches are not
+// known, only a call that looked at both clocks as it began can say how much of its time that was.
 uint64_t ThreadLog::own_time_since(const Moment &began) const {
   constexpr int64_t around_a_look = 1000;  // nanoseconds: what the call takes before its clock is read
   uint64_t took = time_since(began);
@@ -314,6 +315,7 @@ uint64_t ThreadLog::own_time_since(const Moment &began) const {
   return std::min(took, static_cast<uint64_t>(static_cast<double>(worked) / nanoseconds_of_tick()));
 }
 
+// A sample that the thread took in between is in it: the converter leaves that out once (`is_left_out`).
 void ThreadLog::put_slow(const Moment &began) {
   is_slow = false;
   tell_stood_still(own_time_since(began));
