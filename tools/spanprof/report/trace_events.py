@@ -40,19 +40,18 @@ def names(run):
 
 def bars(view, run, scale):
     code = view.answers.code
-    for s, row in enumerate(view.answers.rows):
+    for s, (cost, task, _, slack, critical) in enumerate(zip(*view.answers.rows)):
         if run.shows(s):
             length = (run.ends[s] - run.starts[s]) * scale
-            yield {"name": code.place(s), "cat": "critical" if row.critical else "other", "ph": "X",
+            yield {"name": code.place(s), "cat": "critical" if critical else "other", "ph": "X",
                    "ts": run.starts[s] * scale, "dur": length, "pid": run.process, "tid": run.threads[s],
-                   "args": {"segment": s, "task": row.task, "cost": row.cost, "slack": row.slack,
-                            "critical": row.critical}}
+                   "args": {"segment": s, "task": task, "cost": cost, "slack": slack, "critical": bool(critical)}}
 
 
 def flow(view, run, scale, p, s, number):
     """An arrow from inside the bar of `p`, since it belongs to the bar that its moment lies in, to the start of `s`."""
-    code, rows = view.answers.code, view.answers.rows
-    kind = GOES_ON if rows[p].task == rows[s].task else kind_of(code, p, s)
+    code = view.answers.code
+    kind = GOES_ON if code.task[p] == code.task[s] else kind_of(code, p, s)
     shared = {"name": kind, "cat": "edge", "id": run.process * FLOWS_OF_A_RUN + number, "pid": run.process}
     middle = (run.starts[p] + run.ends[p]) / 2
     yield dict(shared, ph="s", ts=middle * scale, tid=run.threads[p])
