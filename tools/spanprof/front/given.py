@@ -28,7 +28,7 @@ def name_of(descriptor):
 
 
 def copied(descriptor):
-    """As much as the program takes, in a file of its own. What cannot be read is a folder there, which fails as well."""
+    """As much as the program takes, in a file of its own. For what cannot be read it has a folder, which fails too."""
     data, name = bytearray(), name_of(descriptor)
     try:
         while piece := os.read(descriptor, min(PIECE, LARGEST_INPUT + 1 - len(data))):

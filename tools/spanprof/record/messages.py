@@ -18,15 +18,12 @@ def milliseconds(nanoseconds):
     return "%.1f ms" % (nanoseconds / 1e6)
 
 
-def times_of(told):
-    """The timed document, where it was asked for."""
-    return " and " + told["times"] if "times" in told else \
-        "; no times, " + NO_TIMES[told["no times"]] if "no times" in told else ""
-
-
 def text(told):
+    """With the timed document, where it was asked for."""
+    times = " and " + told["times"] if "times" in told else \
+        "; no times, " + NO_TIMES[told["no times"]] if "no times" in told else ""
     return "%s%s: %d tasks, %d segments, work %d %s" % (
-        told["file"], times_of(told), told["tasks"], told["segments"], told["work"], told["unit"])
+        told["file"], times, told["tasks"], told["segments"], told["work"], told["unit"])
 
 
 def too_large(told):

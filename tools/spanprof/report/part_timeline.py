@@ -17,8 +17,9 @@ AS_MANY = "The greedy schedule of the text on as many threads"
 
 
 def title(name, threads, end, busy, kinds):
-    return join([tag("b", NAMES[name]), ", ", tag("span", "%d threads" % threads, class_="given"), ", ", end, ", ", busy,
-                 " busy ", badges(*dict.fromkeys(kinds))])
+    on_threads = tag("span", "%d threads" % threads, class_="given")
+    return join([tag("b", NAMES[name]), ", ", on_threads, ", ", end, ", ", busy, " busy ",
+                 badges(*dict.fromkeys(kinds))])
 
 
 def recorded_title(view):

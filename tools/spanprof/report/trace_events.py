@@ -25,12 +25,6 @@ class Run(NamedTuple):
         return self.threads[s] is not None and self.ends[s] > self.starts[s]
 
 
-def runs_of(view):
-    made, run = view.answers.greedy, view.run
-    own = [Run(1, "the run as it was", run.starts, run.ends, run.workers, run.count)] if run else []
-    return own + [Run(2, "the greedy schedule", made.starts, made.ends, or_none(made.threads), view.answers.threads)]
-
-
 def names(run):
     yield {"name": "process_name", "ph": "M", "pid": run.process, "tid": 0, "args": {"name": run.title}}
     for thread in range(run.count):
@@ -69,9 +63,11 @@ def flows(view, run, scale):
 
 
 def trace_text(view):
-    head, events = view.answers.head, []
+    head, events, made, own = view.answers.head, [], view.answers.greedy, view.run
     scale = (head.nanoseconds or 1000) / 1000
-    for run in runs_of(view):
+    runs = [Run(1, "the run as it was", own.starts, own.ends, own.workers, own.count)] if own else []
+    runs.append(Run(2, "the greedy schedule", made.starts, made.ends, or_none(made.threads), view.answers.threads))
+    for run in runs:
         for part in (names(run), bars(view, run, scale), flows(view, run, scale)):
             events += part
     return json.dumps({"traceEvents": events, "displayTimeUnit": "ns",
