@@ -6,6 +6,7 @@ from dataclasses import dataclass
 from functools import cached_property
 from itertools import compress
 from operator import add
+from typing import NamedTuple
 
 from spanprof import client
 from spanprof.c_calls import MOST_THREADS
@@ -20,30 +21,13 @@ LONGEST_CURVE = 64
 SLACK = ("start", "slack", "chain")
 
 
-@dataclass
-class Row:
-    """A segment's row of `slack`."""
-    cost: int
-    task: int
-    start: int
-    slack: int
-    critical: bool
-
-
-class Rows:
-    """Of each segment what `slack` tells: `rows[s]` is a Row, and each column has the name of the field."""
-
-    def __init__(self, cost, task, start, slack, chain):
-        self.cost, self.task, self.start, self.slack, self.critical = cost, task, start, slack, chain
-
-    def __len__(self):
-        return len(self.cost)
-
-    def __getitem__(self, s):
-        return Row(self.cost[s], self.task[s], self.start[s], self.slack[s], self.critical[s] == 1)
-
-    def __iter__(self):
-        return (self[s] for s in range(len(self)))
+class Rows(NamedTuple):
+    """Of each segment what `slack` tells, in columns; `critical` has 1 and 0."""
+    cost: array
+    task: array
+    start: array
+    slack: array
+    critical: array
 
 
 @dataclass
@@ -158,7 +142,7 @@ class Answers:
     @property
     def path_segments(self):
         """Those on the path that `slack` shows."""
-        return list(compress(range(len(self.rows)), self.rows.critical))
+        return list(compress(range(len(self.code)), self.rows.critical))
 
     @cached_property
     def tasks(self):

@@ -17,7 +17,7 @@ from unseen import UNSEEN
 from spanprof.predict.estimate import estimate
 from spanprof.predict.machine import read_machine
 from spanprof.predict.predictions import undisturbed
-from spanprof.predict.recorded import GNU, LLVM, lines_after_the_divider, recorded_as, take_times
+from spanprof.predict.recorded import GNU, LLVM, recorded_as, take_times
 
 RUNTIME = os.environ.get("RUNTIME", LLVM)
 COVERED, WORST = 0.9, 0.20
@@ -71,7 +71,7 @@ def rows(path):
 
 def read_recording(path):
     one = recorded_as(path.read_text(encoding="utf-8"), path.name)
-    take_times(one, lines_after_the_divider(path.with_suffix(".timed")))
+    take_times(one, path.with_suffix(".timed"))
     one.runtime = RUNTIME
     return one
 

@@ -3,7 +3,7 @@ import os
 import stat
 import tempfile
 from dataclasses import dataclass
-from typing import Any, Callable, Optional
+from typing import Any, Optional
 
 LARGEST_INPUT = 8388608     # bytes that a command of spanprof takes; it reads one more of a longer input
 PIECE = 1 << 20
@@ -13,64 +13,37 @@ UNNAMED = "standard input"
 
 @dataclass
 class Given:
-    name: str                               # as messages name it
-    descriptor: int                         # what the program reads
-    read: Callable[[], Optional[bytes]]     # what it has read; none where that is not known
-    file: Any = None                        # stays open until it has been read
+    name: str                       # as messages name it
+    descriptor: int                 # what the program reads
+    data: Optional[bytes] = None    # what it has read; none where that is not known
+    file: Any = None                # stays open until it has been read
 
 
-def pieces(read_piece):
-    """Up to one byte more than the program takes, as `read_piece(count, place)` gives them."""
-    found = []
-    left = LARGEST_INPUT + 1
-    while left:
-        piece = read_piece(min(PIECE, left), LARGEST_INPUT + 1 - left)
-        if not piece:
-            break
-        found.append(piece)
-        left -= len(piece)
-    return b"".join(found)
-
-
-def shown_name(descriptor):
+def name_of(descriptor):
     """The path of an open file, from here where it is below."""
-    try:
-        path = os.readlink("/proc/self/fd/%d" % descriptor)
-    except OSError:
+    if not stat.S_ISREG(os.fstat(descriptor).st_mode):
         return UNNAMED
-    here = os.getcwd()
+    path, here = os.readlink("/proc/self/fd/%d" % descriptor), os.getcwd()
     return os.path.relpath(path, here) if path.startswith(os.path.join(here, "")) else path
 
 
-def in_file(descriptor):
-    """The program reads the file itself; what it has read is read again without moving where others go on."""
-    begin = os.lseek(descriptor, 0, os.SEEK_CUR)
-    return Given(shown_name(descriptor), descriptor,
-                 lambda: pieces(lambda count, place: os.pread(descriptor, count, begin + place)))
-
-
-def unknown(descriptor):
-    return Given(UNNAMED, descriptor, lambda: None)
-
-
 def copied(descriptor):
-    """What a pipe gives is kept. Where it cannot be read, the program reads a folder, and fails as it would have."""
+    """As much as the program takes, in a file of its own. For what cannot be read it has a folder, which fails too."""
+    data, name = bytearray(), name_of(descriptor)
     try:
-        data = pieces(lambda count, _: os.read(descriptor, count))
+        while piece := os.read(descriptor, min(PIECE, LARGEST_INPUT + 1 - len(data))):
+            data += piece
     except OSError:
-        return unknown(os.open("/", os.O_RDONLY))
+        return Given(name, os.open("/", os.O_RDONLY))
     copy = tempfile.TemporaryFile(buffering=0)
     copy.write(data)
     copy.seek(0)
-    return Given(UNNAMED, copy.fileno(), lambda: data, copy)
+    return Given(name, copy.fileno(), data, copy)
 
 
 def given(is_read):
-    """What a program is given on standard input. A pipe is read only where the program reads it."""
+    """What a program is given on standard input. It is read only where the program reads it."""
     try:
-        is_file = stat.S_ISREG(os.fstat(INPUT).st_mode)
-    except OSError:
-        return unknown(INPUT)
-    if is_file:
-        return in_file(INPUT)
-    return copied(INPUT) if is_read else unknown(INPUT)
+        return copied(INPUT) if is_read else Given(name_of(INPUT), INPUT)
+    except OSError:     # it is closed
+        return Given(UNNAMED, INPUT)

@@ -52,10 +52,9 @@ def told(program, words, taken):
         done = subprocess.run(program + list(more), input=text.encode(), stdout=subprocess.PIPE, check=False)
         return done.stdout.decode("utf-8", "replace").strip()
 
-    data = taken.read()
-    if data is None and are_right(words):
+    if taken.data is None and are_right(words):
         return ["spanprof: standard input cannot be read"]
-    text = (data or b"").decode("utf-8", "replace")
+    text = (taken.data or b"").decode("utf-8", "replace")
     return meaning(taken.name, words, text, ask(words, text), ask)
 
 

@@ -34,7 +34,7 @@ def table_lines(path):
 def dot_lines(path):
     answers = Answers(path)
     code = answers.code
-    return lines(zip(code.task, code.places, code.cost, answers.predecessors), list(answers.path_segments))
+    return lines(zip(code.task, code.places, code.cost, answers.predecessors), answers.path_segments)
 
 
 def answer(options):

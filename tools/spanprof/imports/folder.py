@@ -15,17 +15,6 @@ from spanprof.recording import ENDING, TEXT, TIMES
 from spanprof.record.work import PART
 
 
-def write_lines(path, lines):
-    with naming(path), open(path, "w", encoding="utf-8", errors="replace") as file:
-        file.writelines(lines)
-
-
-def facts_of(told, run):
-    """For recording.json."""
-    facts = {"imported": told.tool or "a trace", "runtime": {"name": told.tool} if told.tool else None}
-    return {**facts, **({"elapsed_ns": run.elapsed, "threads": {"most": run.threads}} if run else {})}
-
-
 def fill(folder, path, name, told):
     """Writes what the file at `path` tells; answers why there are no times."""
     tasks = in_order(told.tasks)
@@ -34,10 +23,12 @@ def fill(folder, path, name, told):
     numbers = (run.threads, run.elapsed) if run else ()
     written = datetime.fromtimestamp(os.stat(path).st_mtime, timezone.utc).strftime("%Y-%m-%dT%H:%M:%SZ")
     lines = head(name, os.path.basename(path), written, unit, *numbers)
-    write_lines(os.path.join(folder, TEXT), [*lines, body(tasks, unit)])
-    if run:
-        write_lines(os.path.join(folder, TIMES), run.lines())
-    write_meta(folder, facts_of(told, run))
+    files = {TEXT: [*lines, body(tasks, unit)], **({TIMES: run.lines()} if run else {})}
+    for file, its_lines in files.items():
+        with naming(folder), open(os.path.join(folder, file), "w", encoding="utf-8", errors="replace") as out:
+            out.writelines(its_lines)
+    facts = {"imported": told.tool or "a trace", "runtime": {"name": told.tool} if told.tool else None}
+    write_meta(folder, {**facts, **({"elapsed_ns": run.elapsed, "threads": {"most": run.threads}} if run else {})})
     return why
 
 

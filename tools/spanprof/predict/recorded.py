@@ -8,10 +8,11 @@ from spanprof.errors import Fault, reading
 from spanprof.head import Head, comments, read_head
 from spanprof.predict.burden import text_with
 from spanprof.predict.program import Program, read_program
-from spanprof.predict.times import rows_of, times_of
-from spanprof.program_text import DIVIDER, has_loops
-from spanprof.recording import document, open_recording
+from spanprof.predict.times import times_of
+from spanprof.program_text import has_loops
+from spanprof.recording import open_recording
 from spanprof.segment_table import read_code
+from spanprof.times_file import times_in
 from spanprof.validity import is_divided
 
 RUNTIMES = LLVM, GNU = "llvm", "gnu"
@@ -39,23 +40,6 @@ class Recorded:
     @property
     def work(self):
         return sum(self.program.costs)
-
-
-def outside_of(timed):
-    """By the lines of a timed document: `times THREADS FIRST LAST`, then `SEGMENT THREAD BEGIN END`."""
-    words = [line.split() for line in timed if line.strip()]
-    if not words or words[0][0] != "times" or len(words) == 1:
-        return 0
-    first, last = map(int, words[0][2:])
-    return min(int(row[2]) for row in words[1:]) - first + last - max(int(row[3]) for row in words[1:])
-
-
-def lines_after_the_divider(path):
-    with open(path, encoding="utf-8", errors="replace") as file:
-        for line in file:
-            if line.rstrip("\r\n") == DIVIDER:
-                return list(file)
-    return []
 
 
 def why_not(head, text):
@@ -98,19 +82,20 @@ def with_text(base, text):
     return replace(base, program=program, text=text, is_changed=text != base.text)
 
 
-def take_times(one, timed):
-    """What the lines of its timed document tell, after the divider."""
-    one.outside, one.is_timed = outside_of(timed), True
-    times = times_of(one.program, rows_of(timed))
+def take_times(one, path):
+    """What the file of its times tells."""
+    (_, first, last), columns = times_in(path)
+    one.outside, one.is_timed = min(columns[2]) - first + last - max(columns[3]), True
+    times = times_of(one.program, list(zip(*columns)))
     if times:
         one.arrivals, one.dispatch = times.arrivals(), times.dispatch()
 
 
 def recorded(path, name="", runtime=LLVM):
     """That of a file, with the times beside it where they are there."""
-    one, timed = recorded_as(client.read(path), name or path), document(open_recording(path))
+    one, times = recorded_as(client.read(path), name or path), open_recording(path).times
     one.runtime = runtime
-    if timed:
+    if times:
         with reading(name or path):
-            take_times(one, lines_after_the_divider(timed))
+            take_times(one, times)
     return one

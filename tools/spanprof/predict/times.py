@@ -10,11 +10,6 @@ LEAST_GAPS = 10
 MOST_STEP = 100000  # from one thread's coming to the next one's, on another number of threads than were recorded
 
 
-def rows_of(timed):
-    """Of the lines of a timed document: `times THREADS FIRST LAST`, then `SEGMENT THREAD BEGIN END`."""
-    return [tuple(map(int, line.split())) for line in timed[1:] if line.strip()]
-
-
 class Times:
     """Of a recording's segments, in nanoseconds."""
 

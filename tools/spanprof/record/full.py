@@ -32,16 +32,14 @@ def cost_on_one(session):
         return costs_by_place(text) if text else None
 
 
-def threads_of(facts):
-    threads = facts.get("threads") or {}
-    return threads.get("most") or threads.get("asked") or facts.get("processors") or 1
-
-
 def full_facts(session, folder, times=None):
     """Of the recording in a folder, with the names of recording.json; `times` are those of unrecorded runs, where they
     were made. Where a run fails that is told, and there are none."""
+    facts = old_meta(folder)
+    threads = facts.get("threads") or {}
+    most = threads.get("most") or threads.get("asked") or facts.get("processors") or 1
     try:
-        times = times or unrecorded(session, [threads_of(old_meta(folder)), 1], RUNS)
+        times = times or unrecorded(session, [most, 1], RUNS)
         return {"true_one": times[1], "true_many": times[max(times)], "cost_on_one": cost_on_one(session)}
     except Failed as failed:
         say("%s: what --full adds is not known" % failed)

@@ -18,15 +18,12 @@ def milliseconds(nanoseconds):
     return "%.1f ms" % (nanoseconds / 1e6)
 
 
-def times_of(told):
-    """The timed document, where it was asked for."""
-    return " and " + told["times"] if "times" in told else \
-        "; no times, " + NO_TIMES[told["no times"]] if "no times" in told else ""
-
-
 def text(told):
+    """With the timed document, where it was asked for."""
+    times = " and " + told["times"] if "times" in told else \
+        "; no times, " + NO_TIMES[told["no times"]] if "no times" in told else ""
     return "%s%s: %d tasks, %d segments, work %d %s" % (
-        told["file"], times_of(told), told["tasks"], told["segments"], told["work"], told["unit"])
+        told["file"], times, told["tasks"], told["segments"], told["work"], told["unit"])
 
 
 def too_large(told):
@@ -79,13 +76,8 @@ class Messages:
         """Whether the recorder stopped before the program did."""
         return any(one["message"] == "stopped" for one in self.things)
 
-    def without(self, texts):
-        """All but that these were written."""
-        return Messages(self.loaded, [one for one in self.things
-                                      if not (one["message"] == "text" and one["file"] in texts)])
-
     def news(self, out, texts=(), remarks=()):
         """What the summary would not show, without the path of the files; two conversions may tell the same."""
-        rest = [one for one in self.without(texts).things
-                if not (one["message"] == "remark" and remark_of(one["remark"]) in remarks)]
+        rest = [one for one in self.things if not (one["message"] == "text" and one["file"] in texts)
+                and not (one["message"] == "remark" and remark_of(one["remark"]) in remarks)]
         return list(dict.fromkeys(in_words(one).replace(os.path.dirname(out) + os.sep, "") for one in rest))

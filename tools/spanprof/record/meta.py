@@ -19,11 +19,6 @@ def files_in(folder):
     return sorted(name for name in found if name != META and not name.startswith("."))
 
 
-def runtime_of(folder):
-    """The first that ran the program, as the log lists them."""
-    return next(iter(runtimes_of(os.path.join(folder, LOG))), None)
-
-
 def of_text(text):
     """What the head of the text and the table of regions tell."""
     head, program = head_of(text), program_of(text)
@@ -45,7 +40,7 @@ def write_meta(folder, facts):
     told = {"schema": SCHEMA, **facts}
     if os.path.exists(os.path.join(folder, TEXT)):
         told = merged(told, of_text(os.path.join(folder, TEXT)))
-    told["runtime"] = runtime_of(folder) or told.get("runtime")
+    told["runtime"] = next(iter(runtimes_of(os.path.join(folder, LOG))), None) or told.get("runtime")
     told["files"] = {name: checksum(os.path.join(folder, name)) for name in files_in(folder)}
     path = os.path.join(folder, META)
     with writing(path) as file:

@@ -11,6 +11,7 @@ from spanprof.head import head_of, head_text
 from spanprof.program_text import BLOCKS, HEADER
 from spanprof.recording import REGIONS, TEXT, TIMES
 from spanprof.regions import program_of
+from spanprof.times_file import times_in
 
 ANY_BYTES = {"encoding": "utf-8", "errors": "surrogateescape"}
 SECONDS, WORD = re.compile(r"\d+(\.\d*)?s?"), re.compile(r"\s*(\w+|\})?")
@@ -68,12 +69,6 @@ def cut(lines, times, begin, end):
     return kept, segments
 
 
-def rows_of(path):
-    """The first line, and of each segment its worker, begin and end."""
-    with reading(path), open(path, encoding="utf-8") as file:
-        return next(file).split(), [tuple(map(int, line.split()[1:])) for line in file]
-
-
 def region_lines(path, begin, elapsed):
     """In nanoseconds; the first row is the program's, with the time outside of regions."""
     with reading(path), open(path, **ANY_BYTES) as file:
@@ -104,7 +99,9 @@ def write(path, lines):
 
 def write_part(recording, folder, begin, end):
     """The files of the part between two moments in nanoseconds; what is told of locks is of the whole run."""
-    first, times = rows_of(recording.times)
+    with reading(recording.times):
+        (threads, *_), (_, *columns) = times_in(recording.times)
+    times = list(zip(*columns))     # of each segment worker, begin and end
     with reading(recording.text), open(recording.text, **ANY_BYTES) as text:
         lines, segments = cut(text, times, begin, end)
     origin = times[segments[0]][2]
@@ -116,7 +113,7 @@ def write_part(recording, folder, begin, end):
         os.mkdir(folder)
     in_unit = elapsed // (head_of(recording.text).nanoseconds or 1)
     files = {TEXT: [*head, "# elapsed: %d" % in_unit, HEADER + " 1", *lines],
-             TIMES: ["times %s 0 %d" % (first[1], elapsed), *("%d %d %d %d" % (i, *row) for i, row in enumerate(rows))],
+             TIMES: ["times %d 0 %d" % (threads, elapsed), *("%d %d %d %d" % (i, *row) for i, row in enumerate(rows))],
              REGIONS: region_lines(recording.file(REGIONS), origin, elapsed),
              **{name: by_segment(recording.file(name), numbers) for name in ("off", "calls")}}
     for name, found in files.items():

@@ -21,10 +21,6 @@ def taken(name):
     return [path for path in found if re.fullmatch(r"(\.rank\d+)?(\.child\d+)?", path[len(name):-len(ENDING)])]
 
 
-def numbered(name, number):
-    return name if number == 1 else "%s-%d" % (name, number)
-
-
 def locked(folder):
     """A descriptor that holds the folder as long as this process lives; None where another process holds it."""
     handle = os.open(folder, os.O_RDONLY | os.O_DIRECTORY)
@@ -61,7 +57,7 @@ class Work:
 
     def __init__(self, out, force):
         for number in itertools.count(1):
-            self.name, self.replaces = numbered(out, number), force and number == 1
+            self.name, self.replaces = out + "-%d" % number * (number > 1), force and number == 1
             self.part = self.name + ENDING + PART
             if self.replaces:
                 remove_left_behind(self.part)

@@ -5,12 +5,11 @@ from operator import sub
 
 from spanprof.report.timeline_data import DIGITS
 from spanprof.report.colours import BARS
+from spanprof.times_file import times_in
 
 COLOURS = len(BARS)
 MOST_BINS = 32768           # of a thread
 MOST_OF_ALL = 1048576       # of all threads: two letters each
-HEADER = "times "
-PIECE = 1 << 20     # bytes of the file of times that are read at a time
 FULL = len(DIGITS) - 1      # the digit of a thread that is busy all the time
 
 
@@ -59,21 +58,6 @@ class Levels:
                 "rows": [self.words_of(thread) for thread in range(self.threads)]}
 
 
-def columns(path):
-    """Segments, threads, begins and ends, in a file of times or a document with a text before them."""
-    out = [array("q") for _ in range(4)]
-    with open(path, encoding="utf-8", errors="replace") as file:
-        if not any(line.startswith(HEADER) for line in file):
-            raise ValueError("no times")
-        while lines := file.readlines(PIECE):
-            words = "".join(lines).split()
-            if len(words) != 4 * len(lines):
-                raise ValueError("a line has not four numbers")
-            for i, column in enumerate(out):
-                column.extend(map(int, words[i::4]))
-    return out
-
-
 def levels_of(view, threads, segments, lanes, starts, ends):
     """The timeline of columns of numbers; each has to be one of a run."""
     if min(min(segments), min(lanes), min(starts), min(map(sub, ends, starts))) < 0:
@@ -88,7 +72,7 @@ def levels_of(view, threads, segments, lanes, starts, ends):
 def levels_in(path, view):
     """In nanoseconds; None where the file has no times of the text."""
     try:
-        return levels_of(view, view.answers.head.threads or 1, *columns(path))
+        return levels_of(view, view.answers.head.threads or 1, *times_in(path)[1])
     except (IndexError, ValueError):
         return None
 

@@ -101,16 +101,12 @@ def reached_mark(axes, view, colour):
     return tag("path", title, d="M%g %gl7 7l-7 7l-7 -7z" % (x, y - 7), class_="reached " + colour)
 
 
-def most_shown(views):
-    """The greatest speedup of the picture."""
-    bounds = [speed_up for view in views for _, speed_up in speed_ups(view.answers, "least")]
-    true = [point.greatest for view in views for point in shown_points(view)]
-    return max(bounds + true + list(filter(None, map(reached, views))))
-
-
 def picture(views):
     most_threads = max(max(view.answers.curve) for view in views)
-    axes = Axes(most_threads, max(most_shown(views) * 1.06, 1.5))
+    bounds = [speed_up for view in views for _, speed_up in speed_ups(view.answers, "least")]
+    true = [point.greatest for view in views for point in shown_points(view)]
+    most = max(bounds + true + list(filter(None, map(reached, views))))
+    axes = Axes(most_threads, max(most * 1.06, 1.5))
     ideal = [(1, 1), (min(most_threads, axes.most_times), min(most_threads, axes.most_times))]
     pieces = [grid(axes), tag("polyline", points=axes.points(ideal), class_="ideal")]
     for draw in (curve_lines, reached_mark, true_marks):

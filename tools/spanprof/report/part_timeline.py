@@ -16,12 +16,9 @@ NAMES = {"recorded": "The run as it was", "greedy": "The greedy schedule"}
 AS_MANY = "The greedy schedule of the text on as many threads"
 
 
-def on_threads(threads):
-    return tag("span", "%d threads" % threads, class_="given")
-
-
 def title(name, threads, end, busy, kinds):
-    return join([tag("b", NAMES[name]), ", ", on_threads(threads), ", ", end, ", ", busy, " busy ",
+    on_threads = tag("span", "%d threads" % threads, class_="given")
+    return join([tag("b", NAMES[name]), ", ", on_threads, ", ", end, ", ", busy, " busy ",
                  badges(*dict.fromkeys(kinds))])
 
 

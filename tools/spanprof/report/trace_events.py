@@ -25,12 +25,6 @@ class Run(NamedTuple):
         return self.threads[s] is not None and self.ends[s] > self.starts[s]
 
 
-def runs_of(view):
-    made, run = view.answers.greedy, view.run
-    own = [Run(1, "the run as it was", run.starts, run.ends, run.workers, run.count)] if run else []
-    return own + [Run(2, "the greedy schedule", made.starts, made.ends, or_none(made.threads), view.answers.threads)]
-
-
 def names(run):
     yield {"name": "process_name", "ph": "M", "pid": run.process, "tid": 0, "args": {"name": run.title}}
     for thread in range(run.count):
@@ -40,19 +34,18 @@ def names(run):
 
 def bars(view, run, scale):
     code = view.answers.code
-    for s, row in enumerate(view.answers.rows):
+    for s, (cost, task, _, slack, critical) in enumerate(zip(*view.answers.rows)):
         if run.shows(s):
             length = (run.ends[s] - run.starts[s]) * scale
-            yield {"name": code.place(s), "cat": "critical" if row.critical else "other", "ph": "X",
+            yield {"name": code.place(s), "cat": "critical" if critical else "other", "ph": "X",
                    "ts": run.starts[s] * scale, "dur": length, "pid": run.process, "tid": run.threads[s],
-                   "args": {"segment": s, "task": row.task, "cost": row.cost, "slack": row.slack,
-                            "critical": row.critical}}
+                   "args": {"segment": s, "task": task, "cost": cost, "slack": slack, "critical": bool(critical)}}
 
 
 def flow(view, run, scale, p, s, number):
     """An arrow from inside the bar of `p`, since it belongs to the bar that its moment lies in, to the start of `s`."""
-    code, rows = view.answers.code, view.answers.rows
-    kind = GOES_ON if rows[p].task == rows[s].task else kind_of(code, p, s)
+    code = view.answers.code
+    kind = GOES_ON if code.task[p] == code.task[s] else kind_of(code, p, s)
     shared = {"name": kind, "cat": "edge", "id": run.process * FLOWS_OF_A_RUN + number, "pid": run.process}
     middle = (run.starts[p] + run.ends[p]) / 2
     yield dict(shared, ph="s", ts=middle * scale, tid=run.threads[p])
@@ -70,9 +63,11 @@ def flows(view, run, scale):
 
 
 def trace_text(view):
-    head, events = view.answers.head, []
+    head, events, made, own = view.answers.head, [], view.answers.greedy, view.run
     scale = (head.nanoseconds or 1000) / 1000
-    for run in runs_of(view):
+    runs = [Run(1, "the run as it was", own.starts, own.ends, own.workers, own.count)] if own else []
+    runs.append(Run(2, "the greedy schedule", made.starts, made.ends, or_none(made.threads), view.answers.threads))
+    for run in runs:
         for part in (names(run), bars(view, run, scale), flows(view, run, scale)):
             events += part
     return json.dumps({"traceEvents": events, "displayTimeUnit": "ns",

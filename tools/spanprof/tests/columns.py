@@ -1,7 +1,6 @@
 """Columns as answers have them, of what tests list one by one."""
 from operator import add
 
-from spanprof.answers import Rows
 from spanprof.segment_table import Code, Kind, read_code
 
 
@@ -27,9 +26,3 @@ def sums_of(code, path, names):
         own = 1, cost, is_on_path, cost * is_on_path, 0
         out[names[kind]] = tuple(map(add, out.get(names[kind], (0,) * len(own)), own))
     return out
-
-
-def rows_of(costs, critical=()):
-    """Segments of the root with these costs; the numbers of those on the path."""
-    none = [0] * len(costs)
-    return Rows(list(costs), none, none, none, [s in critical for s in range(len(costs))])

@@ -4,6 +4,7 @@ import os
 import shutil
 import sys
 import tempfile
+from functools import partial
 
 from spanprof import client
 from spanprof.answers import Answers
@@ -40,17 +41,13 @@ OPTIONS = (("factor", "PLACE=F", "multiply the cost of the code at PLACE by F"),
            ("task", "PLACE", "make the code at PLACE a task, which the next wait waits for"))
 
 
-def request(option):
-    return lambda word: Request(option, word)
-
-
 def parse(words):
     parser = argparse.ArgumentParser(prog="spanprof-whatif", usage="%(prog)s [options] MINE.spanprof",
                                      description=DESCRIPTION, epilog=AFTER, allow_abbrev=False)
     add = parser.add_argument
     add("text", metavar="MINE.spanprof", help="a recording, a program text, or - for standard input")
     for option, metavar, words_of_help in OPTIONS:
-        add("--" + option, dest="requests", action="append", type=request(option), metavar=metavar, default=[],
+        add("--" + option, dest="requests", action="append", type=partial(Request, option), metavar=metavar, default=[],
             help=words_of_help)
     add("--threads", type=count(1, 1024), metavar="P", help="numbers for P threads (default: as many as were recorded)")
     add("--creating", type=count(0, 10 ** 12), metavar="COST",

@@ -46,13 +46,9 @@ def notes(requests, made, costs, head, threads):
     yield from ("on %d threads: %s" % (p, why_not_of_more_threads(head)) for p in threads if not speaks_of(head, p))
 
 
-def in_unit(unit):
-    """Of the costs; one that is a number of nanoseconds is a factor."""
-    return "in %s%s" % ("x " if unit[:1].isdigit() else "", unit) if unit else ""
-
-
 def lines(before, after, unit=""):
-    yield (HEADS % (in_unit(unit), "text", "changed text", "")).rstrip()
+    in_unit = "in %s%s" % ("x " * unit[:1].isdigit(), unit) if unit else ""     # a number of nanoseconds is a factor
+    yield (HEADS % (in_unit, "text", "changed text", "")).rstrip()
     for name, was, now in pairs(before, after):
         yield (HEADS % (name, grouped(was), grouped(now), change(was, now))).rstrip()
     yield proof_words(before, after)

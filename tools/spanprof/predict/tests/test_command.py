@@ -10,7 +10,7 @@ from unittest import mock
 from spanprof.errors import Fault
 from spanprof.predict import command, predictions
 from spanprof.predict.machine import Machine, Measured, write_machine
-from spanprof.predict.recorded import outside_of, recorded
+from spanprof.predict.recorded import recorded
 from spanprof.remarks import in_words
 from spanprof.tests.proofs import with_a_proved_program
 
@@ -45,7 +45,6 @@ class Recordings(InAFolder):
         self.assertTrue(found.is_timed)
 
     def test_no_times(self):
-        self.assertEqual([outside_of([]), outside_of(["times 2 0 9"]), outside_of(["0 0 0 9"])], [0, 0, 0])
         found = recorded(self.write("a.tasks", TEXT % 2))
         self.assertEqual((found.outside, found.is_timed), (0, False))
 

@@ -2,7 +2,7 @@ import unittest
 
 from spanprof.predict.policy import Simulation
 from spanprof.predict.program import read_program
-from spanprof.predict.times import on_threads, rows_of, times_of
+from spanprof.predict.times import on_threads, times_of
 
 TASKS = "omptasks 1 work 10 task { work 1 } work 10 task { work 1 } work 10"
 
@@ -12,9 +12,6 @@ def times(*rows, text=TASKS):
 
 
 class Threads(unittest.TestCase):
-    def test_rows(self):
-        self.assertEqual(rows_of(["times 2 0 9\n", "0 0 1 3\n", "\n", "1 1 4 8\n"]), [(0, 0, 1, 3), (1, 1, 4, 8)])
-
     def test_a_thread_was_not_there_while_a_task_lay_ready(self):
         """Tasks are made at 110 and at 120; the second thread begins the first one at 170."""
         found = times((0, 0, 100, 110), (1, 1, 170, 190), (2, 0, 110, 120), (3, 0, 140, 150), (4, 0, 120, 130))
