@@ -3,12 +3,6 @@
 #include <algorithm>
 #include <utility>
 
-void add_step(Task &t, Step step) {
-  t.steps.push_back(step);
-  t.segment += ends_a_segment(step);
-  t.children += step.kind == Kind::Create;
-}
-
 namespace {
 // What costs nothing and makes nothing leaves no trace.
 bool is_empty(const Task &part) {

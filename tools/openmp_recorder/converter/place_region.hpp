@@ -20,5 +20,9 @@ void put_empty_segment(EventList &events, Task &t, unsigned segment, Moment when
 // after this one on: at the first moment, and on the thread that is first in a later phase, as that runs nothing then.
 void time_placed(const std::vector<Part> &parts, Task &owner, unsigned segment, Moment first, EventList &events);
 
-void add_step(Task &t, Step step);  // at its end, and counts it
+inline void add_step(Task &t, Step step) {  // at its end, and counts it
+  t.steps.push_back(step);
+  t.segment += ends_a_segment(step);
+  t.children += step.kind == Kind::Create;
+}
 void take_over_steps(Task &into, Task &from);  // at its end: what the other one made is made there

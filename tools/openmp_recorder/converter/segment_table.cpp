@@ -56,11 +56,15 @@ uint32_t SegmentTable::region() const {
 uint32_t SegmentTable::kind(After after, uint32_t after_place) {
   uint64_t around = are_of_regions[after ? after_place : here.place] ? region() : 0;
   uint64_t key = ((around * most_words + after_place) * most_words + here.place) * 8 + after * 2u + here.is_root;
+  constexpr uint64_t scatter = 0x9e3779b97f4a7c15;
+  auto &[known, number] = recent_kinds[key * scatter >> 58];
+  if (known == key + 1) return number;
   auto [found, is_new] = kind_numbers.try_emplace(key, kinds.size());
   if (is_new)
     kinds.push_back(std::string(here.is_root ? "true" : "false") + ", " + in_json(words[here.place]) + ", " +
                     in_json(after_words[after]) + ", " + in_json(words[after_place]) + ", " + in_json(words[around]));
-  return found->second;
+  known = key + 1;
+  return number = found->second;
 }
 
 void SegmentTable::close() {

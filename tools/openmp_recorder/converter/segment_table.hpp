@@ -48,6 +48,7 @@ class SegmentTable {
   std::map<std::string, uint32_t, std::less<>> numbers{{"", 0}};
   std::vector<std::string> kinds;  // in JSON
   std::unordered_map<uint64_t, uint32_t> kind_numbers;
+  std::array<std::pair<uint64_t, uint32_t>, 64> recent_kinds{};  // of these, by their keys
   std::vector<Clauses> written;
   std::unordered_map<std::string, std::size_t> clauses_met;
   std::vector<Block> blocks;

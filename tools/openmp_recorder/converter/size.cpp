@@ -43,14 +43,15 @@ void count_outer_groups(const Task &maker) {
 
 // The steps of a task, without those of the tasks that it makes.
 void add_up_steps(Task &t) {
-  unsigned groups = 0;
-  t.total = 0;
-  t.inner_groups = 0;
+  unsigned groups = 0, most = 0;
+  int64_t total = 0;
   for (const Step &step : t.steps) {
-    if (step.kind == Kind::Work) t.total += step.cost();
-    if (step.kind == Kind::GroupBegin) t.inner_groups = std::max(t.inner_groups, ++groups);
-    if (step.kind == Kind::GroupEnd) groups--;
+    if (step.kind == Kind::Work) total += step.cost();
+    else if (step.kind == Kind::GroupBegin) most = std::max(most, ++groups);
+    else if (step.kind == Kind::GroupEnd) groups--;
   }
+  t.total = total;
+  t.inner_groups = most;
   if (t.inner_groups && t.children) count_outer_groups(t);
 }
 }  // namespace
