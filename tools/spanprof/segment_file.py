@@ -1,4 +1,11 @@
-"""The segments of a recorded text in the columns that its converter has written beside it (docs/FORMATS.md)."""
+"""The segments of a recorded text in the columns of the file `segments`, which its converter writes.
+
+It has a column each of the segments' kinds (two bytes), tasks and costs (four bytes, the lowest first), in blocks of
+65,536 segments, and then a line of JSON. There `kinds` has of each whether it is of the root, the place of its task,
+what it follows and where, and of code around a region its place. `long` has segments and costs from 2^32 - 1 on, `own`
+the first segments of threads' own code and the groups around them. `clauses` has kinds, words, how many tasks have
+them, and how many of these right behind another one.
+"""
 import json
 import os
 from array import array
