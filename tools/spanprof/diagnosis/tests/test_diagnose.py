@@ -130,6 +130,16 @@ class Steps(unittest.TestCase):
         after = {kind: bound_of(run, 100 * MS, Loss(kind, "", 300 * MS)).after for kind in ("sleep", "system")}
         self.assertEqual(after, {"sleep": 80 * MS, "system": 25 * MS})
 
+    def test_threads_wait_less_for_code_that_is_no_longer_slowed(self):
+        run = facts([place(TASKS, cost=200 * MS)], code=200 * MS, cost_on_one={TASKS: 100 * MS})
+        lost, waits = Loss("memory", TASKS, 100 * MS), Loss("imbalance", TASKS, 80 * MS)
+        others = [Loss("imbalance", "task at image.c:40", 20 * MS), Loss("machine", TASKS, 20 * MS)]
+        self.assertEqual(bound_of(run, 100 * MS, lost, [lost, *others]).after, 75 * MS)
+        self.assertEqual(bound_of(run, 100 * MS, lost, [lost, waits, *others]).after, 65 * MS)
+        self.assertEqual(bound_of(run, 100 * MS, lost._replace(kind="lock"), [lost, waits]).after, 75 * MS)
+        self.assertEqual(bound_of(run, 100 * MS, Loss("allocation", "allocation at a.c:9", 100 * MS), [waits]).after,
+                         65 * MS)
+
     def test_a_wait_that_some_turns_reach_is_likely_needless(self):
         change, seen = single("drop-wait", "taskwait at a.c:9"), SimpleNamespace(ordered={"taskwait at a.c:9": 0})
         self.assertEqual(likely(facts(), seen, change), 0.3)
