@@ -5,8 +5,8 @@ from typing import Optional
 from spanprof.diagnosis.allocation import parallel_places
 from spanprof.diagnosis.causes import BY_KIND, CHEAPER, ESTIMATED, WORTH_A_CHANGE
 from spanprof.diagnosis.changes import Change
-from spanprof.diagnosis.losses import (OF_SHAPE, in_code_losses, is_in_a_row, kind_of_task, least_of, most_shared,
-                                       share_of_start)
+from spanprof.diagnosis.losses import (OF_SHAPE, contended_lines, in_code_losses, is_in_a_row, kind_of_task, least_of,
+                                       most_shared, share_of_start)
 from spanprof.diagnosis.own_code import own_share
 from spanprof.diagnosis.places import SERIAL, TASK
 from spanprof.program_text import BEGINNING
@@ -142,13 +142,20 @@ def waiting_for(facts, found, loss):
     return int(waits * min(1, loss.time / cost)) if loss.kind in ESTIMATED and cost else 0
 
 
-def bound_of(facts, now, loss, found=()):
-    """As if what is lost by this cause were gone; all other code is still to run."""
+def left(facts, now, loss, found):
+    """Of the run, without what is lost by this cause; all other code is still to run."""
     in_code = sum(one.time for one in in_code_losses(facts) if one.kind == loss.kind)
+    in_code = max(in_code, loss.time) if in_code else 0
     gone = loss.time + waiting_for(facts, found, loss)
-    after = max(int(now * (1 - facts.own_share(gone))), least_time(facts, facts.code - in_code))
-    after = min(now, after)
-    return Step(loss.kind, loss.place, now, after, after, int(now - BOUND_LEAST * (now - after)))
+    return min(now, max(int(now * (1 - facts.own_share(gone))), least_time(facts, facts.code - in_code)))
+
+
+def bound_of(facts, now, loss, found=()):
+    """As if what is lost by this cause were gone."""
+    after = low = left(facts, now, loss, found)
+    if loss.kind == "memory" and facts.cost_on_one is None:
+        low = left(facts, now, loss._replace(time=max(loss.time, contended_lines(facts, loss.place))), found)
+    return Step(loss.kind, loss.place, now, after, low, int(now - BOUND_LEAST * (now - after)))
 
 
 def bounds(facts, now, found):
