@@ -430,6 +430,13 @@ def dearer(facts):
             for name, shares in facts.calls.shares.items() if name in facts.places and name in facts.calls.ran}
 
 
+def contended_lines(facts, name):
+    """What the lines of a place took, by samples, that use contended memory: what else stands in them may wait too."""
+    shares, at, ran = (found.get(name, {}) for found in (facts.calls.shares, facts.calls.at, facts.calls.ran))
+    took, whole = sum(at.get(line, 0) for line in shares), sum(ran.values())
+    return int(facts.places[name].cost * min(1, took / whole)) if whole and name in facts.places else 0
+
+
 def is_bandwidth(facts, name):
     """Whether code costs so much more than on one thread since all use the memory at once: more than two threads of one
     core slow each other, with more memory than caches hold, and in lines that no two threads use."""

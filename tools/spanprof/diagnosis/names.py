@@ -91,7 +91,7 @@ class Suspect(NamedTuple):
         if self.is_atomic:
             return "a reduction in place of the atomic at " + self.at
         what = "%s (%s)" % self[:2] if self.item else str(self)
-        return "a local copy of %s, written back once" % what
+        return "keep %s in a local variable" % what
 
 
 class Names:

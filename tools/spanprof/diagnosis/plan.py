@@ -2,14 +2,16 @@
 from dataclasses import dataclass, replace
 from typing import Optional
 
-from spanprof.diagnosis.causes import BY_KIND, CHEAPER, WORTH_A_CHANGE
+from spanprof.diagnosis.allocation import parallel_places
+from spanprof.diagnosis.causes import BY_KIND, CHEAPER, ESTIMATED, WORTH_A_CHANGE
 from spanprof.diagnosis.changes import Change
-from spanprof.diagnosis.losses import (in_code_losses, is_in_a_row, kind_of_task, least_of, most_shared,
-                                       share_of_start)
+from spanprof.diagnosis.losses import (OF_SHAPE, contended_lines, in_code_losses, is_in_a_row, kind_of_task, least_of,
+                                       most_shared, share_of_start)
 from spanprof.diagnosis.own_code import own_share
 from spanprof.diagnosis.places import SERIAL, TASK
 from spanprof.program_text import BEGINNING
 
+FOR_CODE = (*OF_SHAPE, "undeferred", "loop_schedule")   # in which threads wait while others run it
 STEPS = 3
 SPREAD = 0.16       # of a predicted time: nine of ten were within
 BOUND_LEAST = 0.3   # of the gain of a bound: less is rare
@@ -131,18 +133,35 @@ def step_of(facts, seen, now, before, tried):
                 likely(facts, seen, tried.change), tried.change)
 
 
-def bound_of(facts, now, loss):
-    """As if what is lost by this cause were gone; all other code is still to run."""
+def waiting_for(facts, found, loss):
+    """Of the time in which threads wait for code, the share of that code that is lost."""
+    place = facts.places.get(loss.place)
+    slow = [place] if place else parallel_places(facts)
+    cost, names = sum(one.cost for one in slow), {one.name for one in slow}
+    waits = sum(one.time for one in found if one.place in names and one.kind in FOR_CODE)
+    return int(waits * min(1, loss.time / cost)) if loss.kind in ESTIMATED and cost else 0
+
+
+def left(facts, now, loss, found):
+    """Of the run, without what is lost by this cause; all other code is still to run."""
     in_code = sum(one.time for one in in_code_losses(facts) if one.kind == loss.kind)
-    after = max(int(now * (1 - facts.own_share(loss.time))), least_time(facts, facts.code - in_code))
-    after = min(now, after)
-    return Step(loss.kind, loss.place, now, after, after, int(now - BOUND_LEAST * (now - after)))
+    in_code = max(in_code, loss.time) if in_code else 0
+    gone = loss.time + waiting_for(facts, found, loss)
+    return min(now, max(int(now * (1 - facts.own_share(gone))), least_time(facts, facts.code - in_code)))
+
+
+def bound_of(facts, now, loss, found=()):
+    """As if what is lost by this cause were gone."""
+    after = low = left(facts, now, loss, found)
+    if loss.kind == "memory" and facts.cost_on_one is None:
+        low = left(facts, now, loss._replace(time=max(loss.time, contended_lines(facts, loss.place))), found)
+    return Step(loss.kind, loss.place, now, after, low, int(now - BOUND_LEAST * (now - after)))
 
 
 def bounds(facts, now, found):
     """Of the losses for which no change of the text is tried."""
     least = {kind: least_of(facts, found, kind) for kind, cause in BY_KIND.items() if cause.is_bound}
-    return [bound_of(facts, now, loss) for loss in found if loss.kind in least and loss.time >= least[loss.kind]]
+    return [bound_of(facts, now, loss, found) for loss in found if loss.kind in least and loss.time >= least[loss.kind]]
 
 
 def best_of(steps, least=WORTH_A_CHANGE):

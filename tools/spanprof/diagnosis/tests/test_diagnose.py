@@ -2,6 +2,7 @@ import unittest
 from collections import Counter
 from types import SimpleNamespace
 
+from spanprof.diagnosis.calls import Sampled
 from spanprof.diagnosis.changes import Change, Tried, single
 from spanprof.diagnosis.diagnose import diagnose
 from spanprof.diagnosis.places import SERIAL
@@ -129,6 +130,25 @@ class Steps(unittest.TestCase):
         run = facts(code=320 * MS, usage={"user_ns": 20 * MS, "system_ns": 300 * MS})
         after = {kind: bound_of(run, 100 * MS, Loss(kind, "", 300 * MS)).after for kind in ("sleep", "system")}
         self.assertEqual(after, {"sleep": 80 * MS, "system": 25 * MS})
+
+    def test_threads_wait_less_for_code_that_is_no_longer_slowed(self):
+        run = facts([place(TASKS, cost=200 * MS)], code=200 * MS, cost_on_one={TASKS: 100 * MS})
+        lost, waits = Loss("memory", TASKS, 100 * MS), Loss("imbalance", TASKS, 80 * MS)
+        others = [Loss("imbalance", "task at image.c:40", 20 * MS), Loss("machine", TASKS, 20 * MS)]
+        self.assertEqual(bound_of(run, 100 * MS, lost, [lost, *others]).after, 75 * MS)
+        self.assertEqual(bound_of(run, 100 * MS, lost, [lost, waits, *others]).after, 65 * MS)
+        self.assertEqual(bound_of(run, 100 * MS, lost._replace(kind="lock"), [lost, waits]).after, 75 * MS)
+        self.assertEqual(bound_of(run, 100 * MS, Loss("allocation", "allocation at a.c:9", 100 * MS), [waits]).after,
+                         65 * MS)
+
+    def test_at_most_all_that_contended_lines_take_is_gone(self):
+        sampled = Sampled({TASKS: {("main",): 100000}}, {}, {TASKS: {"image.c:26": 50000}},
+                          {TASKS: {"image.c:26": 75000, "image.c:27": 25000}})
+        run = facts([place(TASKS, cost=400 * MS)], calls=sampled)
+        step = bound_of(run, 100 * MS, Loss("memory", TASKS, 200 * MS))
+        self.assertEqual((step.low, step.after), (25 * MS, 50 * MS))
+        run.cost_on_one = {TASKS: 200 * MS}     # measured
+        self.assertEqual(bound_of(run, 100 * MS, Loss("memory", TASKS, 200 * MS)).low, 50 * MS)
 
     def test_a_wait_that_some_turns_reach_is_likely_needless(self):
         change, seen = single("drop-wait", "taskwait at a.c:9"), SimpleNamespace(ordered={"taskwait at a.c:9": 0})

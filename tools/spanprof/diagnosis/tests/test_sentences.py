@@ -189,8 +189,8 @@ class Sentences(unittest.TestCase):
         found = [Suspect("", "a.c:9", True), Suspect("part[me]", "a.c:9")]
         self.assertEqual(list(map(str, found)), ["the atomic at a.c:9", "part[me] next to others' (a.c:9)"])
         self.assertEqual([one.instead for one in found + [Suspect("", "a.c:9")]], [
-            "a reduction in place of the atomic at a.c:9", "a local copy of part[me] (a.c:9), written back once",
-            "a local copy of what a.c:9 writes, written back once"])
+            "a reduction in place of the atomic at a.c:9", "keep part[me] (a.c:9) in a local variable",
+            "keep what a.c:9 writes in a local variable"])
 
     def test_what_samples_show_is_contended_is_told_with_its_line(self):
         run = found()
@@ -201,7 +201,7 @@ class Sentences(unittest.TestCase):
         self.assertEqual(lines[0], "image: 100 ms on 4 threads. At best about 40.0 ms.")
         self.assertEqual(lines[1:3], [
             "lost  60 %  threads write the same cache lines at once: image.c:11 and 12",
-            "do    a local copy of what image.c:11 writes, written back once              100 ms -> about 40.0 ms"])
+            "do    keep what image.c:11 writes in a local variable                        100 ms -> about 40.0 ms"])
         self.assertIn("not known: what it costs on one thread: --full", lines[4])
 
     def test_code_that_streams_and_shares_no_lines_lacks_bandwidth(self):
