@@ -1,5 +1,5 @@
 -- Which times there are, and what is told of them.
-use Rattle.std.proofs.Common.{◌≡◌, ◌⊎◌, ◌-◌, ◌<◌, ℕ, zero, suc, List, length, arith, ap, sym, refl}
+use Rattle.std.proofs.Common.{◌≡◌, ◌-◌, ◌<◌, ℕ, zero, suc, List, length, arith, ap, sym, refl}
 use Rattle.std.proofs.Common.{◌∙◌, inl, inr, subst}
 use Rattle.std.proofs.lemmas.List.{get_or_default, length-map}
 use Rattle.dispatch_core.specs.Graph.{IsGraphOf}
@@ -14,7 +14,6 @@ use Rattle.time_accounts.specs.OwnPath.{IsOwnPath}
 use Rattle.time_accounts.specs.TimedRun.{IsTimedRun, TimedRun}
 use Rattle.time_text.specs.TimesTexts.{IsTextFault, TellsTimes}
 use Rattle.time_text.specs.declared.line.RegionTimes.{RegionTimes}
-use Rattle.time_text.specs.declared.line.SegmentTimes.{SegmentTimes}
 use Rattle.large_documents.specs.AccountReports.{SaysOfTimes}
 use Rattle.large_documents.specs.RunReading.{IsRunRead, MayTell, ReadsNoRun, ReadsNoTimes, ReadsRun, SaysOfRead}
 use Rattle.large_documents.specs.RunReading.{TellsOfRead, TellsRead}

@@ -1,5 +1,5 @@
 -- Sums of numbers of each place.
-use Rattle.std.proofs.Common.{◌≡◌, ◌+◌, ◌-◌, ◌^◌, ◌<◌, ◌≤◌, ◌∙◌, ◌++◌, ℕ, List, [], ◌∷◌, ap, arith, length, sym, refl}
+use Rattle.std.proofs.Common.{◌≡◌, ◌+◌, ◌-◌, ◌^◌, ◌<◌, ◌≤◌, ◌∙◌, ◌++◌, ℕ, List, [], ap, arith, length, sym, refl}
 use Rattle.std.proofs.Common.{Option, inl, inr, replicate, set, subst, sum, sum_by, take}
 use Rattle.std.specs.List.{range_with_len}
 use Rattle.std.proofs.lemmas.Bool.{cases_eq}
@@ -30,8 +30,7 @@ use Rattle.large_documents.specs.PlaceLaws.{TimesAddUp}
 use Rattle.large_documents.specs.PlaceSteps.{ArePlaceSums, AreSums}
 use Rattle.large_documents.specs.TimedPlaces.{before_times, sum_at, timed_header, timed_line, timed_row_of}
 use Rattle.large_documents.specs.declared.places.PlaceSums.{PlaceSums}
-use Rattle.large_documents.proofs.PlaceCounts.{below_count}
-use Rattle.large_documents.proofs.PlaceGrowth.{IsNth, all_work, nth_segment, of_other, of_place, room}
+use Rattle.large_documents.proofs.PlaceGrowth.{IsNth, all_work, of_other, of_place, room}
 
 -- ---- one segment more
 

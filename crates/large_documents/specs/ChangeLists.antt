@@ -1,5 +1,5 @@
 -- Which changes of costs a list behind a program names, one on a line, and what is wrong with others.
-use Rattle.std.specs.Prelude.{ℕ, ◌≡◌, ◌+◌, ◌<◌, ⊤, List, [], ◌∷◌, Option, Some, None, option_map}
+use Rattle.std.specs.Prelude.{ℕ, ◌≡◌, ◌+◌, ⊤, List, [], ◌∷◌, Option, Some, None, option_map}
 use Rattle.std.specs.Prelude.{slice_set}
 use Rattle.command_words.specs.Changes.{change_of}
 use Rattle.command_words.specs.declared.changes.Change.{Change}
