@@ -15,7 +15,7 @@ if [ "${1:-}" = --changed ]; then
     [ "${CI:-}" != true ] || { echo "CI runs all checks, without --changed"; exit 2; }
     base=$(git merge-base "${2:-origin/main}" HEAD) || exit 2
     changed=$(git diff --name-only "$base"; git ls-files --others --exclude-standard)
-    changed=${changed:-none}
+    changed=${changed:-no change}
     ! grep -qE '^checks/(quick\.sh|sources/reached\.py)$' <<< "$changed" || changed=   # then all are
 fi
 declare -A reached=()   # files that the changes concern by their imports
