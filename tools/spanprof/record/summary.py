@@ -3,7 +3,7 @@
 A person reads it to decide about a program, and what is proved is proved of the text. So each line that says `proved`
 says of what, and where the head tells that the text is not the program the line says that in its place.
 """
-from spanprof.client import Refused
+from spanprof.errors import Fault
 from spanprof.head import CLOCKS, grouped, part_of_program, with_function
 from spanprof.proof import proved
 from spanprof.record.program_lines import program_line
@@ -163,10 +163,8 @@ def clock_lines(head):
 def place_lines(answers):
     try:
         found = places(answers)
-    except Refused as refused:
-        if not refused.is_of_memory:
-            raise
-        return ["left out: %s" % refused]
+    except Fault as why:    # out of memory, or spanprof_large is not found
+        return ["left out: %s" % why]
     heaviest = [place for place in found if place.critical_cost][:MOST_PLACES]
     return ["%.1f %% of the span, %.1f %% of the work: %s (measured)" % (
         100 * place.critical_cost / answers.span, 100 * place.cost / answers.work,

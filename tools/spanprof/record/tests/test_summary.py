@@ -1,6 +1,8 @@
 import unittest
+from unittest import mock
 from array import array
 
+from spanprof.errors import Fault
 from spanprof.head import Lock
 from spanprof.record.summary import other_region, summary
 from spanprof.record.tests.made_up import Answers, Head
@@ -51,6 +53,10 @@ class Lines(unittest.TestCase):
         answers = Answers(head=Head(functions={"sort.c:9": "in merge"}))
         answers.path_segments = [0, 1, 2]
         self.assertIn("task at sort.c:9 in merge (measured)", "".join(summary(answers)))
+
+    def test_places_whose_sums_nobody_has(self):
+        with mock.patch.object(Answers, "sums", side_effect=Fault("spanprof_large is not found")):
+            self.assertIn("span by place left out: spanprof_large is not found", summary(Answers()))
 
     def test_remarks_locks_and_news(self):
         turns = remark_of({"remark": "turns together", "span": "high"})
