@@ -8,6 +8,7 @@ for the logs on which the converter failed. Status 1: something was wrong.
 import json
 import os
 import random
+import re
 import resource
 import shutil
 import subprocess
@@ -24,6 +25,7 @@ from spanprof import client  # noqa: E402
 from spanprof.errors import Fault  # noqa: E402
 
 SECONDS, MEGABYTES = 30, 1500
+BELOW_ZERO = re.compile(rb"^(?:# elapsed: -|\d+ \d+ (?:-|\d+ -))\d+", re.M)
 WAYS = ({"SPANPROF_TIMES": "1"}, {"SPANPROF_WHOLE": "1", "SPANPROF_TIMES": "1"})
 CHECKED = {"ASAN_OPTIONS": "detect_leaks=0:hard_rss_limit_mb=%d:allocator_may_return_null=0" % MEGABYTES,
            "UBSAN_OPTIONS": "print_stacktrace=1"}
@@ -54,8 +56,19 @@ def convert(converter, log, way):
     return told
 
 
+def check_times(folder):
+    """Raises where a time is below zero."""
+    for name in sorted(os.listdir(folder)):
+        if name.endswith((".tasks", ".timed", ".times")):
+            with open(os.path.join(folder, name), "rb") as file:
+                found = BELOW_ZERO.search(file.read())
+            if found:
+                raise Wrong("%s has a time below zero: %s" % (name, found.group().decode()))
+
+
 def judge(folder, told):
-    """Raises where spanprof refuses a text."""
+    """Raises where spanprof refuses a text, or a time is none."""
+    check_times(folder)
     for one in told:
         try:
             if one["message"] == "text" and ".large." not in one["file"]:

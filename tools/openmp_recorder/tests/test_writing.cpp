@@ -118,6 +118,23 @@ TEST(of_a_file_that_is_given_up_nothing_stays) {
   EXPECT(access((name + ".new").c_str(), F_OK), -1);
 }
 
+TEST(a_file_without_a_name_gives_back_what_was_written_as_often_as_asked) {
+  NamelessFile file("/tmp/spanprof_recorder_test");
+  const std::string large(600000, 'x');  // more than its buffer
+  for (uint32_t i = 0; i < 100000; i++) file.write(&i, sizeof i);
+  file.write(large.data(), large.size());
+  for (uint32_t skipped : {7U, 99998U}) {
+    file.begin_again();
+    file.skip(skipped * sizeof skipped);
+    uint32_t found = 0, sum = 0;
+    for (uint32_t i = skipped; i < 100000; i++) file.read(&found, sizeof found), sum += found != i;
+    std::string last(large.size(), ' ');
+    file.read(last.data(), last.size());
+    EXPECT(sum, 0U);
+    EXPECT(last == large, true);
+  }
+}
+
 TEST(times_of_segments_are_since_the_region_began) {
   Run run = two_tasks();
   Region &region = only_region(run);
