@@ -109,11 +109,16 @@ static bool is_chosen(uint32_t point, enum access access) {
     return false;
 }
 
-static uint64_t next_chance(void) {
+/* Counts the thread that is here. One alone races with nobody, and is not delayed. */
+static bool has_others(void) {
     if (!here.chance) {
         here.chance = mixed(perturb.seed + ((uint64_t)atomic_fetch_add(&perturb.threads, 1) << 32));
         prctl(PR_SET_TIMERSLACK, 1);
     }
+    return atomic_load_explicit(&perturb.threads, memory_order_relaxed) > 1;
+}
+
+static uint64_t next_chance(void) {
     return here.chance = mixed(here.chance);
 }
 
@@ -150,7 +155,7 @@ static void delay(void) {
 }
 
 void hold(uintptr_t place, enum moment moment, enum access access) {
-    if (!perturb.on || place < perturb.base || place >= perturb.end) return;
+    if (!perturb.on || place < perturb.base || place >= perturb.end || !has_others()) return;
     uint32_t point = point_of(place, moment);
     if (!is_chosen(point, access) || !is_time(point)) return;
     tell(point);

@@ -13,7 +13,8 @@ from spanprof.errors import Fault
 FOLDER = DATA / "perturb"
 LIBRARY = "perturb.so"
 CALLED = b"__tsan_func_entry"   # by all code that was built so
-FRAME = re.compile(r"(?: \(inlined by\) )?(?P<function>\S+) at (?P<line>\S+)")
+# The last word of a function's name before its parameters, and the line.
+FRAME = re.compile(r"(?: \(inlined by\) )?(?:[^(<]* )?(?P<function>[^ (<]+).*? at (?P<line>\S+)")
 MOMENTS = {"+": "after", "-": "before"}
 
 
@@ -62,7 +63,7 @@ def named(runtime, place):
     unknown = f"{moment} {pathlib.Path(runtime).name}+0x{address}"
     if not shutil.which("addr2line"):
         return unknown
-    words = ["addr2line", "-f", "-i", "-p", "-s", "-e", runtime, hex(int(address, 16) - 1)]   # the call ends there
+    words = ["addr2line", "-fipsCe", runtime, hex(int(address, 16) - 1)]   # the call ends there
     done = subprocess.run(words, capture_output=True, text=True, check=False)
     frames = [found for found in map(FRAME.match, done.stdout.splitlines()) if found and found["function"] != "??"]
     if not frames:

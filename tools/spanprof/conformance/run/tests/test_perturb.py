@@ -49,6 +49,10 @@ class Words(unittest.TestCase):
         self.assertEqual(run.call_args[0][0][-1], "0x21a64")
         self.assertEqual(self.named("21a65-", "GOMP_task at task.c:555\n")[0], "before task.c:555 (GOMP_task)")
 
+    def test_functions_of_cpp(self):
+        for function in ("__kmp_check(int, kmp_flag_32<false>*)", "int __kmp_check<kmp_flag_32<true> >(int)"):
+            self.assertEqual(self.named("5-", f"{function} at k.cpp:3\n")[0], "before k.cpp:3 (__kmp_check)")
+
     def test_without_debug_information(self):
         self.assertEqual(self.named("21a65+", "?? ??:0\n")[0], "after libgomp.so.1+0x21a65")
         self.assertEqual(self.named("21a65+", INLINED, None)[0], "after libgomp.so.1+0x21a65")
