@@ -28,7 +28,7 @@ COMMANDS = ("spanprof-record", "spanprof-convert", "spanprof-report", "spanprof-
 PROGRAM, LARGE_PROGRAM = "libexec/spanprof/spanprof", "libexec/spanprof/spanprof_large"
 EXECUTABLE = ("bin/", "libexec/", "lib/spanprof/convert_log", "lib/spanprof/calibrate")
 SHARED = ("*.py", "spanprof/**/*.py", "spanprof/report/template/*", "conformance/*.txt",
-          "conformance/directed/*.tasks", "conformance/harness/*", "conformance/mutants/*")
+          "conformance/directed/*.tasks", "conformance/harness/*", "conformance/mutants/*", "conformance/perturb/*")
 LEFT_OUT = ("install.py", "wheel.py", "/tests/")
 
 

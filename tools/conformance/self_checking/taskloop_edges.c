@@ -11,10 +11,20 @@ static void look(const char *what, long right) {
   turns = 0;
 }
 
-static void of_edges(int none) {
+static void of_none(int none) {
+  unsigned long long first = 5ull << 40, last = first + (unsigned)none;
 #pragma omp taskloop
   for (int i = 0; i < none; i++) count(&turns);
-  look("turns of a taskloop without any", 0);
+#pragma omp taskloop
+  for (int i = none; i > 0; i--) count(&turns);
+#pragma omp taskloop
+  for (unsigned long long i = first; i < last; i++) count(&turns);
+#pragma omp taskloop
+  for (unsigned long long i = last; i > first; i--) count(&turns);
+  look("turns of taskloops without any", 0);
+}
+
+static void of_edges(int none) {
 #pragma omp taskloop num_tasks(100)
   for (int i = 0; i < none + 1; i++) count(&turns);
   look("turns of a taskloop with one", 1);
@@ -39,7 +49,10 @@ int main(void) {
   for (int round = 0; round < 10; round++) {
 #pragma omp parallel
 #pragma omp single
-    of_edges(0);
+    {
+      of_none(0);
+      of_edges(0);
+    }
   }
   return wrong;
 }

@@ -9,7 +9,7 @@ from spanprof.conformance.judge.cases import Bench, Plan
 from spanprof.conformance.judge.exclusion import found_search
 from spanprof.conformance.judge.expected import Expectations, read_expected
 from spanprof.conformance.judge.verdicts import Judge, Missing, Refused, find_spanprof
-from spanprof.conformance.run import self_checking
+from spanprof.conformance.run import perturb, self_checking
 from spanprof.conformance.run.campaign import DIRECTED_UNIT
 from spanprof.conformance.run.mutants import family_of
 from spanprof.conformance.run.settings import settings_of
@@ -32,8 +32,12 @@ def preloaded(libraries):
 def open_bench(options, folder):
     toolchain = Toolchain(options.cc, folder, options.keep)
     environment = preloaded(options.preload)
+    if options.perturb:
+        environment = perturb.before_others(perturb.build(options.keep or folder), environment)
     usual = family_of(toolchain.runtime(dict(os.environ)))
     expectations = Expectations(toolchain.runtime(environment), read_expected(options.expected), usual)
+    if options.perturb and not getattr(options, "built", ""):
+        perturb.check(toolchain.runtime(environment))
     bench = Bench(toolchain, found_judge(), environment, expectations)
     bench.others[self_checking.VARIANT] = self_checking.try_case
     return bench
@@ -46,7 +50,8 @@ def entry_points(bench):
 
 def plan_of(options, bench):
     settings = options.settings or settings_of(entry_points(bench))
-    return Plan(options.threads, options.runs, options.seed, options.timeout, tuple(settings))
+    delayed = {"perturb": options.perturb or ""} if options.command == "shrink" else {"seeds": options.perturb}
+    return Plan(options.threads, options.runs, options.seed, options.timeout, tuple(settings), **delayed)
 
 
 def unit_in(path):

@@ -2,6 +2,7 @@
 import argparse
 import fnmatch
 import os
+import re
 
 from spanprof.conformance.run import self_checking
 from spanprof.conformance.generate.directed import directed_files
@@ -43,6 +44,13 @@ def report_files(words):
         if not os.path.isdir(folder or "."):
             raise argparse.ArgumentTypeError(f"there is no folder {folder}")
     return words
+
+
+def delays(word):
+    """A seed, and maybe places after a colon, as a report has them."""
+    if not re.fullmatch(r"\d+(:([0-9a-f]+[+-](,[0-9a-f]+[+-])*)?)?", word):
+        raise argparse.ArgumentTypeError("a seed, or what a report names, such as 12:1a2b+,3c4d-")
+    return word
 
 
 def thread_counts(words):
@@ -131,6 +139,12 @@ def add_run_options(name, group):
         help="how programs are started (each of those for the runtime in turn)")
     add("--seed", type=natural, default=1, metavar="N",
         help="seed of the random programs and delays (1)")
+    if name == "shrink":
+        add("--perturb", type=delays, metavar="SEED",
+            help="delay the runtime, built with -fsanitize=thread, as a report says")
+    else:
+        add("--perturb", type=natural, default=0, metavar="SEEDS",
+            help="delay the runtime, built with -fsanitize=thread, at places that so many seeds choose (0)")
     add("--timeout", type=positive, default=10, metavar="SECONDS",
         help="a run without an event for so long counts as hung (10)")
     add("--jobs", type=positive, default=max(1, (os.cpu_count() or 1) // 2), metavar="N",

@@ -32,6 +32,7 @@ FULL = {"pressure_throttled": "unthrottled", "pressure_queue": "unthrottled", "c
 # Programs so short that so many times as many runs take no longer than those of others: in the setting that they
 # favour, in which logs are equal, and without delays.
 HURRIED, TIMES_AS_MANY = "hurry", 10
+MOST_SEED = 100_000  # of delays in the runtime, so that a person can write it
 
 
 @dataclass(frozen=True)
@@ -86,8 +87,22 @@ class Plan:
     seed: int
     timeout: int
     settings: tuple = ("free",)
+    seeds: int = 0     # by so many the runtime is delayed
+    perturb: str = ""  # what delays it, where that is given
 
     def conditions(self, case):
+        """Those of `in_settings`, once for each seed of delays in the runtime."""
+        return [replace(usual, perturb=perturb) for number, usual in enumerate(self.in_settings(case))
+                for perturb in self.delays(case, number * self.seeds, usual.threads)]
+
+    def delays(self, case, skipped, threads):
+        """So many seeds, which differ from case to case; one thread alone takes the first."""
+        if not self.seeds:
+            return [self.perturb]
+        first = zlib.crc32(f"{case.name} {case.variant} {self.seed}".encode()) % MOST_SEED + skipped
+        return [str(first + seed + 1) for seed in range(self.seeds if threads > 1 else 1)]
+
+    def in_settings(self, case):
         """The conditions for a case; which setting goes with which number of threads differs from case to case, and so
         from tied to untied tasks of one program."""
         has_text = case.variant in VARIANTS

@@ -24,6 +24,7 @@ def tested(options, bench, settings):
              "threads": ", ".join(map(str, options.threads)),
              "runs each": str(options.runs),
              "seed": str(options.seed),
+             "seeds of delays in the runtime": str(options.perturb) if options.perturb else "",
              "environment": told_runtimes(bench.environment),
              **{f"setting {name}": SETTINGS[name].told() for name in settings},
              "tasks": ", ".join(options.tasks),
@@ -40,7 +41,7 @@ def of_mutants(options, bench, settings):
             "settings": ", ".join(settings), "threads": ", ".join(map(str, options.threads)),
             "runs each": str(options.runs), "seed": str(options.seed), "timeout": str(options.timeout),
             "tasks": ", ".join(options.tasks), "random programs": str(options.programs),
-            "directed programs": options.match,
+            "seeds of delays": str(options.perturb), "directed programs": options.match,
             "texts of directed programs": hashlib.sha256(texts).hexdigest(),
             "seconds": str(options.seconds)}
 

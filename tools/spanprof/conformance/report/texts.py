@@ -29,10 +29,13 @@ def reproducer(number, found, name):
              f"{failure.words} At stake: {at_stake(failure.verdict.kind, failure.rule)}.", "",
              f"Found in `{found.origin}`, made smaller in {found.tried} tries. {found.failed} of {found.runs} runs on "
              f"{conditions.threads} threads failed in the test; {found.alone.rate}. {found.remark()}".rstrip(), ""]
+    if found.delays:
+        lines += [found.delays, ""]
     if found.text:
+        perturb = f" --preload .. --perturb {conditions.perturb}" if conditions.perturb else ""
         lines += [f"To see it again: the file below, or `spanprof-conformance shrink {name} --cc .. "
                   f"--tasks {failure.case.variant} --threads {conditions.threads} "
-                  f"--settings {conditions.setting}`.", ""]
+                  f"--settings {conditions.setting}{perturb}`.", ""]
     if failure.log:
         lines += [f"The log up to there (schedule: {failure.log.schedule}):", "", "```", *found.events(), "```", ""]
     if found.stacks:

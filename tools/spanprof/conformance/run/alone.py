@@ -7,7 +7,7 @@ from dataclasses import dataclass
 
 from spanprof.conformance.emit.alone import Alone
 from spanprof.conformance.judge.rules import at_stake
-from spanprof.conformance.run import self_checking
+from spanprof.conformance.run import perturb, self_checking
 from spanprof.conformance.run.settings import SETTINGS, is_of_harness
 from spanprof.conformance.run.toolchain import BuildFailed
 
@@ -38,10 +38,15 @@ def head_of(failure, toolchain, environment, rate, name):
     words, variables = started(failure.conditions.setting)
     if self_checking.is_self_checking(failure.case):
         variables["OMP_NUM_THREADS"] = str(failure.conditions.threads)
+    built = ""
+    if failure.conditions.perturb:
+        built = f"cc -O2 -fPIC -shared tools/conformance/perturb/*.c -o {perturb.LIBRARY} && "
+        variables.update(perturb.variables(failure.conditions.perturb),
+                         LD_PRELOAD=f"'./{perturb.LIBRARY} {toolchain.runtime(environment)}'")
     start = " ".join([*(f"{key}={value}" for key, value in variables.items()), *words, "./a.out"])
     sentences = [failure.words, f"At stake: {at_stake(failure.verdict.kind, failure.rule)}.",
                  f"{toolchain.version()}, {toolchain.runtime_version(environment)}: {rate}.",
-                 f"{' '.join([*toolchain.cc, *toolchain.shown_flags])} -pthread {name} && {start}"]
+                 f"{built}{' '.join([*toolchain.cc, *toolchain.shown_flags])} -pthread {name} && {start}"]
     return "\n".join(line for words in sentences
                      for line in textwrap.wrap(words, WIDTH, subsequent_indent="  ", break_on_hyphens=False))
 
@@ -50,6 +55,7 @@ def runs_alone(program, conditions, environment):
     """How many of some runs fail, and how many were made."""
     failed, made, over = 0, 0, time.monotonic() + SECONDS
     words, variables = started(conditions.setting)
+    variables.update(perturb.variables(conditions.perturb))
     while made < RUNS and time.monotonic() < over:
         try:
             status = subprocess.run([*words, str(program)], env={**environment, **variables}, capture_output=True,

@@ -4,6 +4,8 @@ import json
 import pathlib
 from dataclasses import dataclass
 
+from spanprof.conformance.run.perturb import before_others
+
 
 @dataclass(frozen=True)
 class Built:
@@ -20,8 +22,7 @@ class Built:
 
     def environment(self, plain):
         """An environment in which programs load this library in place of the runtime."""
-        before = plain.get("LD_PRELOAD")
-        return {**plain, "LD_PRELOAD": f"{self.library} {before}" if before else str(self.library)}
+        return before_others(self.library, plain)
 
 
 def built_in(folder):

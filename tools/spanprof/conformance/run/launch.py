@@ -3,6 +3,7 @@ import os
 import subprocess
 from dataclasses import dataclass, field
 
+from spanprof.conformance.run import perturb
 from spanprof.conformance.run.settings import SETTINGS
 
 
@@ -31,6 +32,7 @@ class Conditions:
     unit: int             # what a cost of 1 lasts, in nanoseconds
     timeout: int          # in seconds, without an event until a run hangs
     setting: str = "free"
+    perturb: str = ""     # the seed by which the runtime is delayed, and where, as perturb/hold.c reads it
 
     def words(self):
         return [str(n) for n in (self.threads, self.runs, self.seed, self.unit, self.timeout)]
@@ -82,7 +84,8 @@ def command_of(program, conditions):
     processors = sorted(os.sched_getaffinity(0))
     processor = processors[conditions.seed % len(processors)]
     words = [word.format(processor=processor) for word in setting.words]
-    return [*words, str(program), *conditions.words()], setting.variables
+    told = {**setting.variables, **perturb.variables(conditions.perturb)}
+    return [*words, str(program), *conditions.words()], told
 
 
 def run_to_end(program, conditions, environment):

@@ -58,9 +58,10 @@ class Progress:
         if failure.signature in self.kinds:
             return
         self.kinds.add(failure.signature)
-        begin = "\r" if sys.stderr.isatty() else ""
-        print(f"{begin}failed: {failure.case.name} ({failure.case.variant}) on {failure.conditions.threads} threads: "
-              f"{failure.verdict.kind}: {failure.rule}{TO_LINE_END * bool(begin)}", file=sys.stderr, flush=True)
+        begin, at = "\r" if sys.stderr.isatty() else "", failure.conditions
+        delays = f", with delays in the runtime by seed {at.perturb}" if at.perturb else ""
+        print(f"{begin}failed: {failure.case.name} ({failure.case.variant}) on {at.threads} threads: "
+              f"{failure.verdict.kind}: {failure.rule}{delays}{TO_LINE_END * bool(begin)}", file=sys.stderr, flush=True)
 
     def seconds_left(self):
         return (time.perf_counter() - self.begun) * (self.cases - self.done) / self.done

@@ -7,6 +7,7 @@ from dataclasses import dataclass, field, replace
 from spanprof.conformance.judge.cases import Failure
 from spanprof.conformance.judge.verdicts import Refused
 from spanprof.conformance.run.alone import file_of_program, one_file
+from spanprof.conformance.run.places import delays_told, fewest_delays
 from spanprof.conformance.run.progress import say
 from spanprof.conformance.run.self_checking import is_self_checking
 from spanprof.conformance.run.shrink import Shrinker, Trial
@@ -31,6 +32,7 @@ class Found:
     ways: list
     rate: tuple = ()   # runs that failed, and runs, of the program that it was found in
     stacks: list = field(default_factory=list)
+    delays: str = ""   # where threads were delayed in the runtime
 
     def events(self):
         """The log up to the refused event, or its end."""
@@ -89,9 +91,29 @@ def reproduce_all(bench, failures, limits, jobs):
 
 def of_program(bench, failure):
     """A self-checking program is as small as it can be; it is run once more."""
-    tally = bench.try_case(failure.case, [replace(failure.conditions, runs=OF_PROGRAM)])[0]
+    failure, conditions = with_fewest_delays(bench, failure, replace(failure.conditions, runs=OF_PROGRAM),
+                                             lambda other: is_like(other, failure))
+    tally = bench.try_case(failure.case, [conditions])[0]
     file = file_of_program(bench, failure, f"{failure.case.name}.c", len(tally.failures), tally.runs)
-    return Found(failure, failure.case.name, "", file, 0, len(tally.failures), tally.runs, [])
+    return Found(failure, failure.case.name, "", file, 0, len(tally.failures), tally.runs, [],
+                 delays=delays_of(bench, failure))
+
+
+def with_fewest_delays(bench, failure, conditions, is_one, is_over=lambda: False):
+    """The failure, and conditions, with as few delays in the runtime as a failure needs that is one to look for."""
+    def fails(perturb):
+        return any(map(is_one, bench.try_case(failure.case, [replace(conditions, perturb=perturb)])[0].failures))
+
+    if not conditions.perturb:
+        return failure, conditions
+    perturb = fewest_delays(bench, failure.case, conditions, fails, is_over)
+    return replace(failure, conditions=replace(failure.conditions, perturb=perturb)), \
+        replace(conditions, perturb=perturb)
+
+
+def delays_of(bench, failure):
+    perturb = failure.conditions.perturb
+    return delays_told(bench.toolchain.runtime(bench.environment), perturb) if perturb else ""
 
 
 class Reproducer:
@@ -109,6 +131,7 @@ class Reproducer:
         shrinker, small = Shrinker(self.again, self.tries, self.is_over), self.failure
         first = self.first_again()
         if first:
+            small, self.conditions = with_fewest_delays(self.bench, small, self.conditions, self.is_one, self.is_over)
             small = shrinker.shrink(self.failure.case.body, first)[1].failure
         tally = self.tally(small.case)
         stacks = self.bench.stacks_of(small.case, self.conditions) if small.verdict.kind == "hung" else []
@@ -116,7 +139,8 @@ class Reproducer:
         ways = sorted({f"{f.verdict.kind}, {f.rule}" for f in tally.failures})
         alone = one_file(self.bench, small, examined, f"{small.case.name}.c")
         return Found(small, self.failure.case.name, examined.text, alone, len(shrinker.seen), len(tally.failures),
-                     tally.runs, ways, (first.failed, first.runs) if first else (), stacks)
+                     tally.runs, ways, (first.failed, first.runs) if first else (), stacks,
+                     delays_of(self.bench, small))
 
     def first_again(self):
         """The failure once more. A rare one takes more runs, which then all later tries get."""
@@ -130,6 +154,9 @@ class Reproducer:
             self.conditions = replace(self.conditions, runs=runs)
         return None
 
+    def is_one(self, failure):
+        return self.any_way or is_like(failure, self.failure)
+
     def tally(self, case):
         return self.bench.try_case(case, [self.conditions])[0]
 
@@ -139,7 +166,7 @@ class Reproducer:
             tally = self.tally(replace(self.failure.case, body=body))
         except Refused:
             return None
-        failures = [f for f in tally.failures if self.any_way or is_like(f, self.failure)]
+        failures = [f for f in tally.failures if self.is_one(f)]
         return Trial(failures[0], len(failures), tally.runs) if failures else None
 
 

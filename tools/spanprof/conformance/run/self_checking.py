@@ -16,6 +16,7 @@ from dataclasses import dataclass
 from spanprof.conformance.judge.cases import Case, Failure, Tally
 from spanprof.conformance.data import DATA
 from spanprof.conformance.judge.verdicts import Verdict
+from spanprof.conformance.run import perturb
 from spanprof.conformance.run.launch import breakdown
 from spanprof.conformance.run.settings import SETTINGS, is_of_harness
 from spanprof.conformance.judge.standing import without_places
@@ -137,7 +138,7 @@ def run(program, told, conditions, environment):
     setting = SETTINGS[conditions.setting]
     words = [word.format(processor=0) for word in setting.words]
     variables = {name: value for name, value in setting.variables.items() if not is_of_harness(name)}
-    variables.update(told.variables, OMP_NUM_THREADS=str(conditions.threads))
+    variables.update(told.variables, OMP_NUM_THREADS=str(conditions.threads), **perturb.variables(conditions.perturb))
     with subprocess.Popen([*words, str(program)], stdout=subprocess.PIPE, stderr=subprocess.PIPE, text=True,
                           errors="replace", env={**environment, **variables}) as process:
         ended, how = ended_in(process, conditions.timeout)

@@ -45,6 +45,14 @@ class Options(unittest.TestCase):
         options = parsed("run --cc gcc --programs 0 --seed 0 --jobs 1")
         self.assertEqual((options.programs, options.seed, options.jobs), (0, 0, 1))
 
+    def test_delays_in_the_runtime(self):
+        self.assertEqual((parsed("run --cc gcc").perturb, parsed("run --cc gcc --perturb 8").perturb), (0, 8))
+        for words in ("12", "12:", "12:1a2b+,3c4d-"):
+            self.assertEqual(parsed(f"shrink x --cc gcc --perturb {words}").perturb, words)
+        for words in ("x", "12,13", "12:1a2b"):
+            with self.assertRaises(SystemExit), contextlib.redirect_stderr(io.StringIO()):
+                parsed(f"shrink x --cc gcc --perturb {words}")
+
     def test_what_is_refused_before_all_runs(self):
         for words, why in (("--report /none/x.md", "there is no folder /none"),
                            ("--match none", "no directed or self-checking program's name fits none")):

@@ -20,7 +20,8 @@ class StubToolchain:
 
 
 def facts(settings=("free", "pinned"), **others):
-    options = types.SimpleNamespace(threads=(2, 4), runs=3, seed=7, tasks=["tied"], programs=9, match="*")
+    options = types.SimpleNamespace(threads=(2, 4), runs=3, seed=7, tasks=["tied"], programs=9, match="*",
+                                    perturb=0)
     options.__dict__.update(others)
     bench = types.SimpleNamespace(toolchain=StubToolchain(), environment={"RUNTIME": "/lib/libgomp.so"})
     return tested(options, bench, settings)
@@ -35,11 +36,15 @@ class Facts(unittest.TestCase):
             "setting priorities": "priorities count: `OMP_MAX_TASK_PRIORITY=9`", "tasks": "tied",
             "directed programs": "tree_*", "random programs": "9"})
 
+    def test_delays_in_the_runtime(self):
+        self.assertEqual(facts(perturb=8)["seeds of delays in the runtime"], "8")
+
     def test_of_mutants(self):
         options = types.SimpleNamespace(threads=(2, 4), runs=3, seed=7, tasks=["tied"], match="*",
-                                        timeout=3, programs=20, seconds=60)
+                                        timeout=3, programs=20, seconds=60, perturb=8)
         found = of_mutants(options, types.SimpleNamespace(toolchain=StubToolchain()), ["free"])
         self.assertEqual((found["threads"], found["random programs"], found["settings"]), ("2, 4", "20", "free"))
+        self.assertEqual(found["seeds of delays"], "8")
         self.assertEqual(len(found["texts of directed programs"]), 64)
 
     def test_what_is_left_out(self):

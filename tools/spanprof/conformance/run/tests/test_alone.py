@@ -23,15 +23,18 @@ class StubToolchain:
     def runtime_version(self, _environment):
         return "libgomp1 12.2.0"
 
+    def runtime(self, _environment):
+        return "/built/libgomp.so"
+
     def build_alone(self, text, _name):
         self.text = text
         return self.program
 
 
 class Files(unittest.TestCase):
-    def written(self, status):
+    def written(self, status, perturb=""):
         failure = failure_of(case_of())
-        failure.conditions = types.SimpleNamespace(threads=2, setting="passive")
+        failure.conditions = types.SimpleNamespace(threads=2, setting="passive", perturb=perturb)
         examined = types.SimpleNamespace(text="omptasks 1\n", table=Table(failure.case.body),
                                          record=types.SimpleNamespace(preds=[[], [0], [0], [1, 2]]))
         with tempfile.TemporaryDirectory() as folder:
@@ -49,6 +52,11 @@ class Files(unittest.TestCase):
 
     def test_a_file_that_does_not_fail(self):
         self.assertIn("0 of 20 runs of the file fail", self.written(0).source)
+
+    def test_delays_in_the_runtime(self):
+        head = " ".join(self.written(1, "12:1a2b+").source.partition("*/")[0].split())
+        self.assertIn("cc -O2 -fPIC -shared tools/conformance/perturb/*.c -o perturb.so && gcc ", head)
+        self.assertIn("PERTURB=12:1a2b+ LD_PRELOAD='./perturb.so /built/libgomp.so' ./a.out", head)
 
 
 if __name__ == "__main__":

@@ -1,5 +1,6 @@
 """Cases of a campaign, their conditions, and their running side by side."""
 import unittest
+from dataclasses import replace
 
 from spanprof.conformance.run.campaign import (Running, cases_of, directed_cases, random_cases, run_cases,
                                                self_checking_cases, spread, telling_first)
@@ -44,6 +45,16 @@ class Conditions(unittest.TestCase):
     def test_programs_differ_in_which_setting_comes_first(self):
         plan = Plan((1, 2), 8, 3, 10, ("free", "pinned"))
         self.assertEqual({plan.conditions(case_of(name))[0].setting for name in "abcdefgh"}, {"free", "pinned"})
+
+    def test_each_number_of_threads_has_seeds_of_its_own(self):
+        found = replace(PLAN, threads=(1, 2, 4), seeds=3).conditions(case_of())
+        self.assertEqual([at.threads for at in found], [1, 2, 2, 2, 4, 4, 4])
+        self.assertEqual(len({at.perturb for at in found}), len(found))
+        others = replace(PLAN, threads=(1, 2, 4), seeds=3).conditions(case_of("another"))
+        self.assertFalse({at.perturb for at in found} & {at.perturb for at in others})
+
+    def test_given_delays(self):
+        self.assertEqual({at.perturb for at in replace(PLAN, perturb="12:1+").conditions(case_of())}, {"12:1+"})
 
 
 class SideBySide(unittest.TestCase):

@@ -67,6 +67,10 @@ class Commands(unittest.TestCase):
         self.assertIn(int(words[2]), os.sched_getaffinity(0))
         self.assertEqual(variables, {})
 
+    def test_delays_in_the_runtime(self):
+        _, variables = command_of("prog", dataclasses.replace(conditions(2), perturb="12:1a2b+"))
+        self.assertEqual(variables, {"PERTURB": "12:1a2b+"})
+
     def test_every_setting_has_words_and_variables(self):
         for setting in SETTINGS:
             self.assertIn("prog", command_of("prog", conditions(2, setting))[0])
