@@ -40,16 +40,12 @@ def words_in(name):
         raise Fault("%s=%s: %s" % (name, os.environ[name], str(wrong).lower())) from wrong
 
 
-def on_path(program):
-    """The program on the PATH; not a script of the same name, which asks that of this installation."""
-    found = shutil.which(program)
-    is_front = found and os.path.realpath(found) in map(os.path.realpath, FRONTS)
-    return None if is_front else found
-
-
 def found_at(program, places):
-    """The one on the PATH, or at one of these places; else none."""
-    found = on_path(program) or next((path for path in places if os.access(path, os.X_OK)), None)
+    """The one on the PATH, or at one of these places; else none. A script of the same name there is passed over, since
+    it asks that of this installation."""
+    found = shutil.which(program)
+    if not found or os.path.realpath(found) in map(os.path.realpath, FRONTS):
+        found = next((path for path in places if os.access(path, os.X_OK)), None)
     return [found] if found else []
 
 

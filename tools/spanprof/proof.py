@@ -10,16 +10,13 @@ from spanprof.folders import shown_program
 NOT_VERIFIED = "computed by %s, not verified"
 
 
-def unverified(words):
-    """What is said, in place of `proved`, of what these words compute; empty of a proved program with nothing else."""
-    found = shutil.which(words[0]) if len(words) == 1 else None
-    return "" if found and is_proved(os.path.realpath(found)) else NOT_VERIFIED % " ".join(map(shown_program, words))
-
-
 @lru_cache(maxsize=None)
 def not_proved():
-    """The same of the program that the tools ask; it is read once in a run."""
-    return unverified(client.program())
+    """What is said, in place of `proved`, of what the program computes that the tools ask; empty of a proved one with
+    nothing else. It is read once in a run."""
+    words = client.program()
+    found = shutil.which(words[0]) if len(words) == 1 else None
+    return "" if found and is_proved(os.path.realpath(found)) else NOT_VERIFIED % " ".join(map(shown_program, words))
 
 
 def proved(claim):

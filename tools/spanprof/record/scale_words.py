@@ -29,13 +29,13 @@ def table_lines(scale):
     return out
 
 
-def row_json(scale, threads):
-    times, (low, high) = scale.times[threads], scale.speed_up_from_to(threads)
-    return {"threads": threads, "times": times, "median": scale.median(threads), "least": min(times),
-            "greatest": max(times), "speedup": scale.speed_up(threads), "speedup from": low, "speedup to": high}
-
-
 def scale_json(scale):
     """Times in nanoseconds."""
+    rows = []
+    for threads, times in sorted(scale.times.items()):
+        low, high = scale.speed_up_from_to(threads)
+        rows.append({"threads": threads, "times": times, "median": scale.median(threads), "least": min(times),
+                     "greatest": max(times), "speedup": scale.speed_up(threads), "speedup from": low,
+                     "speedup to": high})
     return {"unit": "ns", "runs": scale.runs, "runtime": scale.library or None, "processors": scale.processors,
-            "measured": "whole program, unrecorded runs", "threads": [row_json(scale, n) for n in sorted(scale.times)]}
+            "measured": "whole program, unrecorded runs", "threads": rows}

@@ -155,7 +155,7 @@ class Folder(unittest.TestCase):
         (folder / "words.4.1.tasks").write_text(TEXT)
         write_machine(NOTHING, str(folder / "machine.json"))
         (folder / "model").write_text(str(folder / "machine.json"))
-        (folder / "words.4.1.timed").write_text("times 4 0 1600\n0 0 0 0\n1 0 0 1000\n2 0 1000 1000\n3 0 1000 1600\n")
+        (folder / "words.4.1.timed").write_text("times 4 0 0\n0 0 0 0\n")
 
     def judge(self, folder):
         out = io.StringIO()
