@@ -34,6 +34,7 @@ TRIED = {
     "outside": "create the tasks of {at} inside parallel and single",
     "task": "make {where} a task of its own"}
 BOUNDS = {"about": "about %s", "or less": "%s or less", "at best": "%s"}     # the first of several holds for all
+DIVIDED = r"\b(for|do|sections|loop|taskloop|workshare)\b"
 ONE_BY_ONE = r"schedule\s*\(\s*(\w+\s*:\s*)?(dynamic|guided)"
 SPLIT = {"serial": "parallelise {where}: loop or tasks", "imbalance": "divide the longest tasks at {where}",
          "too_few_tasks": "divide each task of {where} into {usable}",
@@ -86,11 +87,14 @@ def joined(lines):
 def words_of_schedule(names, name, place):
     """gcc's chunks are those that threads take one by one. No schedule divides an iteration."""
     at, is_share = names.at(name), place and place.kind == SHARE
+    directive = names.directive(name, place.at) if place else ""
     if few_turns(names.facts, name, place):
         return "collapse the loops at %s, or parallelise inside them" % at
+    if not is_share and re.search(r"\bparallel\b", directive) and not re.search(DIVIDED, directive, re.IGNORECASE):
+        return "divide the longest work at %s, or start it first" % at
     if is_share and SECTION in name:
         return "smaller sections at %s, the longest first" % at
-    if is_share and (names.facts.is_of_gcc or re.search(ONE_BY_ONE, names.directive(name, place.at))):
+    if is_share and (names.facts.is_of_gcc or re.search(ONE_BY_ONE, directive)):
         return "smaller chunks at %s, the longest first" % at
     return "schedule(dynamic) at %s, or %s" % (at, "collapse loops" if may_be_few(place) else "smaller chunks")
 

@@ -398,6 +398,12 @@ class Sentences(unittest.TestCase):
         run = facts([place(OWN + " at image.c:9", OF_THREADS)], few_turns={"image.c:9": [5, 4]})
         step = Step("loop_schedule", OWN + " at image.c:9", 2, 1, 1, 1, 1.0, None)
         self.assertIn("schedule(dynamic) at ", change_sentence(run, Names(run, SOURCES), step))
+        for directive, change in (
+                ("#pragma omp parallel shared(next)", "divide the longest work at image.c:9, or start it first"),
+                ("#pragma omp parallel for", "schedule(dynamic) at image.c:9, or smaller chunks"),
+                ("!$OMP PARALLEL DO", "schedule(dynamic) at image.c:9, or smaller chunks")):
+            sources = SimpleNamespace(lines_of=lambda name, directive=directive: [directive] * 9)
+            self.assertEqual(change_sentence(run, Names(run, sources), step), change)
         run.places[OWN + " at image.c:9"].uneven = run.places[OWN + " at image.c:9"].by_a_turn = MS
         self.assertEqual(change_sentence(run, Names(run, SOURCES), step),
                          "schedule(dynamic) at image.c:9, or collapse loops")
