@@ -305,10 +305,10 @@ TEST(what_ordered_turns_wait_for_is_remarked) {
 
 TEST(items_beyond_the_limit_are_left_out) {
   std::vector<DependItem> items;
-  for (uint64_t address = 1; address <= 40; address++) items.push_back(item(ompt_dependence_type_in, address));
+  for (uint64_t address = 1; address <= 65544; address++) items.push_back(item(ompt_dependence_type_in, address));
   Run run = Made().create(0, 1, 2).depend(0, 2, items).run(0, 1, 2, 1).barrier(0, 1).read();
   Region &region = only_region(run);
-  EXPECT(region.tasks.back().items.size(), 32u);
+  EXPECT(region.tasks.back().items.size(), 65536u);
   EXPECT(region.remarks[Remark::ItemsLeftOut].times, 8u);
 }
 

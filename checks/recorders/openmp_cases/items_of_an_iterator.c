@@ -1,6 +1,7 @@
-// A task with more depend items than a text takes: the first 32 are kept, and the recording is not lost.
+// A task with more depend items than a text of the ten commands takes: all are kept.
 // needs: LLVM 16
-// text: # remark: depend item beyond the 32nd of its task, left out, 68 times at items_beyond_the_limit.c:\d+: span too low
+// text: depend\(in: (\w+, ){99}\w+\)
+// no text: left out
 // expect: tasks = 101
 #include "spend.h"
 
