@@ -57,10 +57,13 @@ TABLE = (
 )
 BY_KIND = {cause.kind: cause for cause in TABLE}
 # Without these other code may be cheaper too, so that what their losses took is no bound of the gain.
-CHEAPER = ("small_tasks", "creation", "small_chunks", "lock", "memory", "allocation", "system", "sleep")
+CHEAPER = ("small_tasks", "creation", "small_regions", "small_chunks", "lock", "memory", "allocation", "system",
+           "sleep")
 # What samples found of these is no bound on either side: without contention the same lines still take some time, and
 # other code may take less or more where memory is not new.
 ESTIMATED = ("memory", "allocation")
+# Nor is what small regions take: some barriers may stay, and the same code on one thread may be much cheaper.
+NO_BOUND = (*ESTIMATED, "small_regions")
 # Short names of them, and of what is lost without a cause.
 NAMES = {"serial": "serial", "too_few_tasks": "too few tasks", "dependence": "dependences", "wait": "waits",
          "imbalance": "uneven tasks", "small_tasks": "small tasks", "creation": "creating tasks",

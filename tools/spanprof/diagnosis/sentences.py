@@ -4,7 +4,7 @@ from collections import Counter
 
 from spanprof.diagnosis.allocation import allocating, parallel_code
 from spanprof.diagnosis.calls import NO_NAME, OFFSET, ONE_AT_A_TIME, SHARES, innermost, together
-from spanprof.diagnosis.causes import BY_KIND, CHEAPER, ESTIMATED, NAMES, SECOND
+from spanprof.diagnosis.causes import BY_KIND, CHEAPER, NAMES, NO_BOUND, SECOND
 from spanprof.diagnosis.facts import Region
 from spanprof.diagnosis.losses import (A_TASK, MANY, average_task, copying_at, has_many_faults, holds_neighbours,
                                        is_bandwidth, is_in_a_row, is_maker, losses, maps_memory, missing_threads,
@@ -180,7 +180,7 @@ def words_of_barriers(facts, names, name):
                 "longer_regions": "fewer barriers at %s: nowait, or larger loops" % at}
     words = "%s at %s take %s each: starting them"
     return {"short_regions": words % (several(region.times, "region"), at, lasting(region.elapsed // region.times)),
-            "longer_regions": "move parallel at %s out of the loop around it, with few barriers" % at}
+            "longer_regions": "move parallel at %s out of the loop around it" % at}
 
 
 def is_confined(facts):
@@ -344,7 +344,7 @@ def shortened(text, width):
 
 def bound_word(kind):
     """What a time without losses of a kind is."""
-    return "about" if kind in ESTIMATED else "or less" if kind in CHEAPER else "at best"
+    return "about" if kind in NO_BOUND else "or less" if kind in CHEAPER else "at best"
 
 
 def after_words(step):
