@@ -127,22 +127,14 @@ mod tests {
     }
 
     #[test]
-    fn refused_times() {
-        let wrong = [
-            ("", "line 6: BadForm"), ("times 2 0 14\n0 0 0 +5\n", "line 7: BadForm"),
-            ("times 2 0 14\n0 0 0 5\n", "NotTimed 1"),
-            ("times 2 0 14\n0 0 0 5\n1 0 4 9\n2 0 9 11\n3 1 12 13\n", "TooSoon 1 0"),
-        ];
-        for (times, why) in wrong {
-            assert_eq!(told_of(&format!("---\n0 0 0 0\n---\n{times}")), why, "{times}");
-        }
-    }
-
-    #[test]
     fn refused() {
         let wrong = [
             ("", "BadForm"), ("---\n", "Count"), ("---\n0 1 2", "Count"), ("---\n0 1 2 3 0", "Count"),
             ("---\n0 1 2 4", "BadForm"), ("---\n0 1 x", "BadForm"), ("---\n-1 0 0 0", "BadForm"),
+            ("---\n0 0 0 0\n---\n", "line 6: BadForm"),
+            ("---\n0 0 0 0\n---\ntimes 2 0 14\n0 0 0 +5\n", "line 7: BadForm"),
+            ("---\n0 0 0 0\n---\ntimes 2 0 14\n0 0 0 5\n", "NotTimed 1"),
+            ("---\n0 0 0 0\n---\ntimes 2 0 14\n0 0 0 5\n1 0 4 9\n2 0 9 11\n3 1 12 13\n", "TooSoon 1 0"),
         ];
         for (rest, why) in wrong {
             assert_eq!(told_of(rest), why, "{rest}");
