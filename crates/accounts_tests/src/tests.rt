@@ -41,7 +41,7 @@ fn times_of(alloc: Global, rows: &[(u32, u64, u64)]) -> Result<Times, Fail> {
     Ok(Times::new(threads, begins, ends))
 }
 
-/// What an account says.
+/// What a time breakdown says.
 fn sums(text: &mut String, account: &Account) -> Result<(), Fail> {
     write!(
         text,
@@ -105,7 +105,7 @@ fn add_path(text: &mut String, alloc: Global, case: &Case) -> Result<(), Fail> {
     Ok(())
 }
 
-/// What is told of a case: the sums and the path, or the fault.
+/// The report on a case: the sums and the path, or the fault.
 fn told(alloc: Global, case: &Case) -> Result<String, Fail> {
     let mut text = String::new(alloc);
     match account(alloc, case)? {
@@ -161,7 +161,7 @@ const BY_HAND: &[Case] = &[
     ),
 ];
 
-/// Times with several faults: the first is told.
+/// Times with several faults: the first is reported.
 const FAULTS: &[Case] = &[
     (WORKED, (0, 5, 4), &[], "thread count"),
     (WORKED, (1_025, 0, 9), &[], "thread count"),
@@ -224,7 +224,7 @@ const FAULTS: &[Case] = &[
     ),
 ];
 
-/// Asserts what is told of a case.
+/// Asserts the report on a case.
 fn assert_told(rt: &impl Abort, alloc: Global, case: &Case) -> Result<(), Fail> {
     assert_eq!(rt; told(alloc, case)?.as_str(), case.3);
     Ok(())

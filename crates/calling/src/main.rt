@@ -1,4 +1,4 @@
-//! Calls the libraries: reads a program and prints it, tells what each segment has to wait for,
+//! Calls the libraries: reads a program and prints it, prints what each segment must wait for,
 //! replays a log, and measures a text. After that it makes the calls that no command makes.
 #![tactic(auto)]
 

@@ -18,17 +18,17 @@ use std::alloc::Global;
 /// What is asked of a text of any size.
 #[derive(Drop)]
 pub enum LargeRequest {
-    /// What can be told as the text comes.
+    /// Answered as the text comes.
     OfMeter(MeterRequest),
-    /// What its table tells.
+    /// Answered from its table.
     OfTable(TableRequest),
     /// What is written with its canonical text.
     OfText(TextRequest),
-    /// What a document tells: a text, a divider, and what stands behind it.
+    /// Answered from a document: a text, a divider, and the rest.
     OfDocument(DocumentRequest),
 }
 
-/// What can be told of a text as it comes.
+/// The questions that are answered as a text comes.
 #[derive(Clone, Copy, Debug, PartialEq, Eq)]
 pub enum MeterRequest {
     /// How many tasks and segments it has, its work and its span.
@@ -89,7 +89,7 @@ pub enum AccountRequest {
 
 /// Reads the words of `spanprof_large`, of which the first is the program's name: a command, or
 /// none. Without one, `--upto P` asks for bounds, and no word for what `span` asks. Words about the
-/// program itself ([`read_about`](crate::about::read_about)) are wrong words.
+/// program itself ([`read_about`](crate::about::read_about)) are wrong arguments.
 pub fn read_large_words(alloc: Global, words: &[String]) -> Result<LargeRequest, WordsFault>
     ensures { Gives (large_request_of (map string_bytes words.now)) result }
 {

@@ -1,4 +1,4 @@
--- What the counts tell: when a segment becomes ready.
+-- What the counts show: when a segment becomes ready.
 use Rattle.std.proofs.Common.{ℕ, ◌-◌, ◌<◌, ◌≡◌, ◌⊎◌, ◌↔◌, suc, false, List, [], ◌∷◌, ◌++◌, Option}
 use Rattle.std.proofs.Common.{Some, None, length, get_or, refl, sym, ap, ◌∙◌, subst, arith, inl}
 use Rattle.std.proofs.Common.{inr}
@@ -307,7 +307,7 @@ newly_listed table history values counters worker s ready up chains legal runs t
     (λ t becomes.
     becomes_freed table history values counters worker s t up chains legal tell state becomes)
 
--- of an open segment, a count of 0 tells that all that must precede it is finished
+-- of an open segment, a count of 0 says that all that must precede it is finished
 pub none_counted : (table : Table) (history : List Event) (values : List (Option ℕ))
     (counters : Counters) (t : ℕ)
     → GoesUp table

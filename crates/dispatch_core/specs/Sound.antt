@@ -1,4 +1,4 @@
--- Carried out: what a core keeps beside its history.
+-- Carried out: what a core keeps besides its history.
 use Rattle.std.specs.Prelude.{ℕ, ◌+◌, ◌*◌, ◌≤◌, ◌≡◌, Bool, true, List, Option, Some, length}
 use Rattle.std.specs.Prelude.{slice_get, count_by, is_some}
 use Rattle.task_segments.specs.Table.{Table, costs_of}

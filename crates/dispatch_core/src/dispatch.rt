@@ -97,8 +97,8 @@ impl<K: Kernel, const SEGMENTS: u32, const TASKS: u32> BoundedCore<K, SEGMENTS, 
         &self.table
     }
 
-    /// The accepted events, in order. Its other clauses tell callers that they are legal, and at
-    /// most two for each segment.
+    /// The accepted events, in order. Its other clauses say that they are legal, and at most two
+    /// for each segment.
     pub fn history(&self) -> &[Event]
         ensures events { result.now ≡ self.now.history }
         ensures legal { IsLegalRun self.now.table self.now.history }

@@ -71,7 +71,7 @@ pub(crate) fn make_graph(costs: Vec<u64>, predecessors: Predecessors) -> Graph
 }
 
 impl Graph {
-    /// How many segments there are. Its second clause tells callers what is true of every graph.
+    /// How many segments there are. Its second clause says what is true of every graph.
     pub fn len(&self) -> u32
         ensures count { result ≡ length self.now.costs }
         ensures is_graph { IsGraph self.now }

@@ -39,7 +39,7 @@ pub fn sum_at(places: &[u32], values: &[Option<u64>]) -> u64
     total
 }
 
-/// What a core keeps beside its table.
+/// What a core keeps besides its table.
 #[derive(Drop)]
 pub struct RunState {
     pub history: Vec<Event>,

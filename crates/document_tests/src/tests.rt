@@ -1,4 +1,4 @@
-//! Documents of the worked program, and what is told of them.
+//! Documents of the worked program, and the reports on them.
 mod checks;
 mod lists;
 mod long;

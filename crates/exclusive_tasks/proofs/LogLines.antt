@@ -33,7 +33,7 @@ none_said (a ∷ b ∷ c ∷ d ∷ e ∷ f ∷ rest) none three five = refl
 pub some_is_not_none : (s : Said) → Some s ≡ None → ⊥
 some_is_not_none s h = cc
 
--- what one line more tells
+-- what one line more says
 pub told_one_more : {A : Type 0} (f : List ℕ → List A) (lines : List (List ℕ)) (n : ℕ)
     (old new : List A)
     → n < length lines
@@ -50,7 +50,7 @@ told_one_more f lines n old new inside before after =
     ∙ sym (flat_map-append f (take n lines) (get_or lines n [] ∷ []))
     ∙ ap (flat_map f) (sym more)
 
--- the tasks that lines tell of are apart, where those that were read from them are
+-- the tasks of lines are apart, where those that were read from them are
 pub apart_told : (lines : List (List ℕ)) (claims : List Claim) (events : List Event)
     → Tells lines claims events
     → AreApart claims events

@@ -54,7 +54,7 @@ line_says line = words_say (words_of line)
 abbrev pub says : List (List ℕ) → ℕ → Option Said
 says lines i = line_says (slice_index_or lines i [])
 
--- the claim that a line tells, if it tells one
+-- the claim of a line, if it has one
 abbrev pub claims_in : Option Said → List Claim
 claims_in None = []
 claims_in (Some said.Blank) = []
@@ -67,7 +67,7 @@ events_in (Some said.Blank) = []
 events_in (Some (said.Claim claim)) = []
 events_in (Some (said.Event event)) = event ∷ []
 
--- the claims and the events that lines tell, in their order
+-- the claims and the events of lines, in their order
 abbrev pub claims_told : List (List ℕ) → List Claim
 claims_told lines = flat_map (λ line. claims_in (line_says line)) lines
 
@@ -84,7 +84,7 @@ pub record IsFirstWrong (lines : List (List ℕ)) (i : ℕ) : Type 0 where
   pub right : AreRightBefore lines i
   pub wrong : says lines i ≡ None
 
--- all lines are right, and tell these claims and events
+-- all lines are right, and have these claims and events
 pub record Tells (lines : List (List ℕ)) (claims : List Claim) (events : List Event) : Type 0 where
   pub right : AreRightBefore lines (length lines)
   pub each_claim : claims ≡ claims_told lines

@@ -7,7 +7,7 @@ use Rattle.exclusive_tasks.specs.declared.claim.Overlap.{Overlap}
 use Rattle.exclusive_tasks.specs.declared.verdict.Verdict.{Verdict}
 use Rattle.exclusive_tasks.specs.declared.verdict.Verdict.TheVariants.{Apart, Overlapping, BadForm}
 
--- all lines are right, and the tasks that they tell of were apart, or two of them were not; or a line
+-- all lines are right, and the tasks in them were apart, or two of them were not; or a line
 -- is wrong
 abbrev pub IsVerdict : List (List ℕ) → Verdict → Type 0
 IsVerdict lines Apart = AreRightBefore lines (length lines)

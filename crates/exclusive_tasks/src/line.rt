@@ -7,7 +7,7 @@ use program_text::plain_words::read_number;
 use std::alloc::{AllocError, Global};
 use time_text::first_words;
 
-/// The largest number of a thread, a segment, a task or a location that a line can tell.
+/// The largest number of a thread, a segment, a task or a location that a line can have.
 pub const LARGEST_NUMBER: u64 = 4_294_967_295;
 
 /// What a line of a log says.

@@ -14,15 +14,14 @@ pub struct Log {
     pub events: Vec<Event>,
 }
 
-/// What a text says: a log, unless a line of it, which is told by its index from 0, says nothing
-/// that a line can say.
+/// What a text says: a log, or else the first wrong line, by its index from 0.
 #[derive(Drop)]
 pub enum Reading {
     Log(Log),
     BadForm { line: usize },
 }
 
-/// Reads a log. A line `exclusive PARENT LOCATION FIRST LAST` tells that a task excludes its
+/// Reads a log. A line `exclusive PARENT LOCATION FIRST LAST` says that a task excludes its
 /// siblings at a location: the task that creates it, the location, its first segment and its last.
 /// The lines `start THREAD SEGMENT` and `finish THREAD SEGMENT` are the events, in their order.
 /// Lines without words say nothing. The error is that memory ran out.

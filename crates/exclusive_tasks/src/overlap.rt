@@ -9,7 +9,7 @@ use crate::claim::{Claim, Event, Overlap};
 use std::alloc::{AllocError, Global};
 
 /// The first event that begins a task while one that excludes it is under way, if any does. Of
-/// several such pairs it tells the least claim of the task that begins, and the least claim that
+/// several such pairs it has the least claim of the task that begins, and the least claim that
 /// stands against it. The error is that memory ran out.
 pub fn first_overlap(
     alloc: Global,

@@ -34,7 +34,7 @@ pub fn judge(alloc: Global, text: &[u8]) -> Result<Verdict, AllocError>
     }
 }
 
-/// The line that tells a verdict: `apart`; or `overlap`, the event, the claim of the task that
+/// The line that reports a verdict: `apart`; or `overlap`, the event, the claim of the task that
 /// begins and the claim that it breaks, by their indexes from 0; or the first wrong line.
 pub fn verdict_text(alloc: Global, verdict: Verdict) -> Result<String, AllocError>
     ensures { IfOk result (λ text. string_bytes text ≡ verdict_text verdict) }

@@ -25,9 +25,9 @@ use std::thread::Threads;
 use task_program::name_key::NameKey;
 
 /// Does what `command` does with the words that the system handed over, and answers the exit
-/// status: 0 where the report was written, 1 where the text or what is asked of it was refused, 2 for wrong words, and 3
+/// status: 0 where the report was written, 1 where the text or what is asked of it was refused, 2 for wrong arguments, and 3
 /// where memory ran out, a read failed or a write failed. Where there are no words, nothing is
-/// read: words that are not text are wrong words.
+/// read: arguments that are not text are wrong.
 pub fn start<H: AllocGlobal + Threads + Sync, R: Read, W: Write>(
     rt: &H,
     key: NameKey,

@@ -28,7 +28,7 @@ use Rattle.task_program.proofs.PlainTrees.{HasAnyTree}
 use Rattle.task_program.specs.ProgramMarks.{ProgramMarks}
 use Rattle.large_text.specs.LargeTrees.{HasLargeProgram, HasLargeTree, plain_program}
 
--- ---- the pieces of a text are told by its tokens
+-- ---- the pieces of a text follow from its tokens
 
 -- the words that begin a piece or a clause, and the signs behind them, by number
 abbrev word_number : List ℕ → ℕ

@@ -1,4 +1,4 @@
--- Texts of either version: which one the first bytes tell, and what is known in it.
+-- Texts of either version: which one the first bytes show, and what is known in it.
 use Rattle.std.proofs.Common.{◌≡◌, ◌≤◌, ◌<◌, ◌++◌, ◌∙◌, ℕ, Bool, true, false, List, length, ap, subst, sym}
 use Rattle.std.proofs.Common.{refl}
 use Rattle.std.specs.Prelude.{IsTrue, MatchBool, drop, min, take}
@@ -28,7 +28,7 @@ use Rattle.large_text.specs.Measured.{TalliesPlain, TalliesText}
 
 -- ---- the first bytes
 
--- a text that has not more is of the version that its tokens tell
+-- a text that has not more is of the version that its tokens show
 pub two_whole : (text : List ℕ) → length text ≤ MOST_TEXT_BYTES
     → is_large_two text ≡ begins_version_two (tokens_of text)
 two_whole text few =

@@ -87,7 +87,7 @@ rows_of tally rows marks is h =
     IfSome found (λ (rows : MarkCutter). Tables rows (last_moment marks)))
     is h.rows
 
--- the work that the meter tells is that of the marks
+-- the work that the meter answers is that of the marks
 pub within_work : (tally : Tally) (marks : List Mark) (total : ℕ)
     → Tallies tally (last_moment marks)
     → ((moment : List Mark) → Measures tally.meter moment → total ≡ work_of moment)
@@ -111,7 +111,7 @@ told_rows tally rows total None is told h = tt
 told_rows tally rows total (Some table) is told h = λ marks nested tallies.
     h marks nested (rows_of tally rows marks is tallies) (within_work tally marks total tallies told)
 
--- the work that the meter tells is within the limit where that of the marks is
+-- the work that the meter answers is within the limit where that of the marks is
 pub work_within : (tally : Tally) (marks : List Mark) (total : ℕ)
     → Tallies tally (last_moment marks)
     → ((moment : List Mark) → Measures tally.meter moment → total ≡ work_of moment)

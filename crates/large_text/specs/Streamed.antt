@@ -44,7 +44,7 @@ pub record HasTaken (bytes : List ℕ) (text_meter : TextMeter) : Type 0 where
 abbrev pub IsSpent : TextMeter → Type 0
 IsSpent text_meter = text_meter.stage ≡ Spent
 
--- it keeps the rows of the table beside
+-- it keeps the rows of the table too
 abbrev pub KeepsRows : TextMeter → Type 0
 KeepsRows text_meter = IsTrue (keeps_rows text_meter.plain.meter)
 

@@ -22,7 +22,7 @@ pub const MOST_LARGE_ITEMS: u32 = 4_294_967_294;
 /// Depend items of one task.
 pub const MOST_TASK_ITEMS: usize = 65_536;
 
-/// Turns of all loops of a text of version 2 together.
+/// Iterations of all loops of a text of version 2 together.
 pub const MOST_LARGE_TURNS: u32 = 4_000_000_000;
 
 /// Lines of the canonical text of a text of version 2, its header not counted.

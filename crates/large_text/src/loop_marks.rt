@@ -44,7 +44,7 @@ use task_program::walk::{TakesPieces, take_all};
 /// What was expanded: its marks are entered into the tally.
 #[derive(Drop)]
 pub struct LoopMarks {
-    /// The turns of all loops.
+    /// The iterations of all loops.
     turns: u32,
     /// The lines of the canonical text so far, with a `}` for each open block.
     lines: u32,

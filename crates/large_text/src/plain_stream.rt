@@ -19,7 +19,7 @@ use task_program::AllocFault;
 use task_program::fault::ReadKind;
 use task_program::name_key::NameKey;
 
-/// Takes the bytes of a text piece by piece, however it is cut, and measures what it says. Beside the
+/// Takes the bytes of a text piece by piece, however it is cut, and measures what it says. Besides the
 /// names and what the nesting takes, only the last line is kept, as far as it has come.
 #[derive(Drop)]
 pub struct PlainMeter {

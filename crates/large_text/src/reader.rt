@@ -136,7 +136,7 @@ impl MarkReader {
         }
     }
 
-    // What `take` does, told of the one token. It stands apart for the prover's sake: the proof of
+    // What `take` does, said of the one token. It stands apart for the prover's sake: the proof of
     // `take` cites its clauses.
     fn take_any(&mut self, token: Token<'_>, line: u64) -> Result<Option<TextMark>, LargeFault>
         requires { IsLargeWithin self.old }

@@ -41,8 +41,8 @@ enum Stage {
 }
 
 /// Takes the bytes of a text piece by piece, however it is cut, and measures what it says. A text of
-/// version 2 is kept whole. Of any other the first lines are, until they tell the version, and then
-/// only the last line, as far as it has come, beside the names and what the nesting takes.
+/// version 2 is kept whole. Of any other the first lines are, until the version is known, and then
+/// only the last line, as far as it has come, besides the names and what the nesting takes.
 #[derive(Drop)]
 pub struct TextMeter {
     alloc: Global,
@@ -157,7 +157,7 @@ impl TextMeter {
         self.leave_head(rest)
     }
 
-    // These are kept behind those before them, unless that tells a version that is not 2. It is looked
+    // These are kept behind those before them, unless the version is known and is not 2. It is looked
     // for where the bytes have one binary digit more: so all looks take no longer than two of them.
     fn keep(&mut self, bytes: &[u8]) -> Result<(), AllocFault>
         requires room { CanTakeBytes bytes.now self.old }

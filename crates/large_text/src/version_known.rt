@@ -1,4 +1,4 @@
-//! What the first lines of a text tell of its version.
+//! What the first lines of a text say about its version.
 ghost use Rattle.std.specs.Prelude.{◌≤◌, ◌+◌, ◌<◌, ◌^◌, IsTrue, length};
 ghost use Rattle.program_text.specs.Tokens.{tokens_of};
 ghost use Rattle.program_text.specs.declared.limits.TheConstants.{MOST_TEXT_BYTES};

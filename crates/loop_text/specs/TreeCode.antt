@@ -1,4 +1,4 @@
--- Carried out: a tree as a list from which it can be had back: how proofs tell trees apart.
+-- Carried out: a tree as a list from which it can be had back: how proofs distinguish trees.
 use Rattle.std.specs.Prelude.{◌≡◌, ℕ, List, [], ◌∷◌, ◌++◌}
 use Rattle.std.proofs.Common.{refl, ap, sym, ◌∙◌, append_assoc, append-nil}
 use Rattle.std.specs.Coded.{Coded, code_by, coded×, coded_ℕ, coded_list}

@@ -1,4 +1,4 @@
--- What the table at a later moment tells of a task that has begun.
+-- What the table at a later moment says of a task that has begun.
 use Rattle.std.proofs.Common.{true, ◌≡◌, ◌≢◌, ◌⊎◌, ℕ, ◌<◌, ◌≤◌, Bool, eqb}
 use Rattle.std.proofs.Common.{List, [], ◌∷◌, get_or, drop, refl, sym, ap, subst, ◌∙◌}
 use Rattle.std.proofs.Common.{inl, inr, arith, slice_get}

@@ -136,7 +136,7 @@ done-old m e u p =
     done-same (end_of (m ∷ e)) (end_of e) (segments_so_far e) (λ s l. end_of-old m e s l)
     (ended_of u e) (ended_below u e p)
 
--- what is told of task u, which is open
+-- what is said of task u, which is open
 pub record IsOpen (held : Open) (u : ℕ) (e : List Mark) : Type 0 where
   pub undeferred : held.undeferred ≡ is_undeferred u e
   pub items : held.items ≡ items_of u e

@@ -12,7 +12,7 @@ ghost use Rattle.online_span.specs.LeastEnds.{IsLeastEndOf};
 ghost use Rattle.online_span.specs.Masked.{IsMasked, ShowsPath};
 ghost use Rattle.online_span.specs.Spans.{IsSpanOf};
 
-/// There is one span: what `Meter::span` tells of a program is what any other call finds as the
+/// There is one span: what `Meter::span` answers for a program is what any other call finds as the
 /// greatest sum of a chain of its table, such as the analysis of its graph.
 pub fn one_span()
     ensures { (body : List Mark) (span other : ℕ) → IsSpanOf body span

@@ -30,7 +30,7 @@ struct OpenTask {
     names: HashMap<u32, EndsByKind>,
 }
 
-/// Takes the marks of a program one by one, and tells its work and span.
+/// Takes the marks of a program one by one, and answers its work and span.
 #[derive(Drop)]
 pub struct Meter {
     alloc: Global,

@@ -13,7 +13,7 @@ mod texts;
 /// A text, and what is wanted of its program.
 struct Worked {
     text: &'static str,
-    /// Beside the root.
+    /// Besides the root.
     tasks: u64,
     segments: u64,
     work: u64,

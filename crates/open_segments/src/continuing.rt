@@ -10,7 +10,7 @@
 //!   the end of a group: the last segments of the tasks whose innermost group it is, and then the
 //!   finished segment. One pass over all segments from `group_begin` on finds them.
 //! - of the first one in `beginning`: the last segments of the kept siblings, as the table of its
-//!   parent's children tells them (`depend_table`), and then the finished segment.
+//!   parent's children has them (`depend_table`), and then the finished segment.
 //!
 //! `counters` keeps each list, and counts how many in it are not finished.
 ghost use Rattle.std.specs.Prelude.{ℕ, Some, ◌≡◌, ◌<◌, ◌≤◌, ◌↔◌, IfOk, IsTrue};

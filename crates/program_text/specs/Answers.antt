@@ -1,4 +1,4 @@
--- What a part of the reader answers, beside what the definitions give: the same, unless memory ran
+-- What a part of the reader answers, compared with what the definitions give: the same, unless memory ran
 -- out.
 use Rattle.std.specs.Prelude.{◌≡◌, Bool, true, false, MatchBool, Result, Ok, Err}
 use Rattle.program_text.specs.declared.fault.ReadKind.{ReadKind}

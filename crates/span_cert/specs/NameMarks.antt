@@ -1,4 +1,4 @@
--- Carried out: marks at names, and where a segment opens: what tells quickly that a segment need
+-- Carried out: marks at names, and where a segment opens: what shows quickly that a segment need
 -- not wait.
 use Rattle.std.specs.Prelude.{ℕ, ◌+◌, ◌<◌, ◌≡◌, ◌⊎◌, ◌==◌, ◌&&◌, ◌||◌, Bool, true, false, List}
 use Rattle.std.specs.Prelude.{length, nat_lt, slice_index_or}

@@ -1,5 +1,5 @@
-//! The first segment that starts too soon, in a table of any size: its kept predecessors tell which it
-//! is, and the relation which segment it should have waited for.
+//! The first segment that starts too soon, in a table of any size: its kept predecessors show which it
+//! is, and the relation shows which segment it should have waited for.
 ghost use Rattle.std.specs.Prelude.{◌≡◌, ◌<◌, ◌↔◌, IfOk, IsTrue, MatchOption, Some, length, ℕ};
 ghost use Rattle.task_segments.specs.Precedence.{IsSegment};
 ghost use Rattle.span_cert.specs.Claims.{moments_of_starts};

@@ -1,4 +1,4 @@
-//! Marks at the names of one task's items: they tell which of most tasks do not conflict with it.
+//! Marks at the names of one task's items: they show of most tasks that they do not conflict with it.
 ghost use Rattle.std.specs.Prelude.{◌≡◌, ℕ, OnOk, true, false};
 ghost use Rattle.std.specs.List.{list_any};
 ghost use Rattle.span_cert.specs.NameMarks.{AreMarked, has_mark, is_in, is_set, meets};

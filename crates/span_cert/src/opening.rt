@@ -1,4 +1,4 @@
-//! What a segment can have to wait for, as far as it tells by itself.
+//! What a segment may have to wait for, as far as its own row shows.
 ghost use Rattle.std.specs.Prelude.{◌<◌, ◌↔◌, IfOk, IsTrue};
 ghost use Rattle.task_segments.specs.Precedence.{IsSegment, MustPrecede};
 ghost use Rattle.span_cert.specs.NameMarks.{AreMarkedFor, IsCut, IsOpening};

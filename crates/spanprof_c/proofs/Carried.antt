@@ -1,4 +1,4 @@
--- What is told of a program's graph holds under all pairs of segments of which the first must
+-- What is answered about a program's graph holds under all pairs of segments of which the first must
 -- precede the second, whatever the costs are.
 use Rattle.std.proofs.Common.{ℕ, ◌+◌, ◌<◌, ◌≡◌, ◌↔◌, ◌∙◌, Bool, List, [], Option, Result, Ok, Err}
 use Rattle.std.proofs.Common.{◌≤◌, length, refl, sum, sym, ap, subst}

@@ -1,4 +1,4 @@
--- Why a certificate does not hold, from what the steps of its check tell.
+-- Why a certificate does not hold, from what the steps of its check answer.
 use Rattle.std.proofs.Common.{ℕ, ◌≡◌, ◌≢◌, ◌≤◌, Bool, List, [], Option, Result, Ok, Err}
 use Rattle.std.proofs.Common.{inl, inr, subst, sym}
 use Rattle.std.specs.Prelude.{IfErr, MatchResult}

@@ -22,12 +22,12 @@ use Rattle.spanprof_c.specs.declared.refusal.Refusal.{Refusal}
 use Rattle.spanprof_c.specs.declared.refusal.Refusal.TheVariants as refusal
 use Rattle.spanprof_c.proofs.Carried.{counted, on_costs}
 
--- what is told of an outcome
+-- what is answered about an outcome
 abbrev pub IsTold : {X : Type 0} → Result X Refusal → ℕ → Place → Type 0
 IsTold outcome number place = MatchResult outcome (λ _. number ≡ 0)
     (λ why. (1 ≤ number) × (number ≡ number_of why) × (place ≡ place_of why))
 
--- where 0 is told, the answer is there
+-- where the number is 0, the answer is there
 pub done : {X : Type 0} (P : Type 0) (outcome : Result X Refusal) (number : ℕ) (place : Place)
     → IsTold outcome number place
     → OnOk outcome P
@@ -36,7 +36,7 @@ pub done : {X : Type 0} (P : Type 0) (outcome : Result X Refusal) (number : ℕ)
 done P (Ok answer) number place told holds none = holds
 done P (Err why) number place told holds none = absurd (omega (arith, told.0, none))
 
--- where a refusal is told, it says why
+-- where it is of a refusal, it says why
 pub why_so : (ask : Asked) (why : Refusal) (number : ℕ) (place : Place)
     → (1 ≤ number) × (number ≡ number_of why) × (place ≡ place_of why)
     → IsRefused ask why
@@ -100,7 +100,7 @@ graph_refused from given lengths threads graph (refusal.Text _ _) priced is = ab
 graph_refused from given lengths threads graph refusal.CostCount priced is = absurd is
 graph_refused from given lengths threads graph refusal.CostsTooLarge priced is = absurd is
 
--- what is told of a graph, as the text's answer
+-- what is answered about a graph, as the text's answer
 pub done_so : {X : Type 0} (Says : List ℕ → (ℕ → ℕ → Type 0) → Type 0) (from : Source) (given : List ℕ)
     (graph : RecordedGraph) (outcome : Result X Refusal) (number : ℕ) (place : Place)
     → ((table : Table) → IsSoundTable table
@@ -115,7 +115,7 @@ done_so Says from given graph outcome number place carry priced told holds =
     done (OnCosts from given Says) outcome number place told
     (on_ok_weaker outcome (on_costs Says from given graph carry priced) holds)
 
--- why nothing is told of a graph, as the text's refusal
+-- why nothing is answered about a graph, as the text's refusal
 pub refused_so : {X : Type 0} (from : Source) (given lengths : List ℕ) (threads : ℕ) (graph : RecordedGraph)
     (outcome : Result X Refusal) (number : ℕ) (place : Place)
     → OfText from (IsPriced given graph)
@@ -129,7 +129,7 @@ refused_so from given lengths threads graph (Err why) number place priced told h
     why_so (asked from given threads lengths) why number place told
     (graph_refused from given lengths threads graph why priced holds)
 
--- ---- what is told of an outcome that speaks of the text
+-- ---- what is answered about an outcome that speaks of the text
 
 pub refused_told : {X : Type 0} (ask : Asked) (outcome : Result X Refusal) (number : ℕ)
     (place : Place)

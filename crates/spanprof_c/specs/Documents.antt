@@ -1,4 +1,4 @@
--- What is told of a certificate, and why it does not hold.
+-- What is answered about a certificate, and why it does not hold.
 use Rattle.std.specs.Prelude.{ℕ, ◌≡◌, ◌⊎◌, Bool, List, [], Option, None, Some}
 use Rattle.program_text.specs.Document.{program_part, rest_part}
 use Rattle.span_cert.specs.Acceptance.{AcceptsOf, RefusesOf}
@@ -32,7 +32,7 @@ claim_place (test.Broken s t) = at_segments s t
 claim_place (test.ChainStep s t) = at_segments s t
 claim_place _ = at_segments 0 0
 
--- what stands behind the divider is a claim that holds, and this is told of it
+-- the part after the divider is a claim that holds, and this is answered about it
 abbrev pub AcceptsRest : Table → Option (List ℕ) → Checked → Type 0
 AcceptsRest table None checked = ⊥
 AcceptsRest table (Some text) checked = AcceptsOf table text checked

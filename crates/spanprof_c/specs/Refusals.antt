@@ -78,7 +78,7 @@ number_of refusal.WrongLength = 18
 abbrev pub on_line : ℕ → Place
 on_line line = record { line = line; segment = 0; other = 0 }
 
--- nothing lies anywhere: what is written beside an answer
+-- no place at all: what is written along with an answer
 abbrev pub nowhere : Place
 nowhere = on_line 0
 

@@ -1,4 +1,4 @@
--- What is told of a timed run, and why nothing is.
+-- What is answered about a timed run, and why nothing is.
 use Rattle.std.specs.Prelude.{ℕ, ◌≡◌, ◌⊎◌, List, length}
 use Rattle.dispatch_core.specs.Graph.{IsGraphOf}
 use Rattle.dispatch_core.specs.RecordedGraph.{Precedes, RecordedGraph}

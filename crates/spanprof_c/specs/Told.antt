@@ -1,4 +1,4 @@
--- What each call tells, under some costs and a relation of precedence.
+-- What each call answers, under some costs and a relation of precedence.
 use Rattle.std.specs.Prelude.{ℕ, ◌+◌, ◌-◌, ◌*◌, ◌≤◌, ◌≡◌, ◌↔◌, Bool, IsTrue, List, length, map}
 use Rattle.std.specs.Prelude.{Option, Some, None, drop, sum, take}
 use Rattle.program_text.specs.declared.limits.TheConstants.{MOST_WORK}

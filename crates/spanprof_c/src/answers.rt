@@ -1,4 +1,4 @@
-//! What calls tell of a graph.
+//! What calls answer about a graph.
 ghost use Rattle.std.specs.Prelude.{◌≡◌, ◌<◌, ◌≤◌, IfErr, IfOk, OnErr, OnOk, [], ◌∷◌, length};
 ghost use Rattle.dispatch_core.specs.RecordedGraph.{Precedes};
 ghost use Rattle.greedy_sim.specs.Greedy.{IsCurve};

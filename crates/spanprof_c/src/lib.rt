@@ -1,4 +1,4 @@
-//! What `spanprof` tells, for callers in C and in other languages that call C: numbers and bytes in
+//! What `spanprof` answers, for callers in C and in other languages that call C: numbers and bytes in
 //! the caller's own lists, with nothing kept between calls.
 //!
 //! A call answers 0 where its answer is there, and else the number of a refusal, as

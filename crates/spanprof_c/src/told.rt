@@ -1,4 +1,4 @@
-//! What calls tell in several numbers, as C has it.
+//! Answers of several numbers, as C has them.
 ghost use Rattle.std.specs.Prelude.{◌≡◌};
 
 /// Where a refusal lies: the line of a text's fault, or the segments of another one; 0 for what

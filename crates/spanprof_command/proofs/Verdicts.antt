@@ -1,4 +1,4 @@
--- What is told of a verdict is the report of what was judged.
+-- What is written of a verdict is the report of what was judged.
 use Rattle.std.proofs.Common.{◌≡◌, true, Result, Ok, Err}
 use Rattle.std.specs.Result.{IfErr, IfOk, OnOk}
 use Rattle.span_cert.specs.OneVerdict.{is_verdict}

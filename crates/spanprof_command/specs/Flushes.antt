@@ -4,12 +4,12 @@ use Rattle.counted_io.specs.Counted.{faults_of, flushes_of, is_flushed}
 use Rattle.counted_io.specs.declared.counted.Counted.{Counted}
 
 -- What each function that ends a command promises of its writer's flushes. `NoFault` says that its
--- answer tells of no fault.
+-- answer has no fault.
 pub record FlushesOnce {W : Type 0} (NoFault : Type 0) (writer writer_after : Counted W) : Type 0
   where
-    -- where it tells of no fault, all was flushed
+    -- where it has no fault, all was flushed
     pub flushed : NoFault → is_flushed writer_after ≡ true
-    -- whatever it tells, as of a read that failed, all was flushed where the writer had no fault
+    -- whatever it answers, as after a read that failed, all was flushed where the writer had no fault
     pub flushed_without_fault : faults_of writer_after ≡ faults_of writer
         → is_flushed writer_after ≡ true
     -- in every case there was one flush at most

@@ -12,7 +12,7 @@ pub record Report : Type 0 where
   pub text : List ℕ
   pub status : ℕ
 
--- the exit status of who tells a verdict
+-- the exit status after a verdict
 abbrev pub status_of : Verdict → ℕ
 status_of Apart = 0
 status_of (Overlapping overlap) = 1

@@ -1,4 +1,4 @@
-//! `spanprof_exclusion`: reads a log from standard input, and tells whether tasks that exclude one
+//! `spanprof_exclusion`: reads a log from standard input, and reports whether tasks that exclude one
 //! another ran one at a time.
 //!
 //! The exit status is 0 where they did, 1 where two of them overlap or the input is no log, and 3

@@ -72,7 +72,7 @@ shallow_at ForBrace head open_now shallow allowed deep = room_left (length open_
 shallow_at Clause head open_now shallow allowed deep = room_left (length open_now) shallow deep
 shallow_at _ head open_now shallow allowed deep = absurd cc
 
--- what the grammar has there, and what the last tokens tell of a number
+-- what the grammar has there, and what the last tokens say of a number
 record Counts (before : List Token) (state : State) : Type 0 where
   began : LoopBegan before state
   last : LastNow before state

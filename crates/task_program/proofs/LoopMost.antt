@@ -1,4 +1,4 @@
--- How large a number may be where the first pass stands, told by the last tokens.
+-- How large a number may be where the first pass stands, by the last tokens.
 use Rattle.std.proofs.Common.{◌≡◌, ℕ, ◌<◌, ◌≤◌, Bool, true, false, ◌&&◌, ◌||◌, cond, List, []}
 use Rattle.std.proofs.Common.{◌∷◌, ◌++◌, Option, Some, None, refl, sym, ap, subst, ◌∙◌, arith}
 use Rattle.std.proofs.Common.{codes}
@@ -339,7 +339,7 @@ no_number_at (IndexCloses kind) head open_now text h n = no_text text (codes "]"
 no_number_at (DependMore kind) head open_now text h n = no_end text n
 no_number_at _ head open_now text h n = absurd cc
 
--- the last tokens tell the most that a number may be, where there can be one
+-- the last tokens give the most that a number may be, where there can be one
 most_is : (place : LoopPlace) (before : List (List ℕ)) (head : LoopHead)
     (open_now : List LoopBlock) (text : List ℕ)
     → LastAt place before

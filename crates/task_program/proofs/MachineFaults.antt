@@ -1,4 +1,4 @@
--- What the machines of reading read and refuse, told without them.
+-- What the machines of reading read and refuse, said without them.
 use Rattle.std.specs.Prelude.{◌≡◌, ℕ, ◌↔◌, true, false, nat_lt, MatchBool, List, length, Ok, Err}
 use Rattle.program_text.specs.declared.fault.ReadKind.TheVariants.{TooLong}
 use Rattle.program_text.specs.declared.limits.TheConstants.{MOST_TEXT_BYTES}

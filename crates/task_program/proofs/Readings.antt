@@ -75,7 +75,7 @@ one_reading text = record {
   one = λ other is. sym (reading_is text other is);
 }
 
--- so what is given beside the machines is given beside the reading
+-- so what is given by the machines is given by the reading
 pub gives_reading : (text : List ℕ) (result : Result ProgramMarks ReadFault)
     → Gives (λ program. program) result (program_of text)
     → (reading : Result ProgramMarks ReadFault)
@@ -85,7 +85,7 @@ gives_reading text result h reading is =
     subst (λ (r : Result ProgramMarks ReadFault). Gives (λ (p : ProgramMarks). p) result r)
     (reading_is text reading is) h
 
--- and what is refused beside the machines, memory aside, is refused with the first fault
+-- and what is refused by the machines, memory aside, is refused with the first fault
 pub refused_first : (text : List ℕ) (result : Result ProgramMarks ReadFault)
     → Gives (λ program. program) result (program_of text)
     → IfErr result (λ fault. fault.kind ≢ OutOfMemory → HasFirstFault text fault)

@@ -12,7 +12,7 @@ use Rattle.task_program.specs.Expansion.{Place, Piece}
 use Rattle.task_program.specs.Expansion.Piece.{TurnBegins, TaskComes, ItemComes, TaskOpens}
 use Rattle.task_program.specs.Expansion.Piece.{GroupComes, GroupOpens, BlockEnds, WorkIs, WaitIs}
 
--- What was expanded: the turns of all loops; the bytes outside blanks of the canonical text so far,
+-- What was expanded: the iterations of all loops; the bytes outside blanks of the canonical text so far,
 -- with one `}` for each block that is open; the names of the locations in the order of their first
 -- mention; the items of the task that comes; and the tree.
 pub record ExpansionState : Type 0 where

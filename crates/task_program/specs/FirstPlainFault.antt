@@ -21,7 +21,7 @@ pub record IsSentence (texts : List (List ℕ)) : Type 0 where
   pub derived : IsDerived One body
 
 -- the rules where all tokens have so many bytes at most, so many blocks may be open, a task may have
--- so many items, and this tells whether there are too many tasks or segments; the header is a word
+-- so many items, and this says whether there are too many tasks or segments; the header is a word
 -- and a number
 abbrev pub plain_rules : (token_bytes nesting most_items : ℕ)
     → (too_many : List Token → List ℕ → Option ReadKind)

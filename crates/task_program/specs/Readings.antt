@@ -12,7 +12,7 @@ use Rattle.task_program.specs.FirstPlainFault.{program_rules}
 use Rattle.task_program.specs.FirstLoopFault.{HasLoopFault}
 
 -- The first fault of a text: it is too long, or else its tokens have one, in the version that its
--- header tells.
+-- header names.
 abbrev pub HasFirstFault : List ℕ → ReadFault → Type 0
 HasFirstFault text fault =
     MatchBool (nat_lt MOST_TEXT_BYTES (length text)) (fault ≡ record { kind = TooLong; line = 1 })

@@ -24,7 +24,7 @@ impl NameKey {
         NameKey { initial }
     }
 
-    /// The key of a text, of which each byte tells: its number is the SipHash-1-3 of all bytes. So
+    /// The key of a text, by all of its bytes: its number is their SipHash-1-3. So
     /// whoever makes up names for a key has another key once they stand in the text.
     pub fn of_text(text: &[u8]) -> NameKey {
         let mut hasher = DefaultHasher::new();

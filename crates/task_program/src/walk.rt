@@ -160,7 +160,7 @@ fn expand_one<T: TakesPieces>(
     }
 }
 
-/// The turns of a loop.
+/// The iterations of a loop.
 #[cycle(expanding)]
 fn expand_turns<T: TakesPieces>(
     taker: &mut T,

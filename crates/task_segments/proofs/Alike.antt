@@ -1,4 +1,4 @@
--- Tables that answer alike are equal: what no call tells is settled by what the calls tell.
+-- Tables that answer alike are equal: what no call answers is settled by what the calls answer.
 use Rattle.std.proofs.Common.{◌≡◌, ℕ, zero, suc, ◌<◌, ◌≤◌, List, Some, refl, sym, ap, subst, ◌∙◌}
 use Rattle.std.proofs.Common.{inl, inr, arith}
 use Rattle.std.proofs.lemmas.Bool.{cases_order}

@@ -139,7 +139,7 @@ pub is_joined_within_task : (table : Table)
 is_joined_within_task table h u a b i j l =
     reached_is_joined (reaches_along_task (b - a) table h a b u i j (omega arith) (omega arith))
 
--- what a creator tells of a task
+-- what a creator says of a task
 record Made (table : Table) (u s : ℕ) : Type 0 where
   child : IsChild table u
   creator : child.creator ≡ s

@@ -1,4 +1,4 @@
--- What the marks of a program add up to, beside its table: the cutting loses nothing.
+-- What the marks of a program add up to, compared with its table: the cutting loses nothing.
 use Rattle.std.specs.Prelude.{ℕ, ◌+◌, ◌*◌, ◌≡◌, Bool, true, false, List, length, sum, count_by}
 use Rattle.task_program.specs.Limits.{work_of}
 use Rattle.task_program.specs.Marks.{Mark}

@@ -31,7 +31,7 @@ pub struct MarkCutter {
     cutter: Cutter,
     /// The task whose code is read.
     running: u32,
-    /// The tasks that are open beside it, the innermost last.
+    /// The other open tasks, the innermost last.
     outer: Vec<u32>,
     /// The open groups, the innermost last.
     groups: Vec<GroupRow>,

@@ -29,7 +29,7 @@ timed_run ranged in_order apart = record {
   apart = apart;
 }
 
--- of a legal run within the limits nothing is told but want of memory
+-- a legal run within the limits is refused only where memory runs out
 pub only_memory : (n : ℕ) (R : ℕ → ℕ → Type 0) (p first last : ℕ) (run : TimedRun)
     (fault : TimesFault)
     → IsThreadCount p

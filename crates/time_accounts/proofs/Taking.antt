@@ -318,7 +318,7 @@ earlier_place run order s t i j by_begin h of_s of_t before =
       ]
     ]
 
--- a segment that begins while its thread is taken runs beside one that began before
+-- a segment that begins while its thread is taken runs at the same time as one that began before
 overlaps : (run : TimedRun) (order : List (ℕ × ℕ)) (n k : ℕ) (taken : List ℕ)
     → AreByBegin run.begins order
     → AreTaken run order n taken

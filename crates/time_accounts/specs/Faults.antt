@@ -1,4 +1,4 @@
--- Which fault of the times of a run is told: the first in this order, and of its kind the one of the
+-- Which fault of the times of a run is reported: the first in this order, and of its kind the one of the
 -- least segment.
 use Rattle.std.specs.Prelude.{ℕ, ◌<◌, ◌≤◌, ◌≡◌, ◌⊎◌, length}
 use Rattle.program_text.specs.declared.limits.TheConstants.{MOST_WORK}
@@ -77,8 +77,8 @@ pub record IsFirstOverlap (n : ℕ) (run : TimedRun) (s : ℕ) : Type 0 where
   pub overlap : IsOverlap n run s
   pub first : (t : ℕ) → IsOverlap n run t → BeginsBefore run t s → ⊥
 
--- What is told of a run of n segments on p threads between two moments, under a relation of
--- precedence. Want of memory says nothing of the run.
+-- The fault of a run of n segments on p threads between two moments, under a relation of
+-- precedence. Out of memory says nothing of the run.
 abbrev pub IsTimesFault : ℕ → (ℕ → ℕ → Type 0) → ℕ → ℕ → ℕ → TimedRun → TimesFault → Type 0
 IsTimesFault n R p first last run ThreadCount = IsThreadCount p → ⊥
 IsTimesFault n R p first last run Moments = IsThreadCount p × (AreMoments first last → ⊥)

@@ -166,7 +166,7 @@ fn measured(graph: &Graph, region: Region, times: &Times, changes: &Changes) -> 
 }
 
 /// Where the time of a run's threads went, in the unit of its times. Times that are not those of a
-/// legal run are refused, with the fault that `check_times` tells. Its time grows with n log n in
+/// legal run are refused, with the fault of `check_times`. Its time grows with n log n in
 /// the number of segments, and with the number of edges.
 pub fn account_of(
     alloc: Global,

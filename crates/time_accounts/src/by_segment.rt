@@ -46,8 +46,8 @@ fn lengths(alloc: Global, begins: &[u64], ends: &[u64]) -> Result<Vec<u64>, Allo
     Ok(lengths)
 }
 
-/// How long threads are idle from a moment on, before another, in all, either beside a ready segment
-/// or while none is ready.
+/// How long threads are idle from a moment on, before another, in all, either while a segment is
+/// ready or while none is.
 fn idle_within(beside: bool, changes: &Changes, threads: u32, from: u64, to: u64) -> u64
     requires known { CanSweep changes.now.readies.items changes.now.begins.items
         changes.now.ends.items threads }

@@ -20,7 +20,7 @@ use task_program::limits::MOST_WORK;
 
 /// Checks that times are those of a legal run of a graph: each segment runs on one of the threads
 /// from its begin to its end, none begins before its predecessors have ended, and no two run on
-/// one thread at one moment. Of several faults the first is told, in the order of `TimesFault`.
+/// one thread at one moment. Of several faults the first is reported, in the order of `TimesFault`.
 pub fn check_times(
     alloc: Global,
     graph: &Graph,
@@ -33,7 +33,7 @@ pub fn check_times(
         region.threads region.first region.last times.now) }
     ensures why { IfErr result (IsTimesFault (length graph.now.costs) (Precedes graph.now)
         region.threads region.first region.last times.now) }
-    // of a legal run within the limits nothing is told, unless memory runs out
+    // a legal run within the limits is refused only where memory runs out
     ensures refused { IsThreadCount region.threads → region.last ≤ MOST_WORK
         → IsTimedRun (length graph.now.costs) (Precedes graph.now)
         region.threads region.first region.last times.now

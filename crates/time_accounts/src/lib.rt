@@ -1,8 +1,8 @@
 //! Where the time of a run's threads went.
 //!
 //! A timed run has of each segment its thread, its begin and its end. At each moment a thread runs
-//! a segment, or it is idle beside one that is ready, or it is idle while none is ready; before all
-//! begins and after all ends it is outside.
+//! a segment, or it is idle while one is ready, or it is idle while none is ready; before all begins
+//! and after all ends it is outside.
 #![tactic(auto)]
 
 pub mod account;

@@ -187,7 +187,7 @@ abbrev made : Progress → Result Progress TimeTextFault → Progress
 made before (Ok after) = after
 made before (Err fault) = before
 
--- a step that is refused tells a fault
+-- a step that is refused has a fault
 abbrev why : TimeTextFault → Result Progress TimeTextFault → TimeTextFault
 why before (Ok after) = before
 why before (Err fault) = fault
@@ -293,7 +293,7 @@ region_stands : (lines : List (List ℕ)) (k : ℕ) (region : RegionTimes)
 region_stands lines k region h blank =
     let never : Some (Region region) ≡ Some Blank = sym h.2.told ∙ blank h.0 h.1 in cc
 
--- no region is told so far
+-- there is no region so far
 none_before : (lines : List (List ℕ)) (k : ℕ) → IsRegionSoFar lines k None
     → HasRegionBefore lines k → ⊥
 none_before lines k blank h =

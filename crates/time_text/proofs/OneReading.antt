@@ -51,7 +51,7 @@ put_of_text region rows line times true None = refl
 put_of_text region rows line times true (Some other) = refl
 put_of_text region rows line times false row = refl
 
--- a step has no want of memory
+-- a step never runs out of memory
 step_of_text : (region : Option RegionTimes) (rows : List (Option SegmentTimes)) (line : ℕ)
     (said : Option TimeLine) → is_memory (step region rows line said) ≡ false
 step_of_text region rows line None = refl

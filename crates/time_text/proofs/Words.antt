@@ -1,4 +1,4 @@
--- A line with too many words is told by its first few.
+-- A line with too many words is known by its first few.
 use Rattle.std.proofs.Common.{◌≡◌, ℕ, List, [], ◌∷◌, take, refl}
 use Rattle.time_text.specs.TimeLines.{words_say}
 use Rattle.time_text.specs.declared.line.TheConstants.{MOST_WORDS}

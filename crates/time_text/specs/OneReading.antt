@@ -1,4 +1,4 @@
--- A text tells times or has a fault, and only one of them.
+-- A text has times or a fault, and only one of them.
 use Rattle.std.specs.Prelude.{ℕ, ◌≢◌, ◌⊎◌, List}
 use Rattle.time_text.specs.TimesTexts.{IsTextFault, TellsTimes}
 use Rattle.time_text.specs.declared.fault.TimeTextFault.{TimeTextFault}

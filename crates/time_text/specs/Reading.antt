@@ -11,7 +11,7 @@ use Rattle.time_text.specs.declared.line.SegmentTimes.{SegmentTimes}
 use Rattle.time_text.specs.declared.line.TimeLine.{TimeLine}
 use Rattle.time_text.specs.declared.line.TimeLine.TheVariants.{Blank, Region, Segment}
 
--- when the run took place, if that has been told, and the times of each segment that has some
+-- when the run took place, if a line has said so, and the times of each segment that has some
 pub record Progress : Type 0 where
   pub region : Option RegionTimes
   pub rows : List (Option SegmentTimes)
@@ -47,12 +47,12 @@ step (Some region) rows line (Some (Region told)) = Err (BadForm line)
 step None rows line (Some (Segment times)) = Err (BadForm line)
 step (Some region) rows line (Some (Segment times)) = with_rows (Some region) (put rows line times)
 
--- the region that the lines so far tell, if any
+-- the region of the lines so far, if any
 abbrev pub IsRegionSoFar : List (List ℕ) → ℕ → Option RegionTimes → Type 0
 IsRegionSoFar lines k None = (i : ℕ) → i < k → says lines i ≡ Some Blank
 IsRegionSoFar lines k (Some region) = (h : ℕ) × (h < k) × IsRegionLine lines h region
 
--- what k lines tell, all of them right
+-- what k lines say, all of them right
 pub record IsSoFar (n : ℕ) (lines : List (List ℕ)) (k : ℕ) (region : Option RegionTimes)
     (rows : List (Option SegmentTimes))
     : Type 0 where

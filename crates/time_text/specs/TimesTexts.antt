@@ -1,4 +1,4 @@
--- Which texts tell the times of a run of n segments, and what is wrong with the others. A text is
+-- Which texts have the times of a run of n segments, and what is wrong with the others. A text is
 -- its lines, and each line counts from 0.
 use Rattle.std.specs.Prelude.{ℕ, ◌+◌, ◌<◌, ◌≤◌, ◌≡◌, ◌⊎◌, ⊤, List, length, Option, Some, None}
 use Rattle.std.specs.Prelude.{slice_get}
@@ -11,7 +11,7 @@ use Rattle.time_text.specs.declared.line.SegmentTimes.{SegmentTimes}
 use Rattle.time_text.specs.declared.line.TimeLine.{TimeLine}
 use Rattle.time_text.specs.declared.line.TimeLine.TheVariants.{Blank, Region, Segment}
 
--- this line tells when the run took place, and no line before it says anything
+-- this line says when the run took place, and no line before it says anything
 pub record IsRegionLine (lines : List (List ℕ)) (h : ℕ) (region : RegionTimes) : Type 0 where
   pub told : says lines h ≡ Some (Region region)
   pub first : (i : ℕ) → i < h → says lines i ≡ Some Blank
@@ -23,7 +23,7 @@ pub record HasRegionBefore (lines : List (List ℕ)) (i : ℕ) : Type 0 where
   pub before : line < i
   pub is_region : IsRegionLine lines line region
 
--- this line tells when a segment ran
+-- this line says when a segment ran
 abbrev pub IsSegmentLine : List (List ℕ) → ℕ → SegmentTimes → Type 0
 IsSegmentLine lines i times = says lines i ≡ Some (Segment times)
 
@@ -57,9 +57,9 @@ pub record IsRight (n : ℕ) (lines : List (List ℕ)) (i : ℕ) : Type 0 where
 abbrev pub AreRightBefore : ℕ → List (List ℕ) → ℕ → Type 0
 AreRightBefore n lines i = (j : ℕ) → j < i → IsRight n lines j
 
--- ---- what is told
+-- ---- what is reported
 
--- All lines are right, and tell when the run took place and when each segment ran.
+-- All lines are right, and say when the run took place and when each segment ran.
 pub record TellsTimes (n : ℕ) (lines : List (List ℕ)) (region : RegionTimes)
     (segments : List SegmentTimes)
     : Type 0 where
@@ -108,7 +108,7 @@ pub record IsNotTimed (n : ℕ) (lines : List (List ℕ)) (s : ℕ) : Type 0 whe
   pub none : IsTimedBefore lines (length lines) s → ⊥
   pub least : (r : ℕ) → r < s → IsTimedBefore lines (length lines) r
 
--- what a fault says. Want of memory says nothing of the text
+-- what a fault says. Out of memory says nothing of the text
 abbrev pub IsTextFault : ℕ → List (List ℕ) → TimeTextFault → Type 0
 IsTextFault n lines (BadForm i) = IsMisplaced n lines i ⊎ IsSilent lines i
 IsTextFault n lines (UnknownSegment i) = IsUnknown n lines i

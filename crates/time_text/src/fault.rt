@@ -1,4 +1,4 @@
-//! Why a text does not tell the times of a run.
+//! Why a text does not have the times of a run.
 ghost use Rattle.std.specs.Prelude.{◌≡◌};
 ghost use Rattle.time_text.specs.declared.fault.TimeTextFault.TheVariants.{OutOfMemory};
 
@@ -6,7 +6,7 @@ use program_text::AllocFault;
 use std::alloc::AllocFailed;
 use thiserror::Error;
 
-/// Why a text does not tell the times of a run: its first wrong line, by its index from 0, or else
+/// Why a text does not have the times of a run: its first wrong line, by its index from 0, or else
 /// the first segment without times.
 #[derive(Clone, Copy, Debug, PartialEq, Eq, Drop, Error)]
 pub enum TimeTextFault {

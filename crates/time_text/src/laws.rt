@@ -14,12 +14,12 @@ pub fn limits()
     ensures moment { LARGEST_MOMENT ≡ 10 ^ 18 }
 {}
 
-/// Each text of one line or more tells the times of a run of so many segments, or has a fault.
+/// Each text of one line or more has the times of a run of so many segments, or has a fault.
 pub fn some_reading()
     ensures { (n : ℕ) (lines : List (List ℕ)) → 0 < length lines → HasReading n lines }
 {}
 
-/// No text tells two runs.
+/// No text has the times of two runs.
 pub fn one_run()
     ensures { (n : ℕ) (lines : List (List ℕ)) (region other : RegionTimes)
         (segments others : List SegmentTimes)
@@ -27,14 +27,14 @@ pub fn one_run()
         → (region ≡ other) × (segments ≡ others) }
 {}
 
-/// No text has two faults, want of memory aside.
+/// No text has two faults, out of memory aside.
 pub fn one_fault()
     ensures { (n : ℕ) (lines : List (List ℕ)) (fault other : TimeTextFault)
         → fault ≢ OutOfMemory → other ≢ OutOfMemory
         → IsTextFault n lines fault → IsTextFault n lines other → fault ≡ other }
 {}
 
-/// A text that tells the times of a run has no fault.
+/// A text that has the times of a run has no fault.
 pub fn no_fault()
     ensures { (n : ℕ) (lines : List (List ℕ)) (region : RegionTimes)
         (segments : List SegmentTimes) (fault : TimeTextFault) → fault ≢ OutOfMemory

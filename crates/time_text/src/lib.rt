@@ -1,7 +1,7 @@
 //! The times of a run, read from a text of lines.
 //!
-//! One line tells the threads and the two moments between which the run took place. Each other line
-//! tells the thread, the begin and the end of one segment, in any order.
+//! One line has the threads and the two moments between which the run took place. Each other line
+//! has the thread, the begin and the end of one segment, in any order.
 #![tactic(auto)]
 
 mod fault;

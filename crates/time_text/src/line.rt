@@ -7,10 +7,10 @@ use program_text::AllocFault;
 use program_text::plain_words::{is_blank, read_number};
 use std::alloc::Global;
 
-/// The largest number of threads, of a thread and of a segment that a line can tell.
+/// The largest number of threads, of a thread and of a segment that a line can have.
 pub const LARGEST_NUMBER: u64 = 4_294_967_295;
 
-/// The largest moment that a line can tell.
+/// The largest moment that a line can have.
 pub const LARGEST_MOMENT: u64 = 1_000_000_000_000_000_000;
 
 /// On how many threads a run took place, and from when until when.

@@ -16,7 +16,7 @@ pub struct TimesText {
     pub segments: Vec<SegmentTimes>,
 }
 
-/// Reads the times of a run of so many segments. A line `times P FIRST LAST` tells the number of
+/// Reads the times of a run of so many segments. A line `times P FIRST LAST` has the number of
 /// threads and the two moments; it comes first. Each further line `SEGMENT THREAD BEGIN END` is of
 /// one segment, in any order. Lines without words say nothing. A text is refused for its first
 /// wrong line, and then for the first segment without times. The other error is that memory ran
@@ -53,8 +53,8 @@ fn read_rows(
     }
 }
 
-/// Takes what the lines of a text say. Answers when the run took place, if that is told, and how
-/// many lines there are.
+/// Takes what the lines of a text say. Answers when the run took place, if a line says so, and
+/// how many lines there are.
 fn read_lines(
     alloc: Global,
     text: &[u8],
@@ -76,7 +76,8 @@ fn read_lines(
     Ok((region, number))
 }
 
-/// Takes what one line more says, and answers when the run took place, if that is told.
+/// Takes what one line more says, and answers when the run took place, if a line has
+/// said so.
 fn take(
     rows: &mut [Option<SegmentTimes>],
     region: Option<RegionTimes>,

@@ -82,7 +82,7 @@ written_back n new old long same =
     ap (λ l. take n (new ++ l)) (drop_all (length new) old (omega arith))
     ∙ ap (take n) (append-nil new) ∙ take_all n new (omega arith)
 
--- one lane more, and what is told of it
+-- one lane more, and what is answered about it
 pub told_more : (lanes : List Lane) (told : List (Option ℕ)) (lane : Lane) (its : Option ℕ)
     → AreToldOf lanes told → IsToldOf lane its → AreToldOf (lanes ++ lane ∷ []) (told ++ its ∷ [])
 told_more lanes told lane its are is = record {

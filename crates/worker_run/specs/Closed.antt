@@ -36,7 +36,7 @@ pub record AreGiven (was : List Lane) (thieves : List Numbered) (now : List Lane
       → place < length was
       → slice_index_or now place no_lane ≡ given place thieves (slice_index_or was place no_lane)
 
--- What is told of a lane: how many tokens are left, where all its thieves are back.
+-- What is answered about a lane: how many tokens are left, where all its thieves are back.
 abbrev pub IsToldOf : Lane → Option ℕ → Type 0
 IsToldOf lane told = MatchOption told (length lane.back ≢ lane.owner.thieves)
     (λ count. (left : List ℕ) × (length left ≡ count)

@@ -12,7 +12,7 @@ use Rattle.worker_run.specs.declared.station.Next.TheVariants.{Run, Wait, Again}
 abbrev pub in_turn : {A : Type 0} → ℕ → List A → List A
 in_turn first xs = drop first xs ++ take first xs
 
--- what a steal tells of its lane
+-- what a steal shows of its lane
 abbrev pub of_steal : Steal ℕ → Found
 of_steal (Success token) = Token token
 of_steal Empty = Nothing

@@ -1,4 +1,4 @@
--- How workers end, and what a run tells of it.
+-- How workers end, and what a run answers about it.
 use Rattle.std.specs.Prelude.{ℕ, ◌<◌, ◌≡◌, Bool, IsTrue, List, Some, Contains, length, slice_get}
 use Rattle.std.specs.List.{HoldsAt}
 use Rattle.task_segments.specs.Table.{Table}

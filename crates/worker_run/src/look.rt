@@ -64,7 +64,7 @@ pub(crate) fn look_in_turn<S: TokenSource>(
 }
 
 impl Found {
-    /// What a steal tells of its lane. Where another thread was in the way there may be a token.
+    /// What a steal shows of its lane. Where another thread was in the way there may be a token.
     pub(crate) fn of_steal(steal: Steal<u32>) -> Found
         ensures { result ≡ of_steal steal }
     {

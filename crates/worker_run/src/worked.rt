@@ -33,7 +33,7 @@ impl<K: Kernel> Worked<K> {
         Worked { core, ends, left }
     }
 
-    /// The same, where its core has this table and its workers are below this number. No clause tells
+    /// The same, where its core has this table and its workers are below this number. No clause says
     /// what comes out of a lock, so the core that did is compared with a copy of its table.
     pub(crate) fn fitting(self, table: &SegTable, workers: u32) -> Result<Worked<K>, AllocFault>
         ensures same { IfOk result (λ worked. worked ≡ self) }

@@ -1,5 +1,5 @@
-//! Runs of random programs, legal and not. A plain program that goes through all moments and all
-//! pairs of segments has told what is wanted.
+//! Runs of random programs, legal and not. The expected values are those of a plain program that
+//! goes through all moments and all pairs of segments.
 
 /// A text; the number of threads, the first moment and the last one; of each segment its thread,
 /// its begin and its end; what is wanted.

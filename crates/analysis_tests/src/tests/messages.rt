@@ -1,4 +1,4 @@
-//! What faults say, where it tells more than that memory ran out.
+//! The messages of faults other than out of memory.
 
 use dispatch_core::kernel::KernelFault;
 use greedy_sim::greedy::GreedyFault;

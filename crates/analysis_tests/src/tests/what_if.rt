@@ -1,4 +1,4 @@
-//! Changed costs of worked programs, and many changes beside analyses from nothing.
+//! Changed costs of worked programs, and many changes compared with new analyses.
 ghost use Rattle.std.specs.Prelude.{◌≡◌, ◌<◌, length};
 
 mod changes;

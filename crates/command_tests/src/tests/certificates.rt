@@ -1,4 +1,4 @@
-//! Certificates that are written, changed, forged and cut short.
+//! Certificates that are written, changed, tampered with and cut short.
 
 use super::examples::{WORKED, WORKED_BEGUN};
 use super::{all_give, gives};
@@ -9,7 +9,7 @@ const CHECK: [&str; 2] = ["spanprof", "check"];
 
 const ACCEPTED: &str = "accepted\nsegments 4\nend 9\n";
 
-/// A claim, and what is told.
+/// A claim, and the report.
 const CHANGED_CLAIMS: &[(&str, &str)] = &[
     (
         "end 9\nstart 0 0 start 1 5 start 2 5 start 3 7\nchain 0 1 3\n",
@@ -93,7 +93,7 @@ fn changed_claims(rt: HostRuntime) -> Result<(), Fail> {
     Ok(())
 }
 
-/// What is left of a certificate, and what is told.
+/// What is left of a certificate, and the report.
 const CUT_CERTIFICATES: &[(&str, &str)] = &[
     (
         "---\nend 9\nstart 0 0\nstart 1 5\nstart 2 5\nstart 3 8\nchain 0 1",
@@ -120,7 +120,7 @@ fn cut_certificates(rt: HostRuntime) -> Result<(), Fail> {
     Ok(())
 }
 
-/// A document, and what is told.
+/// A document, and the report.
 const REFUSED_PROGRAMS: &[(&str, &str)] = &[
     ("omptasks 3\n---\nend", "error: line 1: BadHeader\n"),
     (

@@ -42,7 +42,7 @@ fn kind_at(call: usize) -> ErrorKind {
     }
 }
 
-/// Whether an example ends at a read that fails: it is not tried again, and the line that tells of
+/// Whether an example ends at a read that fails: it is not tried again, and the line that reports
 /// it is written whole and flushed once.
 fn ends_at_read<H: AllocGlobal + Threads + Wait + Sync>(
     rt: &H,
@@ -58,7 +58,7 @@ fn ends_at_read<H: AllocGlobal + Threads + Wait + Sync>(
     Ok(status == Status::Fault && writer.flushes == 1 && is_last && is_told)
 }
 
-/// A failure at each read in turn, which is not tried again. The line that tells of it is written
+/// A failure at each read in turn, which is not tried again. The line that reports it is written
 /// whole and flushed once, also where its writes are interrupted.
 #[test]
 fn failing_readers(rt: HostRuntime) -> Result<(), Fail> {
@@ -148,7 +148,7 @@ fn stuck_writers(rt: HostRuntime) -> Result<(), Fail> {
 }
 
 /// How many calls come before interruptions, how many reads and writes are interrupted, and what is
-/// written: the example's text where the budget suffices, and else what is told of a fault.
+/// written: the example's text where the budget suffices, and else the report of a fault.
 const INTERRUPTIONS: &[(usize, usize, usize, Option<&str>)] = &[
     (0, 1000, 0, None),
     (1, 1000, 0, None),
@@ -179,7 +179,7 @@ fn is_interrupted<H: AllocGlobal + Threads + Wait + Sync>(
     Ok(got == status && writer.flushes == flushes && is_written)
 }
 
-/// Whether an example does what a row of `INTERRUPTIONS` tells.
+/// Whether an example does what a row of `INTERRUPTIONS` says.
 fn goes_as_told<H: AllocGlobal + Threads + Wait + Sync>(
     rt: &H,
     example: Example,
@@ -208,7 +208,7 @@ fn interruptions(rt: HostRuntime) -> Result<(), Fail> {
     Ok(())
 }
 
-/// Words, the line that is told, and the status.
+/// Arguments, the line that is printed, and the status.
 const LINES: &[(&[&str], &str, Status)] = &[
     (
         &["spanprof", "slack"],

@@ -146,7 +146,7 @@ fn all_refuse_after_text<H: AllocGlobal + Threads + Wait + Abort + Sync>(
     Ok(())
 }
 
-/// Words, and what is told.
+/// Arguments, and the report.
 const OUT_OF_RANGE: &[(&[&str], &str)] = &[
     (
         &["spanprof", "greedy", "--threads", "0"],
@@ -179,14 +179,14 @@ const OUT_OF_RANGE: &[(&[&str], &str)] = &[
     (&["spanprof", "whatif", "4=1"], "error: UnknownSegment\n"),
 ];
 
-/// What is out of range is told only of a text that is a program.
+/// What is out of range is reported only of a text that is a program.
 #[test]
 fn out_of_range(rt: HostRuntime) -> Result<(), Fail> {
     all_refuse_after_text(&rt, OUT_OF_RANGE)?;
     Ok(())
 }
 
-/// Changes, what is told of them, and the status.
+/// Changes, the report on them, and the status.
 const TRIED_COSTS: &[(&[&str], &str, Status)] = &[
     (&["2=4"], "work 13\nspan 10\nwas 9\n", Status::Done),
     (&["2=3"], "work 12\nspan 9\nwas 9\n", Status::Done),

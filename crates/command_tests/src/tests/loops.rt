@@ -63,7 +63,7 @@ fn measures_of_loops(rt: HostRuntime) -> Result<(), Fail> {
     Ok(())
 }
 
-/// A text, and the line that is told.
+/// A text, and the line that is printed.
 const REFUSED_LOOPS: &[(&str, &str)] = &[
     (
         "omptasks 2\nfor i 0 65536 { }",

@@ -91,7 +91,7 @@ fn wrong_forms(rt: HostRuntime) -> Result<(), Fail> {
     Ok(())
 }
 
-/// Documents, and what is told.
+/// Documents, and the report.
 const REFUSED: &[(&str, &str)] = &[
     (WORKED, "error: BadForm\n"),
     ("omptasks 1\ntask {\n---\ngo", "error: line 2: Unclosed\n"),

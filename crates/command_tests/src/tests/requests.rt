@@ -1,4 +1,4 @@
-//! What the words of the command line ask for.
+//! What the arguments ask for.
 
 use super::examples::place_asked;
 use super::words_of;
@@ -8,7 +8,7 @@ use std::alloc::{AllocGlobal, Global};
 use std::process::Abort;
 use std::test::Fail;
 
-/// Whether the words are told to be wrong.
+/// Whether the arguments are refused.
 fn are_wrong(alloc: Global, words: &[&str]) -> Result<bool, Fail> {
     let list = words_of(alloc, words)?;
     Ok(match read_words(alloc, list.as_slice()) {

@@ -134,7 +134,7 @@ fn canonical_texts(rt: HostRuntime) -> Result<(), Fail> {
     Ok(())
 }
 
-/// A body, and the line that is told.
+/// A body, and the line that is printed.
 const REFUSED_TEXTS: &[(&str, &str)] = &[
     ("task {", "error: line 2: Unclosed\n"),
     ("}", "error: line 2: Unopened\n"),
@@ -178,7 +178,7 @@ fn refused_texts(rt: HostRuntime) -> Result<(), Fail> {
     Ok(())
 }
 
-/// A text, and the line that is told.
+/// A text, and the line that is printed.
 const BAD_HEADERS: &[(&str, &str)] = &[
     ("", "error: line 1: BadHeader\n"),
     ("omptasks 3", "error: line 1: BadHeader\n"),
@@ -192,7 +192,7 @@ fn bad_headers(rt: HostRuntime) -> Result<(), Fail> {
     Ok(())
 }
 
-/// A line, how often it stands in a program, and what is told.
+/// A line, how often it stands in a program, and the report.
 const PAST_LIMITS: &[(&str, u32, &str)] = &[
     (
         "work 1000000000000\n",

@@ -81,7 +81,7 @@ const UNREAD: &[(ErrorKind, u8, &str)] = &[
     (ErrorKind::OutOfMemory, 3, "error: out of memory\n"),
 ];
 
-/// Words that are no text are wrong words, and nothing is read.
+/// Arguments that are no text are wrong, and nothing is read.
 #[test]
 fn no_words(rt: HostRuntime) -> Result<(), Fail> {
     for (kind, code, text) in UNREAD {

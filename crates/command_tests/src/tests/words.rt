@@ -1,4 +1,4 @@
-//! Wrong words.
+//! Wrong arguments.
 
 use super::{gives, run, sink, source};
 use spanprof_command::Status;
@@ -7,7 +7,7 @@ use std::sync::Wait;
 use std::test::Fail;
 use std::thread::Threads;
 
-/// Whether these words after the name are told to be wrong, and nothing is read.
+/// Whether these arguments are refused, and nothing is read.
 fn are_wrong<H: AllocGlobal + Threads + Wait + Sync>(rt: &H, row: &[&str]) -> Result<bool, Fail> {
     let mut words = vec![in rt.alloc(); "spanprof"]?;
     words.extend_from_slice(row)?;
@@ -56,7 +56,7 @@ fn wrong_words(rt: HostRuntime) -> Result<(), Fail> {
     Ok(())
 }
 
-/// Without a word after the name, and without a name, the command is `span`.
+/// Without an argument after the name, and without a name, the command is `span`.
 #[test]
 fn no_words(rt: HostRuntime) -> Result<(), Fail> {
     let rows: [&[&str]; 2] = [&["spanprof"], &[]];

@@ -8,7 +8,7 @@ use std::process::Abort;
 use std::test::Fail;
 use std::thread::Threads;
 
-/// Lines of changes, and what is told of them.
+/// Lines of changes, and the report on them.
 const LISTS: &[(&str, &str)] = &[
     ("2=4\n1=5\n", "work 15\nspan 11\nwas 9\n"),
     ("2=4\r\n\n \t\n 1=5", "work 15\nspan 11\nwas 9\n"),

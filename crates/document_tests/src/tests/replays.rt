@@ -8,7 +8,7 @@ use std::process::Abort;
 use std::test::Fail;
 use std::thread::Threads;
 
-/// Events, and what is told of them.
+/// Events, and the report on them.
 const RUNS: &[(&str, &str)] = &[
     (
         "start 0 0\nfinish 0 0\nstart 0 2\nstart 1 1\nfinish 0 2\nfinish 1 1\nstart 0 3\nfinish 0 3",

@@ -3,7 +3,7 @@
 /// The worked program and the divider: times begin on line 4.
 pub(super) const BEGUN: &str = "omptasks 1\nwork 5 task { work 3 } work 2 taskwait work 1\n---\n";
 
-/// The words, and what is told of the worked run.
+/// The arguments, and the report on the worked run.
 pub(super) const REPORTS: &[(&[&str], &str)] = &[
     (
         &[],

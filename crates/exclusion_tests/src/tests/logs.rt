@@ -1,4 +1,4 @@
-//! What a log tells.
+//! What a log says.
 use exclusive_tasks::Event::{Finish, Start};
 use exclusive_tasks::{Claim, Event, Reading, read_log};
 use std::alloc::Global;
@@ -19,7 +19,7 @@ const LARGEST: Claim = Claim {
     last: u32::MAX,
 };
 
-/// A text, and the claims and the events that it tells.
+/// A text, and its claims and events.
 type Row = (&'static str, &'static [Claim], &'static [Event]);
 
 const LOGS: &[Row] = &[
@@ -59,7 +59,7 @@ const LOGS: &[Row] = &[
     ),
 ];
 
-/// Asserts that a text tells these claims and events.
+/// Asserts that a text has these claims and events.
 fn assert_tells(rt: &impl Abort, alloc: Global, row: &Row) -> Result<(), Fail> {
     let (text, claims, events) = row;
     match read_log(alloc, text.as_bytes())? {

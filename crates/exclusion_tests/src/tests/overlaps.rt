@@ -34,7 +34,7 @@ fn claims_of(alloc: Global, rows: &[ClaimRow]) -> Result<Vec<Claim>, Fail> {
     Ok(claims)
 }
 
-/// What is found, as a row tells it.
+/// What is found, as a row has it.
 fn found(
     alloc: Global,
     rows: &[ClaimRow],

@@ -1,4 +1,4 @@
-//! The lines that tell verdicts.
+//! The lines that report verdicts.
 use exclusive_tasks::{Overlap, Verdict, verdict_text};
 use std::test::Fail;
 

@@ -223,7 +223,7 @@ const OF_TABLES: &[(&[&str], (Status, &str))] = &[
     ),
 ];
 
-/// As the commands of the same names tell.
+/// The answers are those of the commands of the same names.
 #[test]
 fn tables(rt: HostRuntime) -> Result<(), Fail> {
     let input = b"omptasks 1\nwork 5 task { work 3 } work 2 taskwait work 1";

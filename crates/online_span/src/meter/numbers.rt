@@ -1,4 +1,4 @@
-//! What a meter tells of the marks taken so far.
+//! What a meter answers about the marks so far.
 ghost use Rattle.std.specs.Prelude.{◌≡◌, ◌+◌, List, sum};
 ghost use Rattle.task_program.specs.Limits.{work_of};
 ghost use Rattle.task_program.specs.Marks.{Mark};
@@ -40,7 +40,7 @@ impl Meter {
         self.segments
     }
 
-    /// How many tasks have begun beside the root.
+    /// How many tasks have begun besides the root.
     pub fn tasks(&self) -> u64
         ensures { (moment : List Mark) → Measures self.now moment
             → result + 1 ≡ tasks_so_far moment }

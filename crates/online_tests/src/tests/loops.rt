@@ -1,5 +1,5 @@
-//! Texts with loops: numbers past the limits of the commands, the canonical text, and each fault. What
-//! is wanted within the limits is what `spanprof` tells.
+//! Texts with loops: numbers past the limits of the commands, the canonical text, and each fault. Within
+//! the limits the expected values are those of `spanprof`.
 ghost use Rattle.std.specs.Prelude.{◌≤◌, length};
 ghost use Rattle.large_text.specs.declared.limits.TheConstants.{LARGEST_PIECE};
 

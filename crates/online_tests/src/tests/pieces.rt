@@ -60,7 +60,7 @@ fn by_bytes(alloc: Global, text: &[u8]) -> Result<Meter, LargeFault>
     meter.finish()
 }
 
-/// Asserts what is told of a text that was cut there, or into its bytes.
+/// Asserts the answer about a text that was cut there, or into its bytes.
 fn assert_told(rt: &impl Abort, told: Told, whole: Told, text: &str, cut: Option<usize>) {
     assert_eq!(rt; told, whole, "{text} at {cut:?}");
 }

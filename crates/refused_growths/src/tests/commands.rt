@@ -187,7 +187,7 @@ fn answer_to<H: AllocGlobal + Threads + Wait + Abort + Sync>(
     (status, writer.into_inner())
 }
 
-/// A command writes its text, or the one line that tells of memory.
+/// A command writes its text, or the one line that says out of memory.
 pub(super) fn report<H: AllocGlobal + Threads + Wait + Abort + Sync>(
     rt: &H,
     supply: &mut Supply,

@@ -23,7 +23,7 @@ const DEEP: &[u8] = b"omptasks 1\nwork 1\ntask depend(in: a, b, c) depend(out: d
     task { work 3 task { work 4 task { task { taskgroup { work 5 } } } } }\n\
     work 13\n}\ntask depend(in: d) { work 1 }\ntaskwait\n";
 
-/// Three turns of a loop, each of three tasks.
+/// Three iterations of a loop, each of three tasks.
 const LOOPS: &[u8] = b"omptasks 2\nfor i 1 3 {\n\
     task depend(inout: a[i], b[i-1]) { task final(1) { task { taskgroup { work 2 } } } }\n}\ntaskwait\n";
 

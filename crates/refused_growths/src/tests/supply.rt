@@ -31,7 +31,7 @@ pub(super) struct Supply {
     is_scarce: bool,
 }
 
-/// What `checks/hostile/refused_growths.py gate` is told.
+/// What `checks/hostile/refused_growths.py gate` reads.
 #[derive(Clone, Copy)]
 enum Event {
     TurnBegins,
@@ -182,7 +182,7 @@ impl Supply {
         self.pieces.truncate(0);
     }
 
-    /// Pieces of one size, none beside another.
+    /// Pieces of one size, none next to another.
     fn cut_apart(&mut self, size: usize, count: usize) {
         for _ in 0..count {
             self.cut(size);

@@ -125,7 +125,7 @@ fn assert_looped<H: AllocGlobal + Abort>(rt: &H, supply: &mut Supply) -> Result<
     Ok(())
 }
 
-/// A fault is told.
+/// A fault is reported.
 fn assert_unopened<H: AllocGlobal + Abort>(rt: &H, supply: &mut Supply) -> Result<(), Fail> {
     supply.before_call();
     let mut fault = fault_of(rt.alloc(), UNOPENED)?;
@@ -137,7 +137,8 @@ fn assert_unopened<H: AllocGlobal + Abort>(rt: &H, supply: &mut Supply) -> Resul
     Ok(())
 }
 
-/// Programs of both versions are read and printed, a list of items is copied, and a fault is told.
+/// Programs of both versions are read and printed, a list of items is copied, and a fault is
+/// reported.
 pub(super) fn program<H: AllocGlobal + Abort>(rt: &H, supply: &mut Supply) -> Result<(), Fail> {
     assert_read(rt, supply)?;
     assert_looped(rt, supply)?;
@@ -188,7 +189,7 @@ fn request<H: AllocGlobal>(
     }
 }
 
-/// Words that ask for something, and wrong words.
+/// Arguments that ask for something, and wrong ones.
 pub(super) fn words<H: AllocGlobal + Abort>(rt: &H, supply: &mut Supply) -> Result<(), Fail> {
     match request(rt, supply, &["spanprof", "whatif", "2=4", "1=5", "0=1"])? {
         Ok(Request::WhatIf { changes }) => assert_eq!(rt; changes.as_slice().len(), 3),

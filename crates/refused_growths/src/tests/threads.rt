@@ -12,7 +12,7 @@ use worker_run::record::RunFault;
 /// Room for the stacks of some threads, and not of 64.
 const SOME_STACKS: usize = 1 << 26;
 
-/// The fault of a run by so many workers with room for some stacks, if it told of one.
+/// The fault of a run by so many workers with room for some stacks, if it has one.
 fn fault_by<H: AllocGlobal + Threads + Wait + Abort + Sync>(
     rt: &H,
     supply: &mut Supply,

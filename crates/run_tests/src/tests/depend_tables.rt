@@ -1,4 +1,4 @@
-//! The kept siblings of worked lists and of random ones, beside the plain form.
+//! The kept siblings of worked lists and of random ones, compared with the plain form.
 ghost use Rattle.std.specs.Prelude.{◌<◌, ◌≤◌, All};
 
 mod plain;

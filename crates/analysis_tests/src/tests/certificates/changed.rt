@@ -1,5 +1,5 @@
 //! The worked certificate with one change to its claim, and with two, of which the first test that
-//! fails is told.
+//! fails is reported.
 use super::{ACCEPTED, Answer, SCHEDULE, assert_claim, assert_claims};
 use span_cert::CheckFault;
 use std::test::Fail;
@@ -109,7 +109,7 @@ fn starts_are_those_of_the_segments(rt: HostRuntime) -> Result<(), Fail> {
     assert_claims(&rt, rt.alloc(), OTHER_SEGMENTS, Err(CheckFault::WrongCount))
 }
 
-/// A claim with two faults, and which is told.
+/// A claim with two faults, and which is reported.
 const TWO_FAULTS: &[(&str, Answer)] = &[
     // the form and the numbers, the numbers and the order, the order and the end
     ("end 9 start 7 0 chain", Err(CheckFault::BadForm)),
@@ -132,7 +132,7 @@ const TWO_FAULTS: &[(&str, Answer)] = &[
     ),
 ];
 
-/// Two tests fail, and the one that comes first is told.
+/// Two tests fail, and the one that comes first is reported.
 #[test]
 fn first_failed_test_is_told(rt: HostRuntime) -> Result<(), Fail> {
     for (claim, wanted) in TWO_FAULTS {

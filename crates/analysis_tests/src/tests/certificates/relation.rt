@@ -3,7 +3,7 @@ use super::{Answer, assert_answer};
 use span_cert::{CheckFault, Checked};
 use std::test::Fail;
 
-/// Five siblings on one location, by their segments: 1 and 3 beside each other, then 5, then 7,
+/// Five siblings on one location, by their segments: 1 and 3 at the same time, then 5, then 7,
 /// then 9. The cost of 7 is left out.
 const BEFORE: &str =
     "omptasks 1\ntask depend(inoutset: x) { work 4 }\ntask depend(inoutset: x) { work 6 }\n\

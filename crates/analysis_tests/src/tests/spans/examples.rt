@@ -1,5 +1,5 @@
 //! The programs of the folder `examples`, without their comments, with what an independent program
-//! tells of them.
+//! answers about them.
 use super::Worked;
 
 const FIBONACCI: &str = "omptasks 1

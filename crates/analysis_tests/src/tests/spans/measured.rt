@@ -36,7 +36,7 @@ static TEXTS: [&str; 10] = [
         7 taskwait work 8 task { } taskgroup { } work 9",
 ];
 
-/// Tasks beside the root, segments, work and span.
+/// Tasks besides the root, segments, work and span.
 type Numbers = (u64, u64, u64, u64);
 
 fn by_meter(alloc: Global, text: &str) -> Result<Numbers, Fail> {

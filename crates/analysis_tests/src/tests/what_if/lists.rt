@@ -20,7 +20,7 @@ const LISTS: &[(&[(u32, u64)], Answers)] = &[
         &[(2, MOST - 8), (1, 2)],
         (Err(WhatFault::WorkTooLarge), (11, 9)),
     ),
-    // The first that is refused is told, and none is made.
+    // The first that is refused is reported, and none is made.
     (&[(2, 4), (4, 1)], (Err(WhatFault::UnknownSegment), (11, 9))),
     (
         &[(2, MOST + 1), (4, 1), (2, MOST)],

@@ -83,7 +83,7 @@ impl Kernel for Watch {
     }
 }
 
-/// The fault of a run of the worked program under the watch, if it told of one.
+/// The fault of a run of the worked program under the watch, if it has one.
 fn watched<R: Threads + Wait + Abort + Sync>(
     rt: &R,
     alloc: Global,
@@ -129,7 +129,7 @@ fn fits(faulty: u32, segment: u32, calls: u64) -> bool {
     }
 }
 
-/// The run told of the fault: its segment and those that precede it had their three calls, those
+/// The run reported the fault: its segment and those that precede it had their three calls, those
 /// that follow it none, and no segment a part of them.
 fn check_faulted<R: Threads + Wait + Abort + Sync>(
     rt: &R,

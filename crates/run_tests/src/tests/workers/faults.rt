@@ -32,7 +32,7 @@ impl Kernel for FaultyKernel {
     }
 }
 
-/// The segment at which a run of the worked program tells of a fault; after it a new table runs to
+/// The segment at which a run of the worked program has its fault; after it a new table runs to
 /// its end.
 fn fault_of<R: Threads + Wait + Abort + Sync>(
     rt: &R,

@@ -4,7 +4,7 @@ use std::sync::Wait;
 use std::test::Fail;
 use worker_run::news_count::NewsCount;
 
-/// News since a read is told from none.
+/// News since a read is distinguished from none.
 fn check_read(rt: &impl Abort, count: &NewsCount) {
     let before = count.read();
     assert_eq!(rt; count.read(), before);

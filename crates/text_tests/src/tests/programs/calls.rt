@@ -196,7 +196,7 @@ const FAULTS: &[ReadKind] = &[
     ReadKind::TooManyTurns,
 ];
 
-/// What is told of a fault.
+/// The message of a fault.
 fn told(alloc: Global, fault: ReadFault) -> Result<String, Fail> {
     Ok(format!(in alloc; "{fault}")?)
 }

@@ -342,7 +342,7 @@ const TWO_FAULTS: &[(&str, ReadKind)] = &[
     ),
 ];
 
-/// What is wrong with the text is told before what is wrong with its expansion.
+/// What is wrong with the text is reported before what is wrong with its expansion.
 #[test]
 fn text_before_expansion(rt: HostRuntime) -> Result<(), Fail> {
     for (body, kind) in TWO_FAULTS {
