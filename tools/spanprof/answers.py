@@ -133,7 +133,7 @@ class Answers:
         numbers = {name: number for number, name in enumerate(dict.fromkeys(names))}
         of_kind = [numbers[name] for name in names]
         self.noted("spanprof_large places < " + self.name)
-        return dict(zip(numbers, client.places(self.path, map(of_kind.__getitem__, self.code.of))))
+        return dict(zip(numbers, zip(*client.places(self.path, map(of_kind.__getitem__, self.code.of)))))
 
     def costs(self):
         """By place."""

@@ -12,11 +12,13 @@ from contextlib import contextmanager
 
 from spanprof.errors import Fault
 from spanprof.folders import found_at, other_places_of, places_of, words_in
+from spanprof.program_text import DIVIDER
 from spanprof.refusal import explained, of_whole
 from spanprof.text_file import PIECE, Document, TextFile, opened, read_once
 
 LARGE, SMALL = "spanprof_large", "spanprof"
 SUMS = ("segments", "work", "on_path", "path", "slack")    # of a place
+IDLE = ("delayed", "starved")       # of it in a run
 PLACES = [(name, places(name)) for places in (places_of, other_places_of) for name in (LARGE, SMALL)]
 NOT_FOUND = "spanprof_large, which %s, is not found; tools/prove_program.sh spanprof_large proves and builds it"
 HOW = NOT_FOUND % "measures it"
@@ -131,11 +133,12 @@ def columns(words, text, wanted):
     return out
 
 
-def places(path, numbers):
-    """Of the text in a file, of which each segment stands at the place of its number, the rows of `places`."""
+def places(path, numbers, wanted=SUMS, times=""):
+    """Of the text in a file, of which each segment stands at the place of its number, these columns of `places`."""
     if not takes_any_size():
         raise Fault(NOT_FOUND % "adds up by place")
-    return zip(*columns(["places"], Document(path, " ".join(map(str, numbers))), SUMS))
+    rest = " ".join(map(str, numbers)) + ("\n%s\n%s" % (DIVIDER, times) if times else "")
+    return columns(["places"], Document(path, rest), wanted)
 
 
 def named_numbers(lines):
