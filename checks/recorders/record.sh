@@ -132,8 +132,6 @@ expect "a unit" 0 spanprof-record --all --out unit --clock cpu --unit 100 -- ./l
 expect_word "a unit" 'costs in 100 ns of processor time'
 expect "JSON" 0 spanprof-record --all --force --json told.json -- ./llvm
 grep -q '"text": "llvm.spanprof"' told.json || fail "no JSON"
-expect "a page" 0 spanprof-record --all --force --html page.html -- ./llvm
-grep -q '</html>' page.html || fail "no page"
 printf '#!/bin/sh\nexec ./llvm\n' > script
 chmod +x script
 expect "a script" 0 spanprof-record --all -- ./script
@@ -240,7 +238,7 @@ if [ -x "$large" ]; then
     expect "a large recording" 0 spanprof-record --all --clock cpu -- ./many tree 13
     expect_titles "a large recording" 'many.spanprof, the'
     expect_word "a large recording" 'of the recorded text'
-    expect "a page of it" 0 spanprof-record --all --force --clock cpu --html large.html -- ./many tree 13
+    expect "a page of it" 0 spanprof-report many.spanprof -o large.html
     expect_word "a page of it" 'written: large.html'
     unset SPANPROF_LARGE
 else

@@ -86,7 +86,7 @@ class TimeBreakdown:
     by_processor: bool = False      # costs are read on that clock: then it is among what was preempted
     of_whole: bool = False  # the program, and not of a region
     left_out: int = 0       # code of the region that has no times here, and is idle
-    path: str = ""          # of the text
+    path: str = ""          # of the document
     rows: Optional[Rows] = None
     places: List[str] = field(default_factory=list)     # of the segments
 

@@ -37,7 +37,7 @@ class Printed(InFolder):
         return Answers(name=name, work=self.works.get(name, 100), head=Head(**dict(WHOLE, **self.heads.get(name, {}))))
 
     def told(self, *folders, things=(), rank=None, **options):
-        chosen = argparse.Namespace(**dict(dict(json=None, runs=1, all=True, against=None), **options))
+        chosen = argparse.Namespace(**dict(dict(json=None, runs=1, all=True), **options))
         made = mock.Mock(notes=["a note"], rank=rank, out=os.path.join(self.folder, "mine"), options=chosen,
                          work=argparse.Namespace(name="mine"))
         with mock.patch("spanprof.record.summaries.Answers", side_effect=self.answered), \
@@ -128,7 +128,7 @@ class Beyond(InFolder):
     def told(self, takes_any_size, fault):
         folder = recording(self.folder, **{"program.tasks": TEXT, "regions": None, "times": None})
         made = mock.Mock(notes=["a note"], rank=None, out=os.path.join(self.folder, "mine"),
-                         options=argparse.Namespace(json=None, runs=1, all=True, against=None))
+                         options=argparse.Namespace(json=None, runs=1, all=True))
         with mock.patch("spanprof.client.takes_any_size", return_value=takes_any_size), \
                 mock.patch("spanprof.record.summaries.Answers", side_effect=Fault(fault)), \
                 contextlib.redirect_stderr(io.StringIO()) as told:

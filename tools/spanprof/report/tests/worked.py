@@ -14,6 +14,7 @@ from spanprof.report.tests.worked_files import FOLDER, path
 from spanprof.report.true_times import NAMES, Point
 
 KEPT = path("answers.json")
+TEXTS = ("mesh", "split", "plain", "odd")
 
 
 def key(words, text):
@@ -104,21 +105,13 @@ def view(name="mesh", **more):
     with patched():
         made = view_without_page(name, **more)
         from spanprof.report.page import page
-        page([made])    # asks for all that the page needs
+        page(made)      # asks for all that the page needs
     return made
 
 
-def pages():
-    """Each page that the tests make, as names of texts."""
-    return [["mesh"], ["split"], ["plain"], ["odd"], ["mesh", "split"]]
-
-
-def page_text(names):
+def page_text(name):
     from spanprof.report.page import page
-    from spanprof.report.view import View
-    views = [View(path(name + ".tasks"), source=[FOLDER], prefix="other " if i else "")
-             for i, name in enumerate(names)]
-    return page(views)
+    return page(view_without_page(name))
 
 
 def noting(out, ask, key_of):
@@ -145,8 +138,8 @@ def asked_now():
             mock.patch("spanprof.time_breakdown.ask", times), \
             mock.patch("spanprof.report.view.true_times_beside", true_times_beside), \
             mock.patch("spanprof.report.view.diagnosis_of", return_value=None):
-        for names in pages():
-            wrong, _ = differences(page_text(names), [path(name + ".tasks") for name in names], asked)
+        for name in TEXTS:
+            wrong, _ = differences(page_text(name), path(name + ".tasks"), asked)
             if wrong:
                 sys.exit("\n".join(wrong))
     return out
