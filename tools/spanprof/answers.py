@@ -73,7 +73,7 @@ class Answers:
 
     def note(self, *words):
         shown = " ".join(words[:3]) + " .." * (len(words) > 3)
-        self.noted("%s %s < %s" % ("spanprof_large" if self.is_long else "spanprof", shown, self.name))
+        self.noted("spanprof_large %s < %s" % (shown, self.name))
 
     def ask(self, *words):
         self.note(*words)

@@ -190,9 +190,7 @@ def why_none(head):
     """Why the converter wrote no timed document; empty where nothing is known."""
     if any(remark.name in UNFINISHED for remark in head.remarks):
         return "tasks did not run to their ends"
-    if head.whole and client.takes_any_size():
-        return NO_TIMES_KEPT
-    return "" if not head.elapsed or client.takes_any_size() else client.HOW
+    return NO_TIMES_KEPT if head.whole else ""
 
 
 def recorded_breakdown(answers):

@@ -2,19 +2,16 @@
 of MPI of the one with the most work, and of the others a line each."""
 import os
 import shlex
-from typing import NamedTuple
 
-from spanprof import client
 from spanprof.answers import Answers
 from spanprof.breakdown_lines import lines_of
 from spanprof.command import show
 from spanprof.diagnosis.output import output_of
 from spanprof.errors import Fault
-from spanprof.head import Head, head_of
 from spanprof.record.console import tell
 from spanprof.record.counters import words_of
 from spanprof.record.ranks import is_child
-from spanprof.record.summary import named, other_region, remark_lines, summary, title
+from spanprof.record.summary import named, other_region, summary
 from spanprof.record.summary_json import run_json, summary_json, write_json
 from spanprof.record.waits import told as told_of_waits, waited_for, waits_of
 from spanprof.recording import open_recording
@@ -23,24 +20,10 @@ from spanprof.time_breakdown import recorded_breakdown
 
 MORE = "spanprof-report %s"
 
-BEYOND = ("TooLong", "TooDeep", "TooMany", "input too long")
-
 
 def answered(recording):
-    """None where the text is too long for the program that is there."""
     tell("reading " + recording.name)
-    try:
-        return Answers(recording)
-    except Fault as refused:
-        if client.takes_any_size() or not any(limit in str(refused) for limit in BEYOND):
-            raise
-        return None
-
-
-class Unmeasured(NamedTuple):
-    """Of a text that only spanprof_large takes, where that is not found."""
-    name: str
-    head: Head
+    return Answers(recording)
 
 
 def rank_line(recording, answers):
@@ -95,11 +78,7 @@ def print_measured(session, pairs, news, scale, is_cut):
 def print_summaries(session, recorded, scale=None):
     """Of the program and its ranks; children are told of as recordings that are there."""
     found = [open_recording(folder) for folder in recorded.found if not is_child(folder)]
-    pairs = [(one, answers) for one, answers in zip(found, map(answered, found)) if answers]
+    pairs = [(one, answered(one)) for one in found]
     remarks = {remark for _, answers in pairs for remark in answers.head.remarks}
     news = session.notes + recorded.said.news(session.out, [one.text for one in found], remarks)
-    if pairs:
-        print_measured(session, pairs, news, scale, recorded.said.is_cut)
-        return
-    told = Unmeasured(found[0].name, head_of(found[0].text))
-    show([title(told)] + named("warnings", remark_lines(told, [client.HOW] + list(news))))
+    print_measured(session, pairs, news, scale, recorded.said.is_cut)

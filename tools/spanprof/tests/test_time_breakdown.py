@@ -5,7 +5,6 @@ from array import array
 from unittest import mock
 
 from spanprof.breakdown_program import NoBreakdown
-from spanprof.client import HOW
 from spanprof.head import Lock
 from spanprof.record.tests.made_up import Answers, Head
 from spanprof.remarks import remark_of
@@ -109,9 +108,8 @@ class Beside(unittest.TestCase):
         self.made = answers()
         self.made.path = os.path.join(kept.name, "mine.tasks")
 
-    def beside(self, has_program=True):
-        with mock.patch("spanprof.time_breakdown.ask", told), \
-                mock.patch("spanprof.client.takes_any_size", lambda: has_program):
+    def beside(self):
+        with mock.patch("spanprof.time_breakdown.ask", told):
             found, why = recorded_breakdown(self.made)
         return found and found.busy, why
 
@@ -125,7 +123,6 @@ class Beside(unittest.TestCase):
 
     def test_why_there_is_none(self):
         self.assertEqual(self.beside(), (None, ""))
-        self.assertEqual(self.beside(has_program=False), (None, HOW))
         self.made.head.remarks = [remark_of({"remark": "unfinished task", "times": 1, "work": "low", "span": "low"})]
         self.assertEqual(self.beside(), (None, "tasks did not run to their ends"))
 

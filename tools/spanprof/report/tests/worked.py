@@ -72,7 +72,6 @@ class Patched:
     def __init__(self):
         kept = Kept()
         self.patches = [mock.patch("spanprof.client.ask", kept), mock.patch("spanprof.client.pieces", pieces_of(kept)),
-                        mock.patch("spanprof.client.takes_any_size", return_value=True),
                         mock.patch("spanprof.time_breakdown.ask", kept.of_times),
                         mock.patch("spanprof.report.view.true_times_beside", true_times_beside),
                         mock.patch("spanprof.report.view.diagnosis_of", return_value=None)]
@@ -132,8 +131,7 @@ def asked_now():
     from spanprof.report.tests.compare import differences
     out = {}
     asked = noting(out, client.ask, key)
-    of_times = time_breakdown.ask if client.takes_any_size() else Kept().of_times     # that program need not be there
-    times = noting(out, of_times, lambda words, file: key(["account", *words], document(file)))
+    times = noting(out, time_breakdown.ask, lambda words, file: key(["account", *words], document(file)))
     with mock.patch("spanprof.client.ask", asked), mock.patch("spanprof.client.pieces", pieces_of(asked)), \
             mock.patch("spanprof.time_breakdown.ask", times), \
             mock.patch("spanprof.report.view.true_times_beside", true_times_beside), \
