@@ -24,7 +24,7 @@ import random_programs as drawn  # noqa: E402
 import whole_graph  # noqa: E402
 from plain_path import Wrong, check_rows, rows_of, sums_by_place  # noqa: E402
 from spanprof.answers import Answers  # noqa: E402
-from spanprof.client import HOW, program, takes_any_size  # noqa: E402
+from spanprof.client import program  # noqa: E402
 from spanprof.errors import Fault  # noqa: E402
 from spanprof.report.places import places  # noqa: E402
 
@@ -130,9 +130,9 @@ def check(large, count):
 
 
 def main():
-    if not takes_any_size():
-        sys.exit("large_path: " + HOW)
     large = program()
+    if not large:
+        sys.exit("large_path: no spanprof_large")
     os.environ["SPANPROF_LARGE"] = " ".join(large)
     try:
         check(large, int(sys.argv[1]) if len(sys.argv) > 1 else 100)

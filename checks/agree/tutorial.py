@@ -2,10 +2,9 @@
 """Tries docs/TUNING.md letter by letter: all its commands, one after the other, in a fresh clone.
 
     checks/agree/tutorial.py [PROGRAM [LARGE]]
-A clone of what is committed, with a spanprof that is built already; gcc is needed. Where spanprof_large is not built,
-spanprof-path, which needs it, is left out. The page shows what commands print of kept texts, and nothing that is
-measured, so each number is compared; who answers may be another than a proved program. The clone must be as git left it
-afterwards, but for what git ignores.
+A clone of what is committed, with programs that are built already; gcc is needed. The page shows what commands print of
+kept texts, and nothing that is measured, so each number is compared; who answers may be another than a proved program.
+The clone must be as git left it afterwards, but for what git ignores.
 """
 import os
 import re
@@ -34,18 +33,10 @@ def fresh_clone(programs):
 
 
 def named_programs(words):
-    """The paths of the programs by their names; spanprof_large may be missing."""
+    """The paths of the programs by their names."""
     paths = [os.path.join(TOP, "crates", name, "out", name) for name in PROGRAMS]
     paths[:len(words)] = map(os.path.abspath, words)
-    return {name: path for name, path in zip(PROGRAMS, paths) if name == "spanprof" or os.access(path, os.X_OK)}
-
-
-def commands_for(programs, document):
-    for command, expected in commands(document):
-        if "spanprof_large" in programs or not command.startswith("spanprof-path"):
-            yield command, expected
-        else:
-            print("left out: " + command)
+    return dict(zip(PROGRAMS, paths))
 
 
 def run_all(pairs, folder):
@@ -79,13 +70,14 @@ def left_behind(folder):
 
 def main():
     programs = named_programs(sys.argv[1:])
-    if not os.access(programs["spanprof"], os.X_OK):
-        sys.exit("no program " + programs["spanprof"])
+    for program in programs.values():
+        if not os.access(program, os.X_OK):
+            sys.exit("no program " + program)
     if not shutil.which("gcc"):
         print("skipped: gcc is missing")
         return
     folder = fresh_clone(programs)
-    pairs, wrong = list(commands_for(programs, os.path.join(folder, DOCUMENT))), 0
+    pairs, wrong = list(commands(os.path.join(folder, DOCUMENT))), 0
     ends = run_all(pairs, folder)
     for (command, expected), (printed, status) in zip(pairs, ends):
         told = fault(expected, printed, status)

@@ -56,7 +56,7 @@ spanprof_large pl|places
 spanprof_large cer|certify
 spanprof-record --uni|--unit
 spanprof-record --clock c|cpu
-spanprof-record --html mi|mine.html
+spanprof-report -o mi|mine.html
 spanprof-report mi|mine.tasks
 spanprof-report mine.tasks --source so|sources
 spanprof-path mi|mine.tasks

@@ -66,8 +66,10 @@ record_causes() { # programs of checks/programs/causes as their users would, wit
     for cause in serial dependence wait lock; do
         "clang++-$llvm" -O2 -g -fopenmp "checks/programs/causes/$cause.cpp" -o "$folder/$cause" "${llvm_flags[@]}"
         (cd checks/programs/causes && ../../../tools/spanprof-record --out "$folder/cause_$cause" --threads 4 \
-            --html "$folder/cause_$cause.html" -- "$folder/$cause") > /dev/null 2> "$folder/cause_$cause.said" ||
+            -- "$folder/$cause") > /dev/null 2> "$folder/cause_$cause.said" ||
             fail "$cause cannot be recorded: $(tail -1 "$folder/cause_$cause.said")"
+        tools/spanprof-report "$folder/cause_$cause.spanprof" --source checks/programs/causes > /dev/null ||
+            fail "$cause has no page"
     done
     checks/programs/page/first_screens.py "$folder" cause_serial cause_dependence cause_wait cause_lock ||
         fail "first screens"
@@ -120,13 +122,11 @@ large_page() { # where spanprof_large is built
     rm -f "$folder"/million.*
 }
 
-make_page() { # NAME OPTION ..: the page of a text of the folder, and its numbers; further texts by --with
-    local name=$1 other=()
-    shift
-    [ "${1:-}" = --with ] && other=("$2")
-    tools/spanprof-report "$folder/$name.tasks" -o "$folder/$name.html" --source examples/openmp "$@" ||
+make_page() { # NAME: the page of a text of the folder, and its numbers
+    local name=$1
+    tools/spanprof-report "$folder/$name.tasks" -o "$folder/$name.html" --source examples/openmp ||
         { fail "$name has no page"; return; }
-    (cd tools && python3 -m spanprof.report.tests.compare "$folder/$name.html" "$folder/$name.tasks" "${other[@]}") \
+    (cd tools && python3 -m spanprof.report.tests.compare "$folder/$name.html" "$folder/$name.tasks") \
         > "$folder/compared" || { fail "$name:"; head -20 "$folder/compared"; }
     echo "$name: $(tail -1 "$folder/compared"), $(wc -c < "$folder/$name.html") bytes"
 }
@@ -156,17 +156,7 @@ for name in "${names[@]}"; do
 done
 time tools/spanprof-report "$folder/large.tasks" -o "$folder/large.html" 2> /dev/null
 make_page large
-for pair in kept_merge_sort:kept_merge_sort_split kept_wavefront:kept_wavefront_overlapped \
-        merge_sort-wall:merge_sort_split-wall wavefront-cpu:wavefront_overlapped-cpu; do
-    first=${pair%:*} second=${pair#*:}
-    [ -e "$folder/$first.tasks" ] || continue
-    for ending in tasks timed; do
-        [ ! -e "$folder/$first.$ending" ] || cp "$folder/$first.$ending" "$folder/${first}_and_other.$ending"
-    done
-    make_page "${first}_and_other" --with "$folder/$second.tasks"
-    names+=("${first}_and_other")
-done
-if [ -n "$only_kept" ]; then names=(kept_merge_sort kept_merge_sort_and_other large); fi
+if [ -n "$only_kept" ]; then names=(kept_merge_sort kept_wavefront large); fi
 visit "$folder" "${names[@]}"
 echo "$wrong wrong"
 [ "$wrong" -eq 0 ]

@@ -132,8 +132,6 @@ expect "a unit" 0 spanprof-record --all --out unit --clock cpu --unit 100 -- ./l
 expect_word "a unit" 'costs in 100 ns of processor time'
 expect "JSON" 0 spanprof-record --all --force --json told.json -- ./llvm
 grep -q '"text": "llvm.spanprof"' told.json || fail "no JSON"
-expect "a page" 0 spanprof-record --all --force --html page.html -- ./llvm
-grep -q '</html>' page.html || fail "no page"
 printf '#!/bin/sh\nexec ./llvm\n' > script
 chmod +x script
 expect "a script" 0 spanprof-record --all -- ./script
@@ -234,21 +232,11 @@ expect_word "no recording" 'spanprof-convert: none.spanprof: no such folder; a r
 echo "a recording once more"
 
 "clang-$llvm" -g -O1 -fopenmp "$top/checks/agree/large_recordings/program.c" -o many "${llvm_flags[@]}"
-large=${SPANPROF_LARGE:-$top/crates/spanprof_large/out/spanprof_large}
-if [ -x "$large" ]; then
-    export SPANPROF_LARGE=$large
-    expect "a large recording" 0 spanprof-record --all --clock cpu -- ./many tree 13
-    expect_titles "a large recording" 'many.spanprof, the'
-    expect_word "a large recording" 'of the recorded text'
-    expect "a page of it" 0 spanprof-record --all --force --clock cpu --html large.html -- ./many tree 13
-    expect_word "a page of it" 'written: large.html'
-    unset SPANPROF_LARGE
-else
-    echo "skipped: a summary of a large recording: no program $large"
-fi
-expect "a large recording by spanprof alone" 0 spanprof-record --all --force --clock cpu -- ./many tree 13
-expect_titles "a large recording by spanprof alone" 'many.spanprof, the'
-expect_word "a large recording by spanprof alone" 'spanprof_large, which measures it, is not found'
+expect "a large recording" 0 spanprof-record --all --clock cpu -- ./many tree 13
+expect_titles "a large recording" 'many.spanprof, the'
+expect_word "a large recording" 'of the recorded text'
+expect "a page of it" 0 spanprof-report many.spanprof -o large.html
+expect_word "a page of it" 'written: large.html'
 # A text is longer than its log, so that a limit between both stands for a full disk.
 limit=$(($(du -k many.spanprof/log/* | sort -n | tail -1 | cut -f1) + 100))
 (ulimit -f $limit; expect "no room for the text" 125 spanprof-record --out full -- ./many tree 16)
@@ -300,8 +288,8 @@ expect_error 125 '--out no/x: there is no folder no' spanprof-record --out no/x 
 expect_error 125 '--runtime none: no such file' spanprof-record --runtime none -- ./llvm
 expect "wrong words" 2 spanprof-record --all --unit hours -- ./llvm
 expect_word "wrong words" 'a unit is ns, us, ms, or nanoseconds up to 1000000000'
-SPANPROF=/none expect "no spanprof" 125 spanprof-record --all -- ./llvm
-expect_word "no spanprof" '/none: No such file or directory'
+SPANPROF_LARGE=/none expect "no program" 125 spanprof-record --all -- ./llvm
+expect_word "no program" '/none: No such file or directory'
 echo "errors"
 
 echo "$wrong wrong"

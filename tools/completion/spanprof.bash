@@ -86,10 +86,9 @@ _spanprof_record() {
     case $before in
         --unit) _spanprof_among "$current" ns us ms ;;
         --clock) _spanprof_among "$current" wall cpu ;;
-        --html) _spanprof_files "$current" .html ;;
         --json) _spanprof_files "$current" .json ;;
-        --out | --runtime | --against) _spanprof_files "$current" ;;
-        --threads | --runs | --scale | --fail-above) ;;
+        --out | --runtime) _spanprof_files "$current" ;;
+        --threads | --runs | --scale) ;;
         *) case $current in
             -*) _spanprof_among "$current" -- "$(_spanprof_options "${COMP_WORDS[0]}")" ;;
             *) _spanprof_files "$current" ;;
@@ -115,7 +114,7 @@ _spanprof_report() {
     case $before in
         -o | --output) _spanprof_files "$current" .html ;;
         --trace) _spanprof_files "$current" .json ;;
-        --folded | --pprof) _spanprof_files "$current" ;;
+        --folded) _spanprof_files "$current" ;;
         --source) _spanprof_folders "$current" ;;
         --threads) ;;
         *) case $current in

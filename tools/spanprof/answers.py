@@ -73,7 +73,7 @@ class Answers:
 
     def note(self, *words):
         shown = " ".join(words[:3]) + " .." * (len(words) > 3)
-        self.noted("%s %s < %s" % ("spanprof_large" if self.is_long else "spanprof", shown, self.name))
+        self.noted("spanprof_large %s < %s" % (shown, self.name))
 
     def ask(self, *words):
         self.note(*words)
@@ -133,7 +133,7 @@ class Answers:
         numbers = {name: number for number, name in enumerate(dict.fromkeys(names))}
         of_kind = [numbers[name] for name in names]
         self.noted("spanprof_large places < " + self.name)
-        return dict(zip(numbers, client.places(self.path, map(of_kind.__getitem__, self.code.of))))
+        return dict(zip(numbers, zip(*client.places(self.path, map(of_kind.__getitem__, self.code.of)))))
 
     def costs(self):
         """By place."""

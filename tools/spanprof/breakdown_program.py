@@ -32,8 +32,6 @@ def in_words(line):
 
 def ask(words, path):
     """What the program prints of the timed document in a file, with these words behind `account`."""
-    if not client.takes_any_size():
-        raise NoBreakdown(client.HOW)
     try:
         with naming(path), open(path, "rb") as document:
             done = client.run(["account", *words], document)

@@ -1,8 +1,7 @@
 """What the proved program answers of a text of any size.
 
-SPANPROF_LARGE, or else SPANPROF, in the environment is the program, and may be several words. Without them
-spanprof_large is looked for on the PATH, and then in the repository, or where `make install` has put it; `spanprof`
-takes its place where there is none, and keeps its limits. Without either the two are looked for without proofs.
+SPANPROF_LARGE in the environment is the program, and may be several words. Without it spanprof_large is looked for on
+the PATH, then in the repository or where `make install` has put it, and then without proofs.
 """
 import os
 import subprocess
@@ -11,28 +10,19 @@ from concurrent.futures import ThreadPoolExecutor
 from contextlib import contextmanager
 
 from spanprof.errors import Fault
-from spanprof.folders import found_at, other_places_of, places_of, words_in
+from spanprof.folders import other_places_of, places_of, words_for
+from spanprof.program_text import DIVIDER
 from spanprof.refusal import explained, of_whole
 from spanprof.text_file import PIECE, Document, TextFile, opened, read_once
 
-LARGE, SMALL = "spanprof_large", "spanprof"
+LARGE = "spanprof_large"
 SUMS = ("segments", "work", "on_path", "path", "slack")    # of a place
-PLACES = [(name, places(name)) for places in (places_of, other_places_of) for name in (LARGE, SMALL)]
-NOT_FOUND = "spanprof_large, which %s, is not found; tools/prove_program.sh spanprof_large proves and builds it"
-HOW = NOT_FOUND % "measures it"
-
-
-def takes_any_size():
-    """Whether spanprof_large answers, and not only `spanprof`."""
-    if words_in("SPANPROF_LARGE") or words_in("SPANPROF"):
-        return bool(words_in("SPANPROF_LARGE"))
-    return os.path.basename((program() or [""])[0]) == LARGE
+IDLE = ("delayed", "starved")       # of it in a run
 
 
 def program():
     """The words that start the program; none where it is not found."""
-    named = words_in("SPANPROF_LARGE") or words_in("SPANPROF")
-    return named or next(filter(None, (found_at(*pair) for pair in PLACES)), [])
+    return words_for(LARGE, places_of(LARGE) + other_places_of(LARGE))
 
 
 class Refused(Fault):
@@ -72,7 +62,7 @@ def starting(words):
     try:
         yield
     except OSError as error:
-        where = next((name for name in ("SPANPROF_LARGE", "SPANPROF") if os.environ.get(name)), "spanprof")
+        where = LARGE.upper() if os.environ.get(LARGE.upper()) else LARGE
         raise Fault("%s: %s: %s; README.md says how to build it" % (where, words[0], error.strerror)) from error
 
 
@@ -131,11 +121,10 @@ def columns(words, text, wanted):
     return out
 
 
-def places(path, numbers):
-    """Of the text in a file, of which each segment stands at the place of its number, the rows of `places`."""
-    if not takes_any_size():
-        raise Fault(NOT_FOUND % "adds up by place")
-    return zip(*columns(["places"], Document(path, " ".join(map(str, numbers))), SUMS))
+def places(path, numbers, wanted=SUMS, times=""):
+    """Of the text in a file, of which each segment stands at the place of its number, these columns of `places`."""
+    rest = " ".join(map(str, numbers)) + ("\n%s\n%s" % (DIVIDER, times) if times else "")
+    return columns(["places"], Document(path, rest), wanted)
 
 
 def named_numbers(lines):
@@ -145,7 +134,7 @@ def named_numbers(lines):
 
 
 def numbers(text):
-    """Segments, work and span of a text, and its tasks where spanprof_large tells them."""
+    """Tasks, segments, work and span of a text."""
     try:
         found = named_numbers(ask(["span"], text))
     except ValueError:

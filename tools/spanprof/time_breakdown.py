@@ -4,11 +4,12 @@ import os
 from array import array
 from dataclasses import dataclass, field
 from functools import cached_property
+from heapq import heappop, heappush
+from itertools import count
 from typing import List, NamedTuple, Optional
 
 from spanprof import client
 from spanprof.breakdown_program import NoBreakdown, ask
-from spanprof.idle import idle_by_place
 from spanprof.recording import document, open_recording
 from spanprof.remarks import UNFINISHED
 from spanprof.text_file import PIECE
@@ -34,6 +35,29 @@ class Rows(NamedTuple):
     @classmethod
     def of(cls, rows):
         return cls(*(array("q", column) for column in zip(*rows)))
+
+    @property
+    def on_few_threads(self):
+        """The same on no more threads than ran at once."""
+        threads, free, running = array("q", bytes(8 * len(self.begin))), [], []
+        for segment in sorted(range(len(threads)), key=self.begin.__getitem__):
+            begin, end = self.begin[segment], self.end[segment]
+            while running and running[0][0] <= begin:
+                free.append(heappop(running)[1])
+            if end > begin:
+                threads[segment] = free.pop() if free else len(running)
+                heappush(running, (end, threads[segment]))
+        return self._replace(thread=threads)
+
+
+def idle_by_place(path, rows, places, threads, elapsed):
+    """Delayed and starved time by the places of segments, the longest first, as spanprof_large adds it up."""
+    names, first = list(dict.fromkeys(places)), rows.ready[0]
+    numbers = {name: number for number, name in enumerate(names)}
+    times = ["times %d %d %d" % (threads, first, first + elapsed)]
+    times += map("%d %d %d %d".__mod__, zip(count(), rows.thread, rows.begin, rows.end))
+    found = client.places(path, map(numbers.get, places), client.IDLE, "\n".join(times))
+    return [{name: part for part, name in sorted(zip(parts, names), reverse=True) if part} for parts in found]
 
 
 @dataclass
@@ -62,6 +86,7 @@ class TimeBreakdown:
     by_processor: bool = False      # costs are read on that clock: then it is among what was preempted
     of_whole: bool = False  # the program, and not of a region
     left_out: int = 0       # code of the region that has no times here, and is idle
+    path: str = ""          # of the document
     rows: Optional[Rows] = None
     places: List[str] = field(default_factory=list)     # of the segments
 
@@ -85,9 +110,7 @@ class TimeBreakdown:
         """Delayed and starved time by place: the parts add up to the sums. Without rows there are no places."""
         if not self.rows:
             return {}, {}
-        found = idle_by_place(self.rows, self.places, self.threads)
-        assert [sum(parts.values()) for parts in found] == [self.delayed, self.starved], "the rows have other sums"
-        return found
+        return idle_by_place(self.path, self.rows, self.places, self.threads, self.elapsed)
 
     @property
     def delayed_by(self):
@@ -142,7 +165,7 @@ def divide_busy(found, head, work):
 def breakdown_of(head, work, path, places=()):
     """That of the timed document in a file, which is a run of the text. Without the places of its segments, as of a
     long text, the rows are not asked for, and idle time has no places."""
-    found = TimeBreakdown(**client.named_numbers(ask([], path)), places=list(places))
+    found = TimeBreakdown(**client.named_numbers(ask([], path)), path=path, places=list(places))
     if places:
         found.rows = read_rows(ask(["--rows"], path))
         if len(found.rows.thread) != len(places):
@@ -167,9 +190,7 @@ def why_none(head):
     """Why the converter wrote no timed document; empty where nothing is known."""
     if any(remark.name in UNFINISHED for remark in head.remarks):
         return "tasks did not run to their ends"
-    if head.whole and client.takes_any_size():
-        return NO_TIMES_KEPT
-    return "" if not head.elapsed or client.takes_any_size() else client.HOW
+    return NO_TIMES_KEPT if head.whole else ""
 
 
 def recorded_breakdown(answers):

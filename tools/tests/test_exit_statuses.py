@@ -19,7 +19,7 @@ CASES = {  # by tool, words and the status with which they end it; {text} and {l
     "conformance": (("--nothing", 2), ("emit {none}", 2), ("emit {log}", 2), ("run --cc {none}", 2)),
 }
 # Those that need a compiler or two recordings.
-OTHERS = {"conformance": {1, 130}, "report": {3}, "record": {3}}
+OTHERS = {"conformance": {1, 130}, "report": {3}}
 
 
 def told_in(words):
@@ -43,7 +43,7 @@ class Statuses(unittest.TestCase):
     def run_tool(self, tool, words):
         words = [word.format(**self.names) for word in words.split()]
         return subprocess.run([os.path.join(TOOLS, "spanprof-" + tool), *words], capture_output=True, text=True,
-                              env={**os.environ, "SPANPROF": "/bin/true", "PATH": self.path}, check=False)
+                              env={**os.environ, "SPANPROF_LARGE": "/bin/true", "PATH": self.path}, check=False)
 
     def test_each(self):
         for tool, cases in CASES.items():

@@ -33,7 +33,7 @@ def segments_are_chosen(page):
     page.mouse("mousePressed", bar["x"], bar["y"], button="left", buttons=1, clickCount=1)
     page.mouse("mouseReleased", bar["x"], bar["y"], button="left", clickCount=1)
     seen = page.evaluate("""(() => {
-      const lanes = allLanes[0], { before, after } = lanes.program.waits, of = (list) => list[lanes.chosen] || [];
+      const lanes = allLanes[0], { before, after } = program.waits, of = (list) => list[lanes.chosen] || [];
       const count = (name) => lanes.element.querySelectorAll('path.' + name + ':not(.head)').length;
       return {chosen: lanes.chosen, arrows: [count('waited'), count('waits')],
               wanted: [before, after].map((list) => Math.min(MOST_ARROWS, lanes.chosen === null ? 0

@@ -81,7 +81,7 @@ def try_driving(browser, path, text, program):
 def text_of(path):
     """The text that a page is of; it lies beside the page."""
     with open(path, encoding="utf-8") as file:
-        name = re.search(r'\{"programs":\[\{"name":("(?:[^"\\]|\\.)*")', file.read())[1]
+        name = re.search(r'id="data">\{"name":("(?:[^"\\]|\\.)*")', file.read())[1]
     return os.path.join(os.path.dirname(path), json.loads(name))
 
 

@@ -19,7 +19,6 @@ from spanprof.diagnosis.places import A_START, AROUND_REGIONS, TASK, in_text, re
 from spanprof.diagnosis.undisturbed import is_disturbed, set_disturbed, starved_alone
 from spanprof.errors import reading
 from spanprof.head import head_of
-from spanprof.idle import idle_by_place, most_at_once
 from spanprof.program_text import BEGINNING
 from spanprof.recording import document
 from spanprof.regions import program_of, union
@@ -166,13 +165,14 @@ def function_in(words):
 
 def of_those_at_once(found, threads):
     """The account of as many threads as the program had at a time: nested regions may each make new ones."""
-    if len(set(found.rows.thread)) > threads:   # a thread runs one at a time
-        threads = max(threads, most_at_once(found.rows))
+    rows = found.rows.on_few_threads
+    threads = max(threads, 1 + max(rows.thread))
     if threads == found.threads:
         return found
-    delayed, starved = (sum(parts.values()) for parts in idle_by_place(found.rows, found.places, threads))
-    return replace(found, threads=threads, delayed=delayed, starved=starved,
-                   outside=threads * found.elapsed - found.busy - delayed - starved)
+    found = replace(found, threads=threads, rows=rows)
+    found.delayed, found.starved = (sum(parts.values()) for parts in found.idle)
+    found.outside = found.whole - found.busy - found.delayed - found.starved
+    return found
 
 
 def starting_shares(found):
@@ -192,7 +192,7 @@ def set_breakdown(facts, found):
     for name, part in found.parts.items():
         setattr(facts, name.replace(" ", "_"), part)
     facts.starting_by = starting_shares(found)
-    facts.delayed_by, facts.starved_by = idle_by_place(found.rows, found.places, found.threads)
+    facts.delayed_by, facts.starved_by = found.idle
 
 
 def greedy_end(path, threads):

@@ -2,9 +2,8 @@
 time in which a thread was preempted, so a schedule of the text tells how the run would have gone without them."""
 from spanprof import client
 from spanprof.diagnosis.losses import divided
-from spanprof.idle import idle_by_place
 from spanprof.text_file import TextFile
-from spanprof.time_breakdown import Rows
+from spanprof.time_breakdown import Rows, idle_by_place
 
 LITTLE = 0.02       # of the time in code: threads preempted for less keep others waiting for little
 MOST = 300000       # segments of a text whose schedule is asked for: some seconds
@@ -17,11 +16,13 @@ def is_disturbed(facts):
 
 def starved_alone(path, places, threads):
     """By place, how long threads starve in the greedy run of a text; nothing where that takes too much memory."""
+    words = ["greedy", "--threads", str(threads)]
     try:
-        begin, end = client.columns(["greedy", "--threads", str(threads)], TextFile(path), ["start", "end"])
+        begin, end = client.columns(words, TextFile(path), ["start", "end"])
+        rows = Rows(begin, begin, begin, end).on_few_threads
+        return idle_by_place(path, rows, places, threads, max(end))[1]
     except client.Refused:
         return {}
-    return idle_by_place(Rows(begin, begin, begin, end), places, threads)[1]
 
 
 def set_disturbed(facts, alone):

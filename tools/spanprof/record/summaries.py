@@ -2,20 +2,16 @@
 of MPI of the one with the most work, and of the others a line each."""
 import os
 import shlex
-from typing import NamedTuple
 
-from spanprof import client
 from spanprof.answers import Answers
 from spanprof.breakdown_lines import lines_of
 from spanprof.command import show
-from spanprof.diagnosis.compare import compared, lines as comparison_lines
 from spanprof.diagnosis.output import output_of
 from spanprof.errors import Fault
-from spanprof.head import Head, head_of
 from spanprof.record.console import tell
 from spanprof.record.counters import words_of
 from spanprof.record.ranks import is_child
-from spanprof.record.summary import named, other_region, remark_lines, summary, title
+from spanprof.record.summary import named, other_region, summary
 from spanprof.record.summary_json import run_json, summary_json, write_json
 from spanprof.record.waits import told as told_of_waits, waited_for, waits_of
 from spanprof.recording import open_recording
@@ -24,24 +20,10 @@ from spanprof.time_breakdown import recorded_breakdown
 
 MORE = "spanprof-report %s"
 
-BEYOND = ("TooLong", "TooDeep", "TooMany", "input too long")
-
 
 def answered(recording):
-    """None where the text is too long for the program that is there."""
     tell("reading " + recording.name)
-    try:
-        return Answers(recording)
-    except Fault as refused:
-        if client.takes_any_size() or not any(limit in str(refused) for limit in BEYOND):
-            raise
-        return None
-
-
-class Unmeasured(NamedTuple):
-    """Of a text that only spanprof_large takes, where that is not found."""
-    name: str
-    head: Head
+    return Answers(recording)
 
 
 def rank_line(recording, answers):
@@ -59,21 +41,11 @@ def diagnosed(recording, is_cut=False):
         return None, "no diagnosis: %s" % wrong
 
 
-def print_diagnosis(session, recording, news, is_cut):
-    """And how it differs from an earlier recording; answers it, or none and why."""
+def print_summary(options, recording, answers, others, news, scale, is_cut):
     diagnosis, why = diagnosed(recording, is_cut)
     if diagnosis:
         paths = os.path.relpath(recording.folder), os.path.abspath(recording.folder)
         show(diagnosis.lines(MORE % shlex.quote(min(paths, key=len)), news))
-    if diagnosis and session.options.against:
-        session.comparison = compared(output_of(open_recording(session.options.against)), diagnosis)
-        show(comparison_lines(session.comparison))
-    return diagnosis, why
-
-
-def print_summary(session, recording, answers, others, news, scale, is_cut):
-    options = session.options
-    diagnosis, why = print_diagnosis(session, recording, news, is_cut)
     if is_cut and not options.all:
         show(["%s: %s" % (recording.name, words) for words in news + [why]])
     if (diagnosis or is_cut) and not (options.all or options.json):
@@ -91,28 +63,22 @@ def print_summary(session, recording, answers, others, news, scale, is_cut):
 
 def print_measured(session, pairs, news, scale, is_cut):
     """Of recordings and what is answered of them: a summary of the rank that the others wait for, or of that with the
-    most work, and of the others a line each. Answers which recording that is."""
+    most work, and of the others a line each."""
     if session.rank is not None:    # of one process of MPI, beside which others tell theirs
         show([rank_line(*pair) for pair in pairs] + ["%s: %s" % (session.work.name, one) for one in news])
-        return pairs[0][0]
+        return
     waits = list(filter(None, (waits_of(recording) for recording, _ in pairs)))
     late, ranks = waited_for(waits), told_of_waits(waits)
     first = max(pairs, key=lambda pair: (late is not None and waits_of(pair[0]) == late, pair[1].work))
     others = [rank_line(*pair) for pair in pairs if pair is not first]
-    print_summary(session, *first, others, news, scale, is_cut)
+    print_summary(session.options, *first, others, news, scale, is_cut)
     show(["rank  " + ranks] if ranks else [])
-    return first[0]
 
 
 def print_summaries(session, recorded, scale=None):
-    """Of the program and its ranks; children are told of as recordings that are there. Answers the recording whose
-    summary it is, for a page; None where there is none."""
+    """Of the program and its ranks; children are told of as recordings that are there."""
     found = [open_recording(folder) for folder in recorded.found if not is_child(folder)]
-    pairs = [(one, answers) for one, answers in zip(found, map(answered, found)) if answers]
+    pairs = [(one, answered(one)) for one in found]
     remarks = {remark for _, answers in pairs for remark in answers.head.remarks}
     news = session.notes + recorded.said.news(session.out, [one.text for one in found], remarks)
-    if pairs:
-        return print_measured(session, pairs, news, scale, recorded.said.is_cut)
-    told = Unmeasured(found[0].name, head_of(found[0].text))
-    show([title(told)] + named("warnings", remark_lines(told, [client.HOW] + list(news))))
-    return None
+    print_measured(session, pairs, news, scale, recorded.said.is_cut)

@@ -11,7 +11,7 @@ from spanprof.errors import Fault
 from spanprof.progress import Progress
 from spanprof.recording import open_recording, text_of
 from spanprof.report.page import page
-from spanprof.report.stacks import folded, pprof, stacks
+from spanprof.report.stacks import folded, stacks
 from spanprof.report.trace_events import trace_text
 from spanprof.report.view import View
 from spanprof.version import Version
@@ -34,7 +34,7 @@ def beside(text):
 
 def outputs(chosen):
     """The files that are asked for, and what each is."""
-    asked = {"page": chosen.output, "trace": chosen.trace, "stacks": chosen.folded, "profile": chosen.pprof}
+    asked = {"page": chosen.output, "trace": chosen.trace, "stacks": chosen.folded}
     return [(path, what) for what, path in asked.items() if path]
 
 
@@ -48,7 +48,6 @@ def arguments(words):
     add("--fail-above", type=percent, metavar="5%", help="exit with status 3 if AFTER is slower by more than this")
     add("-o", "--output", metavar="MINE.html",
         help="write the page to this file (default: MINE.html, unless another output is asked for)")
-    add("--with", dest="other", metavar="OTHER.spanprof", help="show a second recording on the page, too")
     add("--threads", type=count(1, MOST_THREADS), metavar="P",
         help="threads of the greedy schedule (default: as many as were recorded)")
     add("--source", action="append", metavar="FOLDER",
@@ -56,7 +55,6 @@ def arguments(words):
     add("--trace", metavar="FILE.json", help="write a trace for ui.perfetto.dev and speedscope.app")
     add("--folded", metavar="FILE",
         help="write the samples of calls as folded stacks for flamegraph.pl and speedscope.app")
-    add("--pprof", metavar="FILE.pb.gz", help="write them in the format of pprof")
     add("--json", action="store_true", help="print the diagnosis as JSON")
     add("--version", action=Version)
     chosen = parser.parse_args(words)
@@ -68,49 +66,41 @@ def check_words(parser, chosen):
     """Ends the process where they exclude each other; the page has a name then, where it is asked for."""
     if chosen.fail_above is not None and not chosen.after:
         parser.error("--fail-above compares two recordings: name a second one")
-    if chosen.after and (chosen.other or outputs(chosen)):
-        parser.error("two recordings are compared in lines, or by --json; --with OTHER.spanprof shows both on a page")
+    if chosen.after and outputs(chosen):
+        parser.error("two recordings are compared in lines, or by --json")
     if not (chosen.after or outputs(chosen) or chosen.json):
         chosen.output = beside(chosen.program)
-    if chosen.other and not chosen.output:
-        parser.error("--with is for a page, which -o names; a second recording without --with is compared")
     paths = [os.path.realpath(path) for path, _ in outputs(chosen)]
     if len(set(paths)) < len(paths):
-        parser.error("-o, --trace, --folded and --pprof are for different files")
+        parser.error("-o, --trace and --folded are for different files")
 
 
 def write(path, text):
-    data = text if isinstance(text, bytes) else text.encode("utf-8", "replace")     # a file's name may be no UTF-8
     with writing(path, "wb") as file:
-        file.write(data)
+        file.write(text.encode("utf-8", "replace"))     # a file's name may be no UTF-8
 
 
 def write_the_rest(chosen, progress):
     """What was asked for; what was written is told."""
     if chosen.json:
         print(json.dumps(output_of(open_recording(chosen.program), chosen.source or ()).json(), indent=2))
-    written = outputs(chosen)
-    texts = ((chosen.program, ""), (chosen.other, "other ")) if chosen.output or chosen.trace else ()
-    views = [View(text, chosen.threads, chosen.source, prefix, progress) for text, prefix in texts if text]
-    if chosen.trace and views[0].is_long:
+    view = View(chosen.program, chosen.threads, chosen.source, progress) if chosen.output or chosen.trace else None
+    if chosen.trace and view.is_long:
         raise Fault("%s: the text is beyond the limits of spanprof, and has no --trace" % chosen.program)
-    made = {"page": lambda: page(views, progress), "trace": lambda: trace_text(views[0]),
-            "stacks": lambda: folded(stacks(open_recording(chosen.program))),
-            "profile": lambda: pprof(stacks(open_recording(chosen.program)))}
-    for path, what in written:
+    made = {"page": lambda: page(view, progress), "trace": lambda: trace_text(view),
+            "stacks": lambda: folded(stacks(open_recording(chosen.program)))}
+    for path, what in outputs(chosen):
         write(path, made[what]())
     progress.end()
-    show(["spanprof-report: written: %s" % path for path, _ in written])
-    if chosen.output not in (None, "-") and views[0].diagnosis:
-        show(views[0].diagnosis.lines(), sys.stdout)
+    show(["spanprof-report: written: %s" % path for path, _ in outputs(chosen)])
+    if chosen.output not in (None, "-") and view.diagnosis:
+        show(view.diagnosis.lines(), sys.stdout)
 
 
 def check(chosen):
     """Whether all files and folders are there, and none of the files would be lost."""
-    for path in (chosen.program, chosen.other):
-        for output, what in outputs(chosen) or [(None, "")]:
-            if path is not None:
-                check_files(path, output, what)
+    for output, what in outputs(chosen) or [(None, "")]:
+        check_files(chosen.program, output, what)
     for folder in chosen.source or []:
         if not os.path.isdir(folder):
             raise Fault("--source %s: no such folder" % folder)
@@ -130,7 +120,6 @@ def answer(chosen):
         compare(chosen)
         return
     chosen.program = text_of(chosen.program)
-    chosen.other = chosen.other and text_of(chosen.other)
     check(chosen)
     write_the_rest(chosen, Progress("spanprof-report"))
 

@@ -1,8 +1,7 @@
 """Numbers of the page. Each tells where it comes from: it carries the answer of spanprof that it is, or the sum.
 
 A source is written in a few words that the tests read again: `span work`, `curve 4 end`, `place 3 cost`. `A - B` is a
-difference, `A / B` a quotient, `percent A / B` the same in per cent. `other` before all of it means the second program
-of the page, and `change A` how that differs from the first in per cent.
+difference, `A / B` a quotient, `percent A / B` the same in per cent.
 """
 from spanprof.proof import proved
 from spanprof.report.markup import join, tag
@@ -44,17 +43,17 @@ def meaning(kind):
 
 
 class Figures:
-    """The numbers of one program of the page; `prefix` stands before the sources of the second."""
+    """The numbers of the page."""
 
-    def __init__(self, prefix="", units=None):
-        self.prefix, self.units = prefix, units
+    def __init__(self, units=None):
+        self.units = units
 
     def data(self, words, value, source, kind, rounded=None, exact="", scale=1):
         """`exact` is the number in full, and `scale` what it is divided by where it is seen."""
         carried = value if isinstance(value, int) else "%.6g" % value
-        told = "%s (%s)" % (label(kind), self.prefix + source)
+        told = "%s (%s)" % (label(kind), source)
         return tag("data", words, value=carried, title="%s: %s" % (exact, told) if exact else told,
-                   data_from=self.prefix + source, data_rounded=rounded,
+                   data_from=source, data_rounded=rounded,
                    data_scale=None if scale == 1 else "%.12g" % scale, class_=kind)
 
     def number(self, value, source, kind, digits=0):
@@ -81,8 +80,7 @@ class Figures:
 
     def told(self, name, words, sources, **attributes):
         """An element, as of a picture, whose words have one number for each of the sources, in this order."""
-        listed = "; ".join(self.prefix + source for source in sources)
-        return tag(name, words, data_from=listed or None, **attributes)
+        return tag(name, words, data_from="; ".join(sources), **attributes)
 
 
 def badge(kind):

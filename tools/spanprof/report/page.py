@@ -1,16 +1,14 @@
 """The page: the diagnosis, and below it parts that are folded until asked for; with style and script."""
 import json
 import os
-from functools import partial
+from string import Template
 
 from spanprof.progress import Progress, each
 from spanprof.report.colours import colour_rules
 from spanprof.report.markup import join, markup
 from spanprof.report.part_changes import changes_part
-from spanprof.report.part_compare import compare_part
 from spanprof.report.part_curve import curve_part
 from spanprof.report.part_diagnosis import first_part
-from spanprof.report.part_graph import graph_part
 from spanprof.report.part_numbers import numbers_part
 from spanprof.report.part_places import places_part
 from spanprof.report.part_source import source_part
@@ -27,31 +25,17 @@ def kept(name):
         return file.read()
 
 
-def parts(views, progress):
+def parts(view, progress):
     """Some texts have not all of them."""
-    view = views[0]
-    makers = [partial(first_part, view), *[partial(timeline_part, one, n, views) for n, one in enumerate(views)],
-              partial(places_part, view), partial(changes_part, view), partial(curve_part, views),
-              *[partial(compare_part, views)] * (len(views) > 1), partial(source_part, view), partial(graph_part, view),
-              partial(numbers_part, view)]
-    return list(filter(None, [make() for make in each(makers, progress)]))
+    makers = (first_part, timeline_part, places_part, changes_part, curve_part, source_part, numbers_part)
+    return list(filter(None, [make(view) for make in each(makers, progress)]))
 
 
-def filled(text, pieces):
-    """The template with a piece in the place of each `{{ name }}`."""
-    before, *rest = text.split("{{")
-    out = [before]
-    for piece in rest:
-        name, after = piece.split("}}", 1)
-        out += [pieces[name.strip()], after]
-    return "".join(out)
-
-
-def page(views, progress=None):
+def page(view, progress=None):
     """The whole page as text."""
-    made = parts(views, progress or Progress("making the page"))
-    data = json.dumps({"programs": [timeline_data(view) for view in views]}, ensure_ascii=False, separators=(",", ":"))
-    return filled(kept("page.html"), {
-        "title": markup(" and ".join(view.name for view in views)), "main": join(made, "\n"),
-        "data": data.replace("<", "\\u003c"),     # so that nothing ends the element
-        "style": colour_rules() + kept("style.css"), "script": "\n".join(map(kept, SCRIPTS))})
+    made = parts(view, progress or Progress("making the page"))
+    data = json.dumps(timeline_data(view), ensure_ascii=False, separators=(",", ":"))
+    return Template(kept("page.html")).substitute(
+        title=markup(view.name), main=join(made, "\n"),
+        data=data.replace("<", "\\u003c"),     # so that nothing ends the element
+        style=colour_rules() + kept("style.css"), script="\n".join(map(kept, SCRIPTS)))

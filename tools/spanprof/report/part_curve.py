@@ -1,7 +1,7 @@
 """The speedup on more and more threads, between `least` and `bound`, with the point that the run reached."""
 from spanprof.report.figures import MEASURED, PROVED, badges
 from spanprof.report.markup import join, note, section, tag
-from spanprof.report.true_times import keys as true_keys, marks as true_marks, shown_points
+from spanprof.report.true_times import SAID as TRUE, marks as true_marks, shown_points
 from spanprof.validity import gain_may_be_less, gain_may_be_more, least_end, why_not_of_more_threads
 
 WIDTH, HEIGHT = 720, 380
@@ -69,18 +69,17 @@ def told(view, threads):
     return view.figures.told("title", words, sources)
 
 
-def curve_lines(axes, view, colour):
+def curve_lines(axes, view):
     # No run of the recorded code passes the first: by the text, and by the lock that was held the longest.
     ends = [(threads, least_end(view.answers, threads)) for threads in view.answers.curve]
     fastest = [(threads, view.answers.work / end if end else 1) for threads, end in ends]
     slowest = speed_ups(view.answers, "bound")
     greedy = speed_ups(view.answers, "end")
     low = [(threads, min(slow, fast)) for (threads, slow), (_, fast) in zip(slowest, fastest)]
-    pieces = [tag("polygon", points=axes.points(fastest + low[::-1]), class_="band " + colour),
-              tag("polyline", points=axes.points(greedy), class_="curve " + colour)]
+    pieces = [tag("polygon", points=axes.points(fastest + low[::-1]), class_="band"),
+              tag("polyline", points=axes.points(greedy), class_="curve")]
     for threads, speed_up in greedy:
-        pieces.append(tag("circle", told(view, threads), cx=axes.x(threads), cy=axes.y(speed_up), r=3,
-                          class_="dot " + colour))
+        pieces.append(tag("circle", told(view, threads), cx=axes.x(threads), cy=axes.y(speed_up), r=3, class_="dot"))
     return join(pieces)
 
 
@@ -90,7 +89,7 @@ def reached(view):
     return view.answers.work / head.elapsed if head.elapsed and head.threads else None
 
 
-def reached_mark(axes, view, colour):
+def reached_mark(axes, view):
     """A diamond where the recorded run stands."""
     threads = view.answers.head.threads
     if not reached(view) or threads > axes.most_threads:
@@ -98,39 +97,29 @@ def reached_mark(axes, view, colour):
     x, y = axes.x(threads), axes.y(reached(view))
     words = "%d threads: %.2f, %s" % (threads, reached(view), REACHED)
     title = view.figures.told("title", words, ["threads", "span work / elapsed"])
-    return tag("path", title, d="M%g %gl7 7l-7 7l-7 -7z" % (x, y - 7), class_="reached " + colour)
+    return tag("path", title, d="M%g %gl7 7l-7 7l-7 -7z" % (x, y - 7), class_="reached")
 
 
-def picture(views):
-    most_threads = max(max(view.answers.curve) for view in views)
-    bounds = [speed_up for view in views for _, speed_up in speed_ups(view.answers, "least")]
-    true = [point.greatest for view in views for point in shown_points(view)]
-    most = max(bounds + true + list(filter(None, map(reached, views))))
+def picture(view):
+    most_threads = max(view.answers.curve)
+    bounds = [speed_up for _, speed_up in speed_ups(view.answers, "least")]
+    most = max([*bounds, *(point.greatest for point in shown_points(view)), reached(view) or 0])
     axes = Axes(most_threads, max(most * 1.06, 1.5))
     ideal = [(1, 1), (min(most_threads, axes.most_times), min(most_threads, axes.most_times))]
-    pieces = [grid(axes), tag("polyline", points=axes.points(ideal), class_="ideal")]
-    for draw in (curve_lines, reached_mark, true_marks):
-        pieces += [draw(axes, view, "s%d" % number) for number, view in enumerate(views)]
+    pieces = [grid(axes), tag("polyline", points=axes.points(ideal), class_="ideal"), curve_lines(axes, view),
+              reached_mark(axes, view), true_marks(axes, view)]
     return tag("svg", *pieces, viewBox="0 0 %d %d" % (WIDTH, HEIGHT), class_="chart", role="img",
                aria_label="Speedup on 1 to %d threads" % most_threads)
 
 
-def keys(view, colour, name):
-    """What line, band and diamond of a program mean."""
-    greedy = tag("span", tag("i", class_="key line " + colour), name, "the greedy schedule")
-    diamond = tag("span", tag("i", class_="key diamond " + colour), name, REACHED)
-    return [*[greedy] * bool(speed_ups(view.answers, "end")),
-            tag("span", tag("i", class_="key area " + colour), name,
-                "from what every greedy schedule of the text reaches to what none passes"),
-            *[diamond] * bool(reached(view)), *true_keys(view, name)]
-
-
-def legend(views):
-    items = []
-    for number_of, view in enumerate(views):
-        items += keys(view, "s%d" % number_of, view.name + ": " if len(views) > 1 else "")
-    items.append(tag("span", tag("i", class_="key dotted"), "as many as threads"))
-    return tag("p", *items, class_="legend given")
+def legend(view):
+    """What line, band, diamond and squares mean."""
+    named = [("line", "the greedy schedule", speed_ups(view.answers, "end")),
+             ("area", "from what every greedy schedule of the text reaches to what none passes", True),
+             ("diamond", REACHED, reached(view)), ("hollow", TRUE, shown_points(view)),
+             ("dotted", "as many as threads", True)]
+    return tag("p", *[tag("span", tag("i", class_="key " + key), words) for key, words, is_there in named if is_there],
+               class_="legend given")
 
 
 def limits(view):
@@ -139,14 +128,13 @@ def limits(view):
     reasons = list(filter(None, [
         why_not_of_more_threads(head), "by the warnings the program may gain more" * gain_may_be_more(head),
         "by locks or warnings a run of the program may be below the band" * gain_may_be_less(head)]))
-    return note("Of ", tag("span", view.name, class_="place"), " as a program this says less: ", "; ".join(reasons),
-                ".") if reasons else ""
+    return note("Of the program this says less: ", "; ".join(reasons), ".") if reasons else ""
 
 
-def curve_part(views):
-    return section("speedup", "Speedup over threads", tag("figure", picture(views), legend(views)),
+def curve_part(view):
+    return section("speedup", "Speedup over threads", tag("figure", picture(view), legend(view)),
                    note("The speedup of the text over serial code: the curve, and its bounds ",
                         badges(PROVED), ". A run of the text that leaves no thread idle while a segment is ready lies "
                         "in the band; tied tasks can force a thread to idle. The diamond is how many threads were busy "
                         "in this code on average ", badges(MEASURED), ". A dot's tooltip has its numbers."),
-                   *[limits(view) for view in views])
+                   limits(view))

@@ -53,8 +53,9 @@ def places_part(view):
     more = ["Left out: ", tag("span", left_out, class_="given"), " with little or no work."] * bool(left_out)
     return section("places", "Critical path and tasks by place", note(
         "A segment's place is where it begins. ", count, " segments are on the critical path: with enough threads, "
-        "only a shorter one lets the program end sooner. Slack is the delay that a segment can bear. Idle time is a "
-        "share of the threads' time, divided among what ran meanwhile. Costs ",
+        "only a shorter one lets the program end sooner. Slack is the delay that a segment can bear. Idle time, a "
+        "share of the threads' time, counts at what had run longest then, and delay at what had been ready longest. "
+        "Costs ",
         badges(view.cost_kind), ", path and slack ",
         badges(PROVED), ". ", *more),
         table([HEADS[i] for i in columns], [[cells[i] for i in columns] for cells in rows],

@@ -43,10 +43,10 @@ def controls():
                         for act, words, label in buttons], class_="controls")
 
 
-def lane(title, program, run, has_segments=True):
+def lane(title, run, has_segments=True):
     """One timeline; the script fills the drawing, and the line that tells of the stretch that is shown."""
     more = ", n goes along the critical path" if has_segments else ""
-    drawing = tag("div", class_="lanes", tabindex="0", role="application", data_program=program, data_run=run,
+    drawing = tag("div", class_="lanes", tabindex="0", role="application", data_run=run,
                   aria_label="Timeline; arrow keys move, plus and minus zoom" + more)
     return tag("figure", tag("figcaption", title), controls(), drawing,
                tag("p", class_="note stretch", role="status"), class_="timeline")
@@ -61,21 +61,21 @@ def colour_legend(view, has_segments=True):
                class_="legend given")
 
 
-def lanes_of(view, program):
+def lanes_of(view):
     """The recorded run, and the greedy schedule folded; that alone where no times are known."""
     if not view.answers.work:
         return [note(tag("span", view.name, class_="given"), ": no segment takes time.")]
-    greedy = lane(greedy_title(view), program, "greedy")
+    greedy = lane(greedy_title(view), "greedy")
     if not view.run:
         return [greedy, colour_legend(view)]
-    return [lane(recorded_title(view), program, "recorded"), colour_legend(view),
+    return [lane(recorded_title(view), "recorded"), colour_legend(view),
             details(AS_MANY, greedy, class_="greedy")]
 
 
-def lanes_in_bins(view, program):
+def lanes_in_bins(view):
     """Of a text with too many segments for a bar each; nothing where no run is known."""
     kinds = {"recorded": MEASURED, "greedy": PROVED}
-    lanes = [lane(join([tag("b", NAMES[run]), " ", badge(kinds[run])]), program, run, has_segments=False)
+    lanes = [lane(join([tag("b", NAMES[run]), " ", badge(kinds[run])]), run, has_segments=False)
              for run in view.levels]
     others = [details(AS_MANY, made, class_="greedy") for made in lanes[1:]]
     return [*lanes[:1], *others, colour_legend(view, has_segments=False), note(IN_BINS)] if lanes else []
@@ -88,12 +88,7 @@ def how_to_read(view):
     return details("How to read it", note(words), note(HANDS), note("Keys, once a timeline has the focus: ", keys, "."))
 
 
-def timeline_part(view, number, views):
-    """`number` is that of the program on the page."""
-    name = "timeline-other" if number else "timeline"
-    words = "Timeline of " + view.name if len(views) > 1 else "Timeline of the run"
-    if view.is_long:
-        made = lanes_in_bins(view, number)
-        return section(name, words, *made) if made else ""
-    return section(name, words, *lanes_of(view, number), how_to_read(view),
-                   tag("noscript", note("The timelines are drawn by the page's script.")))
+def timeline_part(view):
+    made = lanes_in_bins(view) if view.is_long else [
+        *lanes_of(view), how_to_read(view), tag("noscript", note("The timelines are drawn by the page's script."))]
+    return section("timeline", "Timeline of the run", *made) if made else ""

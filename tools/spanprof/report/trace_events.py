@@ -5,11 +5,9 @@ Times of a trace are microseconds. Where the text names a unit they are true; el
 import json
 from typing import NamedTuple, Sequence
 
-from spanprof.report.graph import kind_of
 from spanprof.report.timeline_data import or_none
 
 FLOWS_OF_A_RUN = 10 ** 7    # numbers of flows are of one run each
-GOES_ON = "goes on"
 
 
 class Run(NamedTuple):
@@ -42,11 +40,20 @@ def bars(view, run, scale):
                    "args": {"segment": s, "task": task, "cost": cost, "slack": slack, "critical": bool(critical)}}
 
 
+def kind_of(code, p, s):
+    """What joins two segments, the earlier one first."""
+    if code.task[p] == code.task[s]:
+        return "goes on"
+    if code[s].after:
+        return "waits"
+    return "creates" if p == s - 1 else "depends"
+
+
 def flow(view, run, scale, p, s, number):
     """An arrow from inside the bar of `p`, since it belongs to the bar that its moment lies in, to the start of `s`."""
     code = view.answers.code
-    kind = GOES_ON if code.task[p] == code.task[s] else kind_of(code, p, s)
-    shared = {"name": kind, "cat": "edge", "id": run.process * FLOWS_OF_A_RUN + number, "pid": run.process}
+    number += run.process * FLOWS_OF_A_RUN
+    shared = {"name": kind_of(code, p, s), "cat": "edge", "id": number, "pid": run.process}
     middle = (run.starts[p] + run.ends[p]) / 2
     yield dict(shared, ph="s", ts=middle * scale, tid=run.threads[p])
     yield dict(shared, ph="f", bp="e", ts=run.starts[s] * scale, tid=run.threads[s])

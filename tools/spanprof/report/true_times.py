@@ -35,7 +35,7 @@ def shown_points(view):
     return [point for point in view.true_times if point.threads <= max(view.answers.curve)]
 
 
-def mark(axes, view, point, colour):
+def mark(axes, view, point):
     """A square at the median, on a line from the slowest to the fastest run."""
     x, y = axes.x(point.threads), axes.y(point.speed_up)
     low, high = axes.y(point.least), axes.y(point.greatest)
@@ -43,12 +43,8 @@ def mark(axes, view, point, colour):
     sources = ["scale %d %s" % (point.threads, name.replace(" ", "-")) for name in NAMES]
     return tag("g", view.figures.told("title", words, sources),
                tag("path", d="M%g %gV%gM%g %gh8M%g %gh8" % (x, low, high, x - 4, low, x - 4, high)),
-               tag("rect", x=x - 4, y=y - 4, width=8, height=8), class_="true " + colour)
+               tag("rect", x=x - 4, y=y - 4, width=8, height=8), class_="true")
 
 
-def marks(axes, view, colour):
-    return join([mark(axes, view, point, colour) for point in shown_points(view)])
-
-
-def keys(view, name):
-    return [tag("span", tag("i", class_="key hollow"), name, SAID)] if shown_points(view) else []
+def marks(axes, view):
+    return join([mark(axes, view, point) for point in shown_points(view)])

@@ -37,10 +37,10 @@ class View:
     """Of a long text the run is shown in bins of time, and what would need a row or a picture of each segment is left
     out."""
 
-    def __init__(self, path, threads=None, source=None, prefix="", tell=None):
+    def __init__(self, path, threads=None, source=None, tell=None):
         self.answers = Answers(path, threads, tell)
         self.units = Units(self.answers.head)
-        self.figures = Figures(prefix, self.units)
+        self.figures = Figures(self.units)
         here = [os.path.dirname(os.path.abspath(folder_of(path) or path)), os.getcwd()]
         self.sources = Sources(source or here)
         self.task_places, self.places = task_places(self.answers), places(self.answers)

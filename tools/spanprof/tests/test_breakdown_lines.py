@@ -4,7 +4,7 @@ import unittest
 from spanprof.breakdown_lines import as_json, breakdown_lines, lines_of, proved_sums
 from spanprof.durations import lasting
 from spanprof.tests.proofs import with_a_proved_program
-from spanprof.time_breakdown import TimeBreakdown, Blocked, Row, Rows
+from spanprof.time_breakdown import TimeBreakdown, Blocked
 
 MS = 10 ** 6
 setUpModule = with_a_proved_program
@@ -45,7 +45,7 @@ class Lines(unittest.TestCase):
             "up to 10.0 % in code of the region that has no times, and is idle here (measured)"])
 
     def test_a_region_that_lasted_no_time(self):
-        empty = TimeBreakdown(2, 0, 0, 0, 0, 0, rows=Rows.of([Row(0, 0, 0, 0)]), places=["the beginning"])
+        empty = TimeBreakdown(2, 0, 0, 0, 0, 0)
         self.assertEqual(breakdown_lines(empty)[0], "of 2 x 0 ns: 0.0 % in your code (measured)")
 
     def test_why_there_is_none(self):

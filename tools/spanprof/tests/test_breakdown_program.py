@@ -4,7 +4,6 @@ import unittest
 from unittest import mock
 
 from spanprof.breakdown_program import NoBreakdown, ask, in_words
-from spanprof.client import HOW
 
 
 class Refused(unittest.TestCase):
@@ -38,10 +37,6 @@ class Asked(unittest.TestCase):
     def test_no_program(self):
         with self.assertRaisesRegex(NoBreakdown, "^SPANPROF_LARGE: /none: No such file"):
             self.asked("/none")
-        with mock.patch("spanprof.client.takes_any_size", lambda: False):
-            with self.assertRaises(NoBreakdown) as caught:
-                ask([], __file__)
-        self.assertEqual(str(caught.exception), HOW)
 
     def test_no_document(self):
         with mock.patch.dict(os.environ, {"SPANPROF_LARGE": "cat"}), \

@@ -18,7 +18,7 @@ class Asking(unittest.TestCase):
         with open(path, "w", encoding="utf-8") as file:
             file.write("#!/bin/sh\n" + script)
         os.chmod(path, stat.S_IRWXU)
-        return mock.patch.dict(os.environ, SPANPROF=path)
+        return mock.patch.dict(os.environ, SPANPROF_LARGE=path)
 
     def test_what_it_prints(self):
         with self.answers("cat\n"):

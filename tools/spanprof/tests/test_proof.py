@@ -21,7 +21,7 @@ class Programs(InFolder):
             self.write("spanprof.sha256", "%s  %s\n" % (hashlib.sha256(file.read()).hexdigest(), name))
 
     def said(self, words):
-        with mock.patch.dict(os.environ, SPANPROF=words, SPANPROF_LARGE=""):
+        with mock.patch.dict(os.environ, SPANPROF_LARGE=words):
             return proof.proved(CLAIM)
 
     def test_a_program_with_its_checksum(self):

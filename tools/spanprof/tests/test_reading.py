@@ -183,22 +183,19 @@ class Finding(unittest.TestCase):
         with mock.patch.dict(os.environ, {"SPANPROF": "", "SPANPROF_LARGE": "", **variables}), \
                 mock.patch("shutil.which", side_effect=lambda name: "/bin/" + name if name in on_the_path else None), \
                 mock.patch("os.access", side_effect=lambda path, _: path in on_the_path):
-            return client.program(), client.takes_any_size()
+            return client.program()
 
     def test_the_order(self):
         both, here = ("spanprof", "spanprof_large"), folders.places_of("spanprof_large")[1]
         reference = folders.other_places_of("spanprof_large")[0]
-        self.assertEqual(self.program(both, SPANPROF="small", SPANPROF_LARGE="rt run --"), (["rt", "run", "--"], True))
-        self.assertEqual(self.program(both, SPANPROF="small"), (["small"], False))
-        self.assertEqual(self.program(both), (["/bin/spanprof_large"], True))
-        self.assertEqual(self.program(("spanprof", here)), ([here], True))
-        self.assertEqual(self.program(("spanprof",)), (["/bin/spanprof"], False))
-        self.assertEqual(self.program(("spanprof", reference)), (["/bin/spanprof"], False))
-        self.assertEqual(self.program((reference, folders.other_places_of("spanprof")[0])), ([reference], True))
-        self.assertEqual(self.program(), ([], False))
+        self.assertEqual(self.program(both, SPANPROF_LARGE="rt run --"), ["rt", "run", "--"])
+        self.assertEqual(self.program(both, SPANPROF="small"), ["/bin/spanprof_large"])
+        self.assertEqual(self.program((here, reference)), [here])
+        self.assertEqual(self.program((reference,)), [reference])
+        self.assertEqual(self.program(("spanprof",)), [])
 
     def test_no_program_is_told_without_a_traceback(self):
-        with mock.patch.dict(os.environ, {"SPANPROF": "/no/such/program"}):
+        with mock.patch.dict(os.environ, {"SPANPROF_LARGE": "/no/such/program"}):
             with self.assertRaisesRegex(Fault, "/no/such/program: No such file"):
                 client.ask(["span"], "omptasks 1\n")
 

@@ -1,15 +1,16 @@
 import os
 import tempfile
 import unittest
+from array import array
 from unittest import mock
 
 from spanprof.breakdown_program import NoBreakdown
-from spanprof.client import HOW
 from spanprof.head import Lock
 from spanprof.record.tests.made_up import Answers, Head
 from spanprof.remarks import remark_of
 from spanprof.tests.columns import code_of
-from spanprof.time_breakdown import TimeBreakdown, Blocked, recorded_breakdown, breakdown_of, divide_busy, times_name
+from spanprof.time_breakdown import (TimeBreakdown, Blocked, Row, Rows, recorded_breakdown, breakdown_of, divide_busy,
+                                     times_name)
 
 SUMS = "threads 2\nelapsed 14\nbusy 11\ndelayed 7\nstarved 8\noutside 2\n"
 ROWS = "segment,thread,ready,begin,end\n0,0,0,0,5\n1,0,5,6,9\n2,0,5,9,11\n3,1,11,12,13\n"
@@ -41,15 +42,22 @@ class Asked(unittest.TestCase):
         self.assertEqual((found.whole, found.code, [column[3] for column in found.rows]), (28, 11, [1, 11, 12, 13]))
 
     def test_by_place(self):
-        found = self.account(answers())
-        self.assertEqual(found.delayed_by, {"after a taskwait": 4, "the beginning": 2, "task at sort.c:9": 1})
-        self.assertEqual((sum(found.delayed_by.values()), sum(found.starved_by.values())), (7, 8))
+        asked = []
 
-    def test_rows_of_another_run(self):
+        def places(path, numbers, wanted, times):
+            asked.extend((path, list(numbers), wanted, times.split("\n")))
+            return array("q", [3, 0, 4]), array("q", [7, 0, 1])
+
         found = self.account(answers())
-        found.rows.begin[3] = 11
-        with self.assertRaisesRegex(AssertionError, "the rows have other sums"):
-            print(found.delayed_by)
+        with mock.patch("spanprof.client.places", places):
+            self.assertEqual(found.delayed_by, {"after a taskwait": 4, "the beginning": 3})
+            self.assertEqual(found.starved_by, {"the beginning": 7, "after a taskwait": 1})
+        self.assertEqual(asked, ["mine.timed", [0, 1, 2, 0], ("delayed", "starved"),
+                                 ["times 2 0 14", "0 0 0 5", "1 0 6 9", "2 0 9 11", "3 1 12 13"]])
+
+    def test_on_as_few_threads_as_ran_at_once(self):
+        rows = Rows.of([Row(9, 0, 0, 4), Row(7, 0, 2, 6), Row(5, 0, 3, 3), Row(5, 0, 4, 8), Row(9, 0, 6, 7)])
+        self.assertEqual(rows.on_few_threads, rows._replace(thread=array("q", [0, 1, 0, 0, 1])))
 
     def test_times_of_another_text(self):
         made = answers()
@@ -100,9 +108,8 @@ class Beside(unittest.TestCase):
         self.made = answers()
         self.made.path = os.path.join(kept.name, "mine.tasks")
 
-    def beside(self, has_program=True):
-        with mock.patch("spanprof.time_breakdown.ask", told), \
-                mock.patch("spanprof.client.takes_any_size", lambda: has_program):
+    def beside(self):
+        with mock.patch("spanprof.time_breakdown.ask", told):
             found, why = recorded_breakdown(self.made)
         return found and found.busy, why
 
@@ -116,7 +123,6 @@ class Beside(unittest.TestCase):
 
     def test_why_there_is_none(self):
         self.assertEqual(self.beside(), (None, ""))
-        self.assertEqual(self.beside(has_program=False), (None, HOW))
         self.made.head.remarks = [remark_of({"remark": "unfinished task", "times": 1, "work": "low", "span": "low"})]
         self.assertEqual(self.beside(), (None, "tasks did not run to their ends"))
 

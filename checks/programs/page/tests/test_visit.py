@@ -46,7 +46,7 @@ class Faults(unittest.TestCase):
         with tempfile.TemporaryDirectory() as folder:
             path = os.path.join(folder, "a.html")
             with open(path, "w", encoding="utf-8") as file:
-                file.write('<script>{"programs":[{"name":"a.9.tasks","unit":"us"}]}</script>')
+                file.write('<script id="data">{"name":"a.9.tasks","unit":"us"}</script>')
             self.assertEqual(visit.text_of(path), os.path.join(folder, "a.9.tasks"))
 
     def test_a_page_that_cannot_be_opened_is_wrong(self):

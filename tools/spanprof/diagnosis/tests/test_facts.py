@@ -170,7 +170,8 @@ class Starting(unittest.TestCase):
     def test_threads_that_only_took_turns_are_not_idle(self):
         rows = [Row(0, 0, 0, 10), Row(5, 10, 10, 30), Row(0, 30, 30, 40)]
         found = TimeBreakdown(8, 50, 40, 0, 240, 120, rows=Rows.of(rows), places=["a", "b", "c"])
-        one = of_those_at_once(found, 2)
+        with mock.patch("spanprof.client.places", lambda _, of, wanted, times: ([0, 0, 0], [10, 20, 10])):
+            one = of_those_at_once(found, 2)
         self.assertEqual((one.threads, one.delayed, one.starved, one.outside), (2, 0, 40, 20))
         self.assertEqual(sum(one.parts.values()), 2 * 50)
         self.assertIs(of_those_at_once(found, 8), found)

@@ -1,8 +1,7 @@
 import unittest
 from array import array
+from unittest import mock
 
-from spanprof import client
-from spanprof.diagnosis import undisturbed as module
 from spanprof.diagnosis.losses import losses
 from spanprof.diagnosis.tests.worked import MS, facts, place
 from spanprof.diagnosis.undisturbed import is_disturbed, set_disturbed, starved_alone
@@ -35,12 +34,13 @@ class Undisturbed(unittest.TestCase):
         self.assertEqual((found.starved_by, found.starved_off), ({"a": 100 * MS}, {"a": 100 * MS}))
 
     def test_by_the_greedy_schedule(self):
-        was = client.columns
-        module.client.columns = lambda *_: [array("q", [0, 0, 5]), array("q", [9, 5, 6])]
-        try:
+        def places(path, numbers, wanted, times):
+            self.assertEqual((path, list(numbers), times), ("t", [0, 1, 1], "times 2 0 9\n0 0 0 9\n1 1 0 5\n2 1 5 6"))
+            return [0, 0], [3, 0]
+
+        schedule = [array("q", [0, 0, 5]), array("q", [9, 5, 6])]
+        with mock.patch("spanprof.client.columns", lambda *_: schedule), mock.patch("spanprof.client.places", places):
             self.assertEqual(starved_alone("t", ["a", "b", "b"], 2), {"a": 3})
-        finally:
-            module.client.columns = was
 
 
 if __name__ == "__main__":

@@ -28,8 +28,9 @@ case $*,$1 in
     account,*) printf 'threads 2\\nelapsed 4000000\\nbusy 4000000\\ndelayed 0\\nstarved 4000000\\noutside 0\\n' ;;
     'account --rows,'*) printf 'segment,thread,ready,begin,end\\n0,0,0,0,0\\n1,0,0,0,2000000\\n2,0,0,0,0\\n'
            printf '3,1,2000000,2000000,4000000\\n4,0,0,0,0\\n' ;;
-    *,places) printf 'place,segments,work,on_path,path,slack\\n0,1,0,1,0,0\\n1,1,2000000,1,2000000,0\\n2,1,0,0,0,0\\n'
-           printf '3,1,2000000,1,2000000,0\\n4,1,0,0,0,0\\n' ;;
+    *,places) printf 'place,segments,work,on_path,path,slack,delayed,starved\\n0,1,0,1,0,0,0,0\\n'
+           printf '1,1,2000000,1,2000000,0,0,2000000\\n2,1,0,0,0,0,0,0\\n3,1,2000000,1,2000000,0,0,2000000\\n'
+           printf '4,1,0,0,0,0,0,0\\n' ;;
     *,curve) printf 'threads,end,least,bound\\n2,4000000,4000000,4000000\\n4,4000000,4000000,4000000\\n'
            printf '16,4000000,4000000,4000000\\n64,4000000,4000000,4000000\\n1,4000000,4000000,4000000\\n' ;;
     *) printf 'tasks 2\\nsegments 5\\nwork 4000000\\nspan 4000000\\n' ;;

@@ -68,11 +68,6 @@ span,work,segments,place
         self.assertEqual((status, printed), (1, ""))
         self.assertRegex(said, "^spanprof-path: spanprof places: error: out of memory: use more memory .*\n$")
 
-    def test_without_spanprof_large(self):
-        told = answered(command.main, [self.text], SPANPROF=self.program("small", LARGE % 7), SPANPROF_LARGE="")
-        self.assertEqual(told, (1, "", "spanprof-path: spanprof_large, which adds up by place, is not found; "
-                                "tools/prove_program.sh spanprof_large proves and builds it\n"))
-
 
 if __name__ == "__main__":
     unittest.main()

@@ -131,7 +131,7 @@ class Command(unittest.TestCase):
             path = os.path.join(folder, "told.json")
             made = mock.Mock(options=argparse.Namespace(json=path))
             with contextlib.redirect_stderr(io.StringIO()) as told:
-                command.report_all(made, Recorded(0), made_up())
+                command.report(made, Recorded(0), made_up())
             self.assertTrue(told.getvalue().startswith("true times    threads  median"))
             with open(path, encoding="utf-8") as file:
                 self.assertEqual(json.load(file)["scale"]["runs"], 3)

@@ -8,15 +8,13 @@ import unittest
 from unittest import mock
 
 from spanprof.answers import take_runs
-from spanprof.client import HOW
-from spanprof.errors import Fault
 from spanprof.record import summaries
 from spanprof.record.messages import Messages
 from spanprof.record.session import Recorded
 from spanprof.record.tests.made_up import Answers, Head
 from spanprof.remarks import remark_of
 from spanprof.tests.in_folder import InFolder
-from spanprof.tests.recordings import TEXT, recording
+from spanprof.tests.recordings import recording
 
 TURNS = {"remark": "turns together", "span": "high"}
 WHOLE = {"region": "", "whole": "1 region", "covered": 100}
@@ -37,7 +35,7 @@ class Printed(InFolder):
         return Answers(name=name, work=self.works.get(name, 100), head=Head(**dict(WHOLE, **self.heads.get(name, {}))))
 
     def told(self, *folders, things=(), rank=None, **options):
-        chosen = argparse.Namespace(**dict(dict(json=None, runs=1, all=True, against=None), **options))
+        chosen = argparse.Namespace(**dict(dict(json=None, runs=1, all=True), **options))
         made = mock.Mock(notes=["a note"], rank=rank, out=os.path.join(self.folder, "mine"), options=chosen,
                          work=argparse.Namespace(name="mine"))
         with mock.patch("spanprof.record.summaries.Answers", side_effect=self.answered), \
@@ -120,31 +118,6 @@ class Printed(InFolder):
             told = json.load(file)
         self.assertEqual((told["text"], told["work"], told["scale"]), ("mine.spanprof", 100, None))
         self.assertEqual(told["diagnosis"], [])
-
-
-class Beyond(InFolder):
-    """Of a text that only spanprof_large takes."""
-
-    def told(self, takes_any_size, fault):
-        folder = recording(self.folder, **{"program.tasks": TEXT, "regions": None, "times": None})
-        made = mock.Mock(notes=["a note"], rank=None, out=os.path.join(self.folder, "mine"),
-                         options=argparse.Namespace(json=None, runs=1, all=True, against=None))
-        with mock.patch("spanprof.client.takes_any_size", return_value=takes_any_size), \
-                mock.patch("spanprof.record.summaries.Answers", side_effect=Fault(fault)), \
-                contextlib.redirect_stderr(io.StringIO()) as told:
-            found = summaries.print_summaries(made, Recorded(0, [folder], Messages(True, [])))
-        self.assertIsNone(found)
-        return told.getvalue().splitlines()
-
-    def test_without_that_program(self):
-        told = self.told(False, "spanprof: error: line 9: TooManyTasks")
-        self.assertTrue(told[0].startswith("mine.spanprof, the whole program"))
-        self.assertEqual(told[1:], ["warnings      " + HOW, "              a note"])
-
-    def test_another_refusal(self):
-        for takes_any_size, fault in ((True, "TooDeep"), (False, "error: out of memory")):
-            with self.assertRaisesRegex(Fault, fault):
-                self.told(takes_any_size, fault)
 
 
 if __name__ == "__main__":

@@ -6,11 +6,11 @@ import unittest
 from spanprof.errors import Fault
 from spanprof.record.summary_json import run_json, summary_json, write_json
 from spanprof.record.tests.made_up import Answers
-from spanprof.time_breakdown import TimeBreakdown, Row, Rows
+from spanprof.time_breakdown import TimeBreakdown
 
 
 def account():
-    return TimeBreakdown(1, 9, 9, 0, 0, 0, rows=Rows.of([Row(0, 0, 0, 9)]), places=["the beginning"])
+    return TimeBreakdown(1, 9, 9, 0, 0, 0)
 
 
 class Told(unittest.TestCase):

@@ -13,7 +13,7 @@ function arrow(lanes, name, from, to) {
 }
 
 function arrowsOf(lanes) {
-  const { chosen, program: { waits } } = lanes;
+  const { chosen } = lanes, { waits } = program;
   if (!waits || !lanes.barOf(chosen)) return "";
   const before = neighbours(lanes, waits.before, chosen).sort((a, b) => lanes.run.ends[b] - lanes.run.ends[a]);
   const after = neighbours(lanes, waits.after, chosen).sort((a, b) => lanes.run.starts[a] - lanes.run.starts[b]);
@@ -41,7 +41,7 @@ function leave(lanes) {
 function nextCritical(lanes) {
   const now = lanes.barOf(lanes.chosen), after = now ? [now.start, lanes.chosen] : [-1, -1];
   const isAfter = (bar) => bar.start > after[0] || bar.start === after[0] && bar.segment > after[1];
-  const found = lanes.rows.flatMap((row) => row.filter((bar) => lanes.program.critical.has(bar.segment)))
+  const found = lanes.rows.flatMap((row) => row.filter((bar) => program.critical.has(bar.segment)))
     .sort((a, b) => a.start - b.start || a.segment - b.segment);
   const next = found.find(isAfter) || found[0];
   if (next) choose(lanes, next.segment);

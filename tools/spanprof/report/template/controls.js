@@ -1,7 +1,7 @@
 // Mouse, fingers, keys and buttons of the timelines.
 
-const allLanes = [...document.querySelectorAll(".lanes")].map((element) =>
-  new (programs[Number(element.dataset.program)].isLarge ? LevelLanes : Lanes)(element));
+const allLanes = [...document.querySelectorAll(".lanes")].map(
+  (element) => new (program.isLarge ? LevelLanes : Lanes)(element));
 const toDraw = new Set();
 function drawAll() {
   allLanes.forEach((lanes) => lanes.draw());

@@ -1,5 +1,5 @@
 "use strict";
-// What the page knows of its programs, from the element `data`.
+// What the page knows of its program, from the element `data`.
 
 const numbers = (text) => (text ? text.split(" ").map((word) => (word === "-" ? null : parseInt(word, 36))) : []);
 const grouped = (value, digits = 0) => value.toLocaleString("en-US",
@@ -9,7 +9,7 @@ const byId = (name) => document.getElementById(name);
 const STEPS = [["s", 1e9], ["ms", 1e6], ["µs", 1e3], ["ns", 1]];
 
 // A time as people read it: in the largest unit in which there is at least one, with three digits.
-function human(program, value) {
+function human(value) {
   const { nanoseconds, unit } = program;
   if (!nanoseconds || !value) return `${grouped(value, value % 1 ? 2 : 0)} ${unit}`.trim();
   const whole = Math.abs(value) * nanoseconds;
@@ -20,20 +20,20 @@ function human(program, value) {
 }
 
 // A cost, and in full where that says more.
-function cost(program, value) {
-  const words = human(program, value), exact = `${grouped(value)} ${program.unit}`.trim();
+function cost(value) {
+  const words = human(value), exact = `${grouped(value)} ${program.unit}`.trim();
   return words === exact ? words : `${words} (${exact})`;
 }
 const percent = (part, whole) => `${(whole ? 100 * part / whole : 0).toFixed(1)} %`;
 
 // One run: of each segment its thread, begin and end, and a row of bars for each thread.
 class Run {
-  constructor(program, packed) {
+  constructor(packed, costs) {
     const inUnits = (words) => numbers(words).map((time) => time / (packed.per || 1));
     this.isTimed = Boolean(packed.lengths);
     this.starts = inUnits(packed.starts);
     this.lanes = numbers(packed.lanes);
-    const lengths = this.isTimed ? inUnits(packed.lengths) : program.cost;
+    const lengths = this.isTimed ? inUnits(packed.lengths) : costs;
     this.ends = this.starts.map((start, segment) => start + lengths[segment]);
     this.rows = Array.from({ length: packed.count }, () => []);
     this.where = new Map();     // of each segment that has a bar its row and its place there
@@ -92,12 +92,12 @@ function unpackedLarge({ name, unit, nanoseconds, names, levels }) {
 
 function unpacked(packed) {
   if (packed.levels) return unpackedLarge(packed);
-  const { name, unit, nanoseconds, places } = packed, program = { name, unit, nanoseconds, places, runs: {} };
-  for (const column of ["cost", "task", "place", "slack"]) program[column] = numbers(packed[column]);
-  program.colour = numbers(packed.taskPlace).map((place) => Math.min(place, packed.colours - 1));
-  program.critical = new Set(numbers(packed.critical));
-  program.waits = waits(packed);
-  program.per = Math.max(...Object.values(packed.runs).map((run) => run.per || 1));
-  for (const [run, words] of Object.entries(packed.runs)) program.runs[run] = new Run(program, words);
-  return program;
+  const { name, unit, nanoseconds, places } = packed, out = { name, unit, nanoseconds, places, runs: {} };
+  for (const column of ["cost", "task", "place", "slack"]) out[column] = numbers(packed[column]);
+  out.colour = numbers(packed.taskPlace).map((place) => Math.min(place, packed.colours - 1));
+  out.critical = new Set(numbers(packed.critical));
+  out.waits = waits(packed);
+  out.per = Math.max(...Object.values(packed.runs).map((run) => run.per || 1));
+  for (const [run, words] of Object.entries(packed.runs)) out.runs[run] = new Run(words, out.cost);
+  return out;
 }

@@ -1,7 +1,7 @@
 // How bars, their names and axes are drawn.
 
 const AXIS = 24;
-const mostRows = Math.max(0, ...programs.flatMap((one) => Object.values(one.runs).map((run) => run.rows.length)));
+const mostRows = Math.max(0, ...Object.values(program.runs).map((run) => run.rows.length));
 const LEFT = Math.max(30, 12 + 8 * String(mostRows - 1).length);     // room for the numbers of the threads
 const LETTER = 6.4, MOST_NAMES = 400;       // a letter's width in bars, and how many names are drawn at most
 const rowHeight = (count) => (count <= 8 ? 28 : count <= 16 ? 20 : count <= 32 ? 13 : 9);

@@ -16,10 +16,9 @@ class Lanes {
   constructor(element) {
     this.element = element;
     this.figure = element.closest("figure");
-    this.program = programs[Number(element.dataset.program)];
-    this.run = this.program.runs[element.dataset.run];
+    this.run = program.runs[element.dataset.run];
     this.rows = this.run.rows;
-    this.stretch = stretchOf(this.program, element.dataset.run);
+    this.stretch = new Stretch(this.run.end);
     this.chosen = null;         // a segment
     this.height = rowHeight(this.rows.length);
   }
@@ -46,9 +45,9 @@ class Lanes {
   drawRow(paths, names, row, i) {
     const { from, to } = this.stretch, bars = new Bars(paths, this.top(i), this.height);
     for (let k = firstToEndAfter(row, from); k < row.length && row[k].start < to; k++) {
-      const { segment, start, end } = row[k], name = `c${this.program.colour[this.program.task[segment]]}`;
+      const { segment, start, end } = row[k], name = `c${program.colour[program.task[segment]]}`;
       const left = Math.max(this.x(start), LEFT), right = Math.min(this.x(end), this.width);
-      const isCritical = this.program.critical.has(segment), width = right - left;
+      const isCritical = program.critical.has(segment), width = right - left;
       if ((end - start) * this.scale < 1) { bars.addThin(left, right, name, isCritical); continue; }
       const seam = width > 3 ? 0.6 : 0;
       bars.add(name, left, width - seam, isCritical);
@@ -58,13 +57,13 @@ class Lanes {
   }
   addName(names, bars, segment, left, width) {
     if (width < 24 || bars.height < 13 || names.length >= MOST_NAMES) return;
-    const words = nameFor(this.program.places[this.program.place[segment]], width);
-    const { top, height } = bars, colour = this.program.colour[this.program.task[segment]];
+    const words = nameFor(program.places[program.place[segment]], width);
+    const { top, height } = bars, colour = program.colour[program.task[segment]];
     if (words) names.push(nameIn({ left, top, width, height }, words, colour));
   }
   axis() {
     const { from, to, length } = this.stretch, step = niceStep(length, Math.max(2, this.width / 110)), out = [];
-    const written = inUnit(step, this.program.unit), bottom = this.bottom;
+    const written = inUnit(step, program.unit), bottom = this.bottom;
     for (let time = Math.ceil(from / step) * step; time <= to; time += step) {
       const x = this.x(time).toFixed(1), anchor = x > this.width - 50 ? "end" : time === 0 ? "start" : "middle";
       out.push(`<line class="tick" x1="${x}" x2="${x}" y1="0" y2="${bottom}"/>`);

@@ -14,11 +14,11 @@ class LevelLanes extends Lanes {
   }
   words(bars) {
     const [from, to] = [bars[0].start, bars[bars.length - 1].end];
-    return `${between(this.program, from, to)}\n${wordsOfBins(this, bars, to - from)}`;
+    return `${between(from, to)}\n${wordsOfBins(this, bars, to - from)}`;
   }
   tellStretch({ from, to }) {
     const bars = this.rows.flatMap((row) => row.filter((bar) => bar.end > from && bar.start < to));
-    return `${between(this.program, from, to)} (${human(this.program, to - from)}): ` +
+    return `${between(from, to)} (${human(to - from)}): ` +
       wordsOfBins(this, bars, (to - from) * this.rows.length);
   }
 }
@@ -27,5 +27,5 @@ function wordsOfBins(lanes, bars, whole) {
   const timeOf = (bar) => bar.busy * (bar.end - bar.start), sum = bars.reduce((all, bar) => all + timeOf(bar), 0);
   const most = sumsBy(bars, (bar) => bar.colour, timeOf).slice(0, MOST_TOLD);
   return `about ${percent(Math.min(sum, whole), whole)} busy` +
-    (most.length ? `; mostly: ${most.map(([colour]) => lanes.program.names[colour]).join(", ")}` : "");
+    (most.length ? `; mostly: ${most.map(([colour]) => program.names[colour]).join(", ")}` : "");
 }

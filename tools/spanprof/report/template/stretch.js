@@ -1,12 +1,12 @@
-// The programs of the page, and the stretch of time that a timeline shows.
+// The program of the page, and the stretch of time that a timeline shows.
 
-const programs = JSON.parse(byId("data").textContent).programs.map(unpacked);
+const program = unpacked(JSON.parse(byId("data").textContent));
 
 class Stretch {
-  // No less is shown than 20 units, a part of a shorter run, or 2 microseconds of one whose unit is `per` nanoseconds.
-  constructor(end, per) {
+  // No less is shown than 20 units, a part of a shorter run, or 2 microseconds of one with recorded times.
+  constructor(end) {
     this.whole = Math.max(end, 1);
-    this.least = Math.min(20, this.whole / 20, 2000 / per);
+    this.least = Math.min(20, this.whole / 20, 2000 / program.per);
     this.show(0, this.whole);
   }
   get length() { return this.to - this.from; }
@@ -22,10 +22,4 @@ class Stretch {
     if (end - start > this.length * 0.9) this.show(start - (end - start) * 0.1, (end - start) * 1.2);
     else if (start < this.from || end > this.to) this.show((start + end - this.length) / 2, this.length);
   }
-}
-
-// Each run has its own. Those of one kind are equally long where the programs have one unit, so that they compare.
-function stretchOf(program, run) {
-  const alike = programs.filter((one) => one.runs[run] && one.unit === program.unit);
-  return new Stretch(Math.max(...alike.map((one) => one.runs[run].end)), Math.max(...alike.map((one) => one.per)));
 }

@@ -14,7 +14,7 @@ function neighbours(lanes, of, segment) {
 }
 
 // Two moments in the unit of the later one, with enough digits to tell them apart.
-function between(program, start, end) {
+function between(start, end) {
   const { nanoseconds, unit } = program, step = Math.max((end - start) / 20, 1e-3);
   const whole = end * (nanoseconds || 0);
   const [name, size] = STEPS.find(([, least]) => whole >= least) || [unit, nanoseconds];
@@ -24,20 +24,20 @@ function between(program, start, end) {
 }
 
 function wordsOfWaits(lanes, { segment, start }) {
-  const { before, after } = lanes.program.waits, { ends } = lanes.run;
+  const { before, after } = program.waits, { ends } = lanes.run;
   const late = start - before[segment].reduce((latest, p) => Math.max(latest, ends[p]), 0);
   return `\nwaited for ${neighbours(lanes, before, segment).length}, and ` +
     `${neighbours(lanes, after, segment).length} for it` +
-    (late > 0 ? `; ready ${human(lanes.program, late)} before it began` : "");
+    (late > 0 ? `; ready ${human(late)} before it began` : "");
 }
 
 function wordsOfOne(lanes, bar) {
-  const { program } = lanes, { segment, start, end } = bar, own = program.cost[segment];
+  const { segment, start, end } = bar, own = program.cost[segment];
   const took = lanes.run.isTimed && Math.abs(end - start - own) > Math.max(1, own / 100) ?
-    `, took ${human(program, end - start)} by the clock` : "";
+    `, took ${human(end - start)} by the clock` : "";
   return `${program.places[program.place[segment]]}\nsegment ${segment} of task ${program.task[segment]}\n` +
-    `cost ${cost(program, own)}${took}\n${between(program, start, end)}\n` +
-    `slack ${human(program, program.slack[segment])}` +
+    `cost ${cost(own)}${took}\n${between(start, end)}\n` +
+    `slack ${human(program.slack[segment])}` +
     (program.critical.has(segment) ? ", on the critical path" : "") + wordsOfWaits(lanes, bar);
 }
 
@@ -48,11 +48,11 @@ function sumsBy(bars, keyOf, valueOf) {
 }
 
 function wordsOfMany(lanes, bars) {
-  const { place, places, critical } = lanes.program, costOf = (bar) => lanes.program.cost[bar.segment];
+  const { place, places, critical } = program, costOf = (bar) => program.cost[bar.segment];
   const sum = bars.reduce((all, bar) => all + costOf(bar), 0);
   const [most] = sumsBy(bars, (bar) => place[bar.segment], costOf)[0];
   const path = bars.filter((bar) => critical.has(bar.segment)).length;
-  return `${bars.length} segments, too thin to be told apart here\ncosts ${human(lanes.program, sum)} together` +
+  return `${bars.length} segments, too thin to be told apart here\ncosts ${human(sum)} together` +
     `\nmost of it: ${places[most]}` + (path ? `\n${path} on the critical path` : "");
 }
 
@@ -68,11 +68,11 @@ function inside(lanes, from, to) {
 }
 
 function wordsOfStretch(lanes, from, to) {
-  const { program } = lanes, bars = inside(lanes, from, to), busy = bars.reduce((sum, bar) => sum + bar.part, 0);
+  const bars = inside(lanes, from, to), busy = bars.reduce((sum, bar) => sum + bar.part, 0);
   const most = sumsBy(bars, (bar) => program.place[bar.segment], (bar) => bar.part).slice(0, MOST_TOLD)
     .filter(([, sum]) => sum > busy / 1000);
   const places = most.map(([place, sum]) => `${program.places[place]} ${percent(sum, busy)}`);
-  return `${between(program, from, to)} (${human(program, to - from)}): threads busy ` +
+  return `${between(from, to)} (${human(to - from)}): threads busy ` +
     `${percent(busy, (to - from) * lanes.rows.length)}, ${grouped(bars.length)} segments` +
     (places.length ? `; most of the time: ${places.join(", ")}` : "");
 }

@@ -1,7 +1,7 @@
 """Compares each number of a page with what it has to be.
 
-    python3 -m spanprof.report.tests.compare PAGE.html [MINE.tasks [OTHER.tasks]]    in tools/; status 1 if one is wrong
-Without texts they are those of the page's own names, beside it.
+    python3 -m spanprof.report.tests.compare PAGE.html [MINE.tasks]    in tools/; status 1 if one is wrong
+Without a text it is that of the page's own name, beside it.
 """
 import json
 import math
@@ -10,15 +10,6 @@ import sys
 
 from spanprof.report.tests.expected import Program, table, unpacked
 from spanprof.report.tests.page_reader import read_page
-
-
-def expected_value(programs, source):
-    if source.startswith("change "):
-        before, after = (program.value(source.removeprefix("change ")) for program in programs)
-        return 100 * (after - before) / before
-    if source.startswith("other "):
-        return programs[1].value(source.removeprefix("other "))
-    return programs[0].value(source)
 
 
 def is_same(shown, expected):
@@ -38,8 +29,8 @@ def is_seen(words, expected, rounded=""):
     return plain.lstrip("+") == (words if float(words) else words.lstrip("-"))    # nothing has no sign
 
 
-def faults_of(figure, programs):
-    values = [expected_value(programs, source) for source in figure.sources]
+def faults_of(figure, program):
+    values = list(map(program.value, figure.sources))
     if len(figure.shown) != len(values):
         return ["%s: the page has %r" % ("; ".join(figure.sources), figure.words)]
     wrong = ["%s: the page shows %s, and not %s" % (source, words, value)
@@ -82,33 +73,31 @@ def drawn_differences(program, data):
     return ["%s: %s" % (data["name"], words) for words in wrong]
 
 
-def programs_of(reader, paths, ask):
-    """The programs of a page, with what its script knows of them."""
-    return [Program(path, own, ask) for path, own in zip(paths, json.loads(reader.data)["programs"])]
+def program_of(reader, path, ask):
+    """The program of a page, with what its script knows of it."""
+    return Program(path, json.loads(reader.data), ask)
 
 
-def differences(page, paths, ask):
+def differences(page, path, ask):
     """All numbers of the page that are not what they have to be, and how many there are."""
     reader = read_page(page)
-    programs = programs_of(reader, paths, ask)
-    wrong = [fault for figure in reader.figures for fault in faults_of(figure, programs)]
+    program = program_of(reader, path, ask)
+    wrong = [fault for figure in reader.figures for fault in faults_of(figure, program)]
     wrong += ["%r: a number without a source" % words for words in reader.without_source]
-    for program in programs:
-        wrong += drawn_differences(program, program.data)
+    wrong += drawn_differences(program, program.data)
     return wrong, sum(len(figure.sources) for figure in reader.figures)
 
 
-def texts_beside(path, page):
-    """The texts that the page's script knows, where none are named."""
-    return [os.path.join(os.path.dirname(path), program["name"])
-            for program in json.loads(read_page(page).data)["programs"]]
+def text_beside(path, page):
+    """The text that the page's script knows, where none is named."""
+    return os.path.join(os.path.dirname(path), json.loads(read_page(page).data)["name"])
 
 
 def main(paths):
     from spanprof import client
     with open(paths[0], encoding="utf-8") as file:
         page = file.read()
-    wrong, count = differences(page, paths[1:] or texts_beside(paths[0], page), client.ask)
+    wrong, count = differences(page, paths[1] if paths[1:] else text_beside(paths[0], page), client.ask)
     for line in wrong:
         print(line)
     print("%d numbers, %d wrong" % (count, len(wrong)))

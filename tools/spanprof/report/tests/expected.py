@@ -21,12 +21,6 @@ def table(text):
     return [dict(zip(heads, line)) for line in lines]
 
 
-def recorded_waits(answer):
-    """Of each segment those that it has to wait for, from what `replay` prints."""
-    lines = [line.split()[1:] for line in answer.split("\n") if line.startswith("preds")]
-    return {int(s): [int(p) for p in rest] for s, *rest in lines}
-
-
 class Sums:
     """What has terms by name, and sums, differences and quotients of them."""
 
@@ -154,28 +148,6 @@ class Program(Sums):
     def greedy(self, _):
         threads = self.data["runs"]["greedy"]["count"]
         return threads * self.curve(str(threads), "end")
-
-    def waits(self):
-        """Of each segment what it has to wait for, by a run of all segments in their order."""
-        if "waits" not in self.kept:
-            self.kept["waits"] = self.waits_of(self.text)
-        return self.kept["waits"]
-
-    def waits_of(self, text):
-        events = "".join("start 0 %d finish 0 %d\n" % (s, s) for s in range(len(self.cost)))
-        return recorded_waits(self.ask(["replay"], text + "\n---\n" + events))
-
-    def edges(self, kind, a, b):
-        """Between the tasks of two places: a task's first segment waits for its creation."""
-        of, count, seen = self.task_place_of, 0, set()
-        for s, before in sorted(self.waits().items()):
-            is_first = self.task_of[s] not in seen
-            seen.add(self.task_of[s])
-            for p in before:
-                pair = (str(of[self.task_of[p]]), str(of[self.task_of[s]]))
-                own = "waits" if not is_first else "creates" if p == s - 1 else "depends"
-                count += self.task_of[p] != self.task_of[s] and (own, *pair) == (kind, a, b)
-        return count
 
     @cached_property
     def bars(self):

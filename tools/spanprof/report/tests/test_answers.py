@@ -22,7 +22,7 @@ class OfTheWorkedProgram(unittest.TestCase):
     def test_each_command_is_asked_once_and_told(self):
         for _ in range(2):
             self.assertEqual(len(self.answers.rows.cost), 13)
-        self.assertEqual(self.told, ["spanprof slack < mesh.tasks"])
+        self.assertEqual(self.told, ["spanprof_large slack < mesh.tasks"])
         self.assertEqual(self.answers.asked, self.told)
 
     def test_rows(self):

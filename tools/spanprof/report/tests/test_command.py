@@ -34,7 +34,7 @@ class Command(unittest.TestCase):
 
     def test_all_that_can_be_written(self):
         main([worked.path("mesh.tasks"), "-o", self.out("m.html"), "--trace", self.out("m.json"),
-              "--with", worked.path("split.tasks"), "--source", worked.FOLDER])
+              "--source", worked.FOLDER])
         with open(self.out("m.html"), encoding="utf-8") as file:
             self.assertTrue(file.read().startswith("<!DOCTYPE html>"))
         with open(self.out("m.json"), encoding="utf-8") as file:
@@ -71,7 +71,6 @@ class Command(unittest.TestCase):
         mesh = worked.path("mesh.tasks")
         self.assertIn("'0' is not a whole number from 1 to 1024", self.refused(mesh, "-o", "x", "--threads", "0"))
         self.assertIn("are for different files", self.refused(mesh, "-o", "x", "--trace", "./x"))
-        self.assertIn("--with is for a page", self.refused(mesh, "--with", mesh, "--json"))
         self.assertIn("compared in lines, or by --json", self.refused(mesh, mesh, "-o", "x"))
         self.assertIn("unrecognized arguments: --js", self.refused(mesh, "--js"))
         self.assertEqual(self.refused(""), "spanprof-report: '': no such file\n")

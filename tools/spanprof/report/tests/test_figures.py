@@ -18,16 +18,12 @@ class Numbers(unittest.TestCase):
                          'class="proved">1,200</data>')
 
     def test_a_time_has_a_human_unit_and_its_number_in_the_title(self):
-        show = Figures("", Units(Head(unit="us")))
+        show = Figures(Units(Head(unit="us")))
         self.assertEqual(show.time(1234567, "span work", PROVED),
                          '<data value="1234567" title="1,234,567 µs: proved of the text (span work)" '
                          'data-from="span work" data-scale="1000000" class="proved">1.23 s</data>')
         self.assertIn('data-rounded="up" data-scale="1000" class="proved">1.24 ms<',
                       show.time(1231, "curve 2 bound", PROVED, "up"))
-
-    def test_the_second_program(self):
-        self.assertIn('data-from="other percent span span / span work"',
-                      Figures("other ").share(1, 3, "span span / span work", PROVED))
 
     def test_a_share_below_nothing(self):
         self.assertIn(">−3.4 %<", Figures().share(-34, 1000, "tasks / tasks", PROVED))
@@ -44,9 +40,8 @@ class Numbers(unittest.TestCase):
         self.assertIn(">1.00<", show.times_at_least(0, 0, source, PROVED))
 
     def test_words_with_several_numbers(self):
-        self.assertEqual(Figures("other ").told("title", "2 of 3", ["tasks", "span segments"]),
-                         '<title data-from="other tasks; other span segments">2 of 3</title>')
-        self.assertEqual(Figures().told("title", "none", []), "<title>none</title>")
+        self.assertEqual(Figures().told("title", "2 of 3", ["tasks", "span segments"]),
+                         '<title data-from="tasks; span segments">2 of 3</title>')
 
 
 class Words(unittest.TestCase):

@@ -42,20 +42,17 @@ class OfALongText(unittest.TestCase):
         return worked.view_without_page(name)
 
     def test_each_number_is_that_of_the_other_page(self):
-        found = read_page(page([self.view()]))
+        found = read_page(page(self.view()))
         with mock.patch("spanprof.answers.is_long", return_value=False):
-            data = json.loads(read_page(worked.page_text(["mesh"])).data)
-        expected = [Program(worked.path("mesh.tasks"), data["programs"][0], worked.Kept())]
+            data = json.loads(read_page(worked.page_text("mesh")).data)
+        expected = Program(worked.path("mesh.tasks"), data, worked.Kept())
         self.assertEqual([fault for figure in found.figures for fault in faults_of(figure, expected)], [])
         self.assertEqual(found.without_source, [])
         self.assertGreater(len(found.figures), 60)
 
-    def test_what_is_left_out(self):
-        self.assertNotIn('id="graph"', page([self.view()]))
-
     def test_a_timeline_where_there_are_times(self):
-        self.assertIn('data-run="recorded"', page([self.view("split")]))
-        made = page([self.view()])
+        self.assertIn('data-run="recorded"', page(self.view("split")))
+        made = page(self.view())
         self.assertNotIn('data-run="recorded"', made)
         self.assertIn('data-run="greedy"', made)
 

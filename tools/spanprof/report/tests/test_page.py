@@ -4,14 +4,13 @@ import re
 import unittest
 from dataclasses import replace
 
-from spanprof.report.page import filled
 from spanprof.report.tests import worked
-from spanprof.report.tests.compare import differences, faults_of, is_seen, programs_of
+from spanprof.report.tests.compare import differences, faults_of, is_seen, program_of
 from spanprof.report.tests.page_reader import read_page
 
 
-def compared(text, names):
-    return differences(text, [worked.path(name + ".tasks") for name in names], worked.Kept())
+def compared(text, name):
+    return differences(text, worked.path(name + ".tasks"), worked.Kept())
 
 
 class Pages(unittest.TestCase):
@@ -21,32 +20,31 @@ class Pages(unittest.TestCase):
         self.addCleanup(patch.stop)
 
     def test_every_number_is_an_answer_or_a_sum(self):
-        for names in worked.pages():
-            wrong, count = compared(worked.page_text(names), names)
+        for name in worked.TEXTS:
+            wrong, count = compared(worked.page_text(name), name)
             self.assertEqual(wrong, [])
             self.assertGreater(count, 100)
 
     def test_no_other_file_is_needed(self):
-        text = worked.page_text(["mesh", "split"])
+        text = worked.page_text("split")
         self.assertNotIn("light-dark(", text)   # which older browsers do not take
         self.assertIsNone(re.search(r'(src|href)="(?!#)|@import|url\((?!#)|https?://', text))
 
     def test_parts(self):
-        text = worked.page_text(["mesh", "split"])
+        text = worked.page_text("mesh")
         names = re.findall(r'<section id="(\S+)"', text)
-        self.assertEqual(names, ["summary", "timeline", "timeline-other", "places", "speedup", "compared", "source",
-                                 "graph", "numbers"])
+        self.assertEqual(names, ["summary", "timeline", "places", "speedup", "source", "numbers"])
         self.assertEqual(text.count("<section"), text.count("<section id="))
 
     def test_words_of_a_text_are_words_on_the_page(self):
-        text = worked.page_text(["odd"])
+        text = worked.page_text("odd")
         self.assertNotIn("<img", text)
         self.assertEqual(text.count("</script>"), 2)
         self.assertIn("odd &lt;/script&gt; thing: span too low", text)
 
     def test_names_cannot_end_the_data(self):
-        data = read_page(worked.page_text(["mesh"])).data
-        self.assertEqual(json.loads(data)["programs"][0]["name"], "mesh.tasks")
+        data = read_page(worked.page_text("mesh")).data
+        self.assertEqual(json.loads(data)["name"], "mesh.tasks")
         self.assertNotIn("<", data)
 
 
@@ -55,33 +53,30 @@ class WrongNumbers(unittest.TestCase):
         patch = worked.patched()
         patch.start()
         self.addCleanup(patch.stop)
-        self.text = worked.page_text(["mesh", "split"])
+        self.text = worked.page_text("split")
 
     def faults(self, old, new):
         self.assertIn(old, self.text)
-        return compared(self.text.replace(old, new, 1), ["mesh", "split"])[0]
+        return compared(self.text.replace(old, new, 1), "split")[0]
 
     def test_each_wrong_value_is_found(self):
         reader = read_page(self.text)
-        programs = programs_of(reader, [worked.path(name + ".tasks") for name in ("mesh", "split")], worked.Kept())
+        program = program_of(reader, worked.path("split.tasks"), worked.Kept())
         whole = [figure for figure in reader.figures if figure.exact.isdigit()]
-        self.assertGreater(len(whole), 50)
+        self.assertGreater(len(whole), 25)
         for figure in whole:
-            self.assertEqual(faults_of(figure, programs), [])
-            self.assertTrue(faults_of(replace(figure, exact=str(int(figure.exact) + 1)), programs))
+            self.assertEqual(faults_of(figure, program), [])
+            self.assertTrue(faults_of(replace(figure, exact=str(int(figure.exact) + 1)), program))
 
     def test_a_wrong_number_that_only_a_reader_sees(self):
-        self.assertEqual(len(self.faults(">41 µs<", ">42 µs<")), 1)
+        self.assertEqual(len(self.faults(">37 µs<", ">38 µs<")), 1)
 
     def test_a_wrong_tooltip(self):
         end = "1.00 times; the greedy schedule ends at %d"
-        self.assertTrue(self.faults(end % 41, end % 40))
-
-    def test_a_number_of_the_wrong_program(self):
-        self.assertTrue(self.faults('data-from="other span work"', 'data-from="span work"'))
+        self.assertTrue(self.faults(end % 37, end % 36))
 
     def test_a_name_may_have_digits(self):
-        self.assertEqual(self.faults("<title>mesh", "<title>mesh_14"), [])
+        self.assertEqual(self.faults("<title>split", "<title>split_14"), [])
 
     def test_a_number_without_a_source(self):
         faults = self.faults("Slack is the delay that a segment can bear.", "Slack is 31.")
@@ -90,21 +85,18 @@ class WrongNumbers(unittest.TestCase):
 
     def test_another_greedy_run(self):
         data = json.loads(read_page(self.text).data)
-        starts = data["programs"][1]["runs"]["greedy"]["starts"]
+        starts = data["runs"]["greedy"]["starts"]
         self.assertEqual(self.faults('"greedy":{"starts":"%s"' % starts, '"greedy":{"starts":"1%s"' % starts),
                          ["split.tasks: the greedy schedule that is drawn is another"])
 
     def test_another_recorded_run(self):
-        lanes = json.loads(read_page(self.text).data)["programs"][1]["runs"]["recorded"]["lanes"]
+        lanes = json.loads(read_page(self.text).data)["runs"]["recorded"]["lanes"]
         other = lanes.replace("0", "2").replace("1", "0").replace("2", "1")
         self.assertIn("split.tasks: the recorded run that is drawn is another",
                       self.faults('"lanes":"%s"' % lanes, '"lanes":"%s"' % other))
 
 
 class Small(unittest.TestCase):
-    def test_a_template_is_filled(self):
-        self.assertEqual(filled("a {{ x }} b {{ y }}", {"x": "{1}", "y": "2"}), "a {1} b 2")
-
     def test_as_many_digits_as_are_shown(self):
         self.assertTrue(is_seen("1,234.5", 1234.52))
         self.assertTrue(is_seen("−9.8", -9.756))

@@ -4,10 +4,8 @@ import unittest
 from html import unescape
 
 from spanprof.remarks import remark_of
-from spanprof.report.part_compare import change, compare_part
 from spanprof.report.part_curve import curve_part, step_of
 from spanprof.report.part_diagnosis import first_part
-from spanprof.report.part_graph import graph_part
 from spanprof.report.part_numbers import numbers_part
 from spanprof.report.part_places import places_part
 from spanprof.report.part_timeline import timeline_part
@@ -103,61 +101,24 @@ class OfOneProgram(Patched):
         self.assertNotIn("scheduling delay", words)
 
     def test_curve(self):
-        part = curve_part([self.view])
-        self.assertEqual(part.count('class="dot s0"'), 16)
+        part = curve_part(self.view)
+        self.assertEqual(part.count('class="dot"'), 16)
         self.assertIn("2 threads: 1.02, work / elapsed of the recorded run", part)
         self.view.answers.head.threads = 1
-        self.assertIn("it was recorded on one thread, and says nothing about more", curve_part([self.view]))
+        self.assertIn("it was recorded on one thread, and says nothing about more", curve_part(self.view))
 
     def test_what_was_reached_is_inside_the_picture(self):
-        mark = re.search(r'd="M\S+ (\S+)l7 7l-7 7l-7 -7z"', curve_part([worked.view("odd")]))
+        mark = re.search(r'd="M\S+ (\S+)l7 7l-7 7l-7 -7z"', curve_part(worked.view("odd")))
         self.assertGreater(float(mark[1]), 0)
 
     def test_a_run_with_times_is(self):
         view = worked.view("split")
-        self.assertIn("The run as it was , 2 threads , 28 µs", seen(timeline_part(view, 0, [view])))
+        self.assertIn("The run as it was , 2 threads , 28 µs", seen(timeline_part(view)))
 
     def test_no_run(self):
         view = worked.view("plain")
         self.assertIn("There are no recorded times of its segments, so only the greedy schedule is shown.",
-                      seen(timeline_part(view, 0, [view])))
-
-    def test_graph(self):
-        part = graph_part(self.view)
-        self.assertEqual(part.count('class="box'), len(self.view.task_places))
-        self.assertRegex(part, 'class="edge [^"]*depends[^"]* critical"')
-
-
-class OfTwo(Patched):
-    def setUp(self):
-        super().setUp()
-        self.views = [worked.view("mesh"), worked.view("split", prefix="other ")]
-
-    def test_differences(self):
-        words = seen(compare_part(self.views))
-        self.assertIn("work 41 µs 37 µs −9.8 % proved of the text", words)
-        self.assertIn("elapsed 40 µs 30 µs −25.0 % measured", words)
-
-    def test_times_of_different_units_are_not_compared(self):
-        words = seen(compare_part([self.views[0], worked.view("plain", prefix="other ")]))
-        self.assertIn("costs in different units: µs and none named . So their times are not compared.", words)
-        self.assertRegex(words, r"work 41 µs \d+ proved of the text span 31 µs \d+ proved of")
-        self.assertRegex(words, r"tasks 5 \d+ \S+ % recorded declared")
-
-    def test_no_difference_of_nothing(self):
-        changes = [change(self.views, a, b, "tasks", "recorded") for a, b in ((0, 3), (4, 4))]
-        self.assertEqual(changes, ["new", "the same"])
-
-    def test_both_in_one_picture(self):
-        part = curve_part(self.views)
-        self.assertIn('class="curve s0"', part)
-        self.assertIn('class="curve s1"', part)
-        self.assertIn('data-from="other curve 2 threads; other span work / curve 2 end; other curve 2 end;', part)
-
-    def test_a_second_timeline_is_of_the_second_program(self):
-        part = timeline_part(self.views[1], 1, self.views)
-        self.assertIn('data-from="other run end"', part)
-        self.assertIn('data-program="1"', part)
+                      seen(timeline_part(view)))
 
 
 class Pieces(unittest.TestCase):

@@ -1,8 +1,5 @@
 import unittest
-from array import array
-from types import SimpleNamespace
 
-from spanprof.report.graph import CREATES, DEPENDS, WAITS, critical_pairs, place_edges
 from spanprof.report.places import Place
 from spanprof.report.tests import worked
 
@@ -31,32 +28,3 @@ class OfTheWorkedProgram(unittest.TestCase):
         self.assertEqual((list(both.tasks), both.cost, both.critical_cost), ([2, 4], 15, 7))
         self.assertEqual([self.view.task_costs[task] for task in both.tasks], [7, 8])
         self.assertEqual(list(found["the root"].tasks), [0])
-
-    def test_edges(self):
-        answers = self.view.answers
-        edges = place_edges(answers.code, answers.predecessors, range(6))
-        self.assertEqual(edges[CREATES, 0, 1], 1)
-        self.assertEqual(edges[DEPENDS, 1, 2], 1)
-        self.assertEqual(edges[DEPENDS, 1, 4], 1)
-        self.assertEqual(edges[WAITS, 3, 2], 1)
-        self.assertEqual({kind for kind, _, b in edges if b == 0}, {WAITS})
-
-    def test_the_path_between_tasks(self):
-        self.assertEqual(critical_pairs(self.view.answers.code, self.view.answers.path_segments, range(6)),
-                         {(0, 1), (1, 2), (2, 3), (3, 2), (2, 0)})
-
-
-class Code(list):
-    @property
-    def task(self):
-        return [one.task for one in self]
-
-
-class Edges(unittest.TestCase):
-    def test_a_creation_is_the_segment_before(self):
-        code = Code([SimpleNamespace(task=0, after=""), SimpleNamespace(task=1, after=""),
-                     SimpleNamespace(task=0, after="creating a task"), SimpleNamespace(task=2, after="")])
-        before = [[], [0], [0], [1, 2]]
-        self.assertEqual(place_edges(code, before, range(3)),
-                         {(CREATES, 0, 1): 1, (DEPENDS, 1, 2): 1, (CREATES, 0, 2): 1})
-        self.assertEqual(place_edges(code, before, array("I", [5, 6, 6]))[CREATES, 5, 6], 2)

@@ -47,11 +47,11 @@ class Marks(unittest.TestCase):
     def part(self, points):
         view = worked.view("split")
         view.true_times = points
-        return curve_part([view])
+        return curve_part(view)
 
     def test_each_with_its_spread(self):
         part = self.part(POINTS)
-        self.assertEqual(part.count('class="true s0"'), 2)
+        self.assertEqual(part.count('class="true"'), 2)
         self.assertIn("4 threads: 1.21 (1.02 to 1.33), true speedup against one thread: median of measured, "
                       "unrecorded runs of the whole program, least and greatest", part)
         self.assertIn('data-from="scale 4 threads; scale 4 speedup; scale 4 speedup-from; scale 4 speedup-to"', part)

@@ -14,6 +14,7 @@ from spanprof.report.tests.worked_files import FOLDER, path
 from spanprof.report.true_times import NAMES, Point
 
 KEPT = path("answers.json")
+TEXTS = ("mesh", "split", "plain", "odd")
 
 
 def key(words, text):
@@ -71,7 +72,6 @@ class Patched:
     def __init__(self):
         kept = Kept()
         self.patches = [mock.patch("spanprof.client.ask", kept), mock.patch("spanprof.client.pieces", pieces_of(kept)),
-                        mock.patch("spanprof.client.takes_any_size", return_value=True),
                         mock.patch("spanprof.time_breakdown.ask", kept.of_times),
                         mock.patch("spanprof.report.view.true_times_beside", true_times_beside),
                         mock.patch("spanprof.report.view.diagnosis_of", return_value=None)]
@@ -104,21 +104,13 @@ def view(name="mesh", **more):
     with patched():
         made = view_without_page(name, **more)
         from spanprof.report.page import page
-        page([made])    # asks for all that the page needs
+        page(made)      # asks for all that the page needs
     return made
 
 
-def pages():
-    """Each page that the tests make, as names of texts."""
-    return [["mesh"], ["split"], ["plain"], ["odd"], ["mesh", "split"]]
-
-
-def page_text(names):
+def page_text(name):
     from spanprof.report.page import page
-    from spanprof.report.view import View
-    views = [View(path(name + ".tasks"), source=[FOLDER], prefix="other " if i else "")
-             for i, name in enumerate(names)]
-    return page(views)
+    return page(view_without_page(name))
 
 
 def noting(out, ask, key_of):
@@ -139,14 +131,13 @@ def asked_now():
     from spanprof.report.tests.compare import differences
     out = {}
     asked = noting(out, client.ask, key)
-    of_times = time_breakdown.ask if client.takes_any_size() else Kept().of_times     # that program need not be there
-    times = noting(out, of_times, lambda words, file: key(["account", *words], document(file)))
+    times = noting(out, time_breakdown.ask, lambda words, file: key(["account", *words], document(file)))
     with mock.patch("spanprof.client.ask", asked), mock.patch("spanprof.client.pieces", pieces_of(asked)), \
             mock.patch("spanprof.time_breakdown.ask", times), \
             mock.patch("spanprof.report.view.true_times_beside", true_times_beside), \
             mock.patch("spanprof.report.view.diagnosis_of", return_value=None):
-        for names in pages():
-            wrong, _ = differences(page_text(names), [path(name + ".tasks") for name in names], asked)
+        for name in TEXTS:
+            wrong, _ = differences(page_text(name), path(name + ".tasks"), asked)
             if wrong:
                 sys.exit("\n".join(wrong))
     return out
