@@ -134,17 +134,17 @@ def marks_of_file(path):
 
 
 class Written(dict):
-    """Of each number its line."""
+    """Of each number its line. Most of a recording's costs stand there many times."""
 
     def __init__(self, known):
         super().__init__({0: ""})
         self.known = known
 
     def __missing__(self, number):
-        if number > 0:
-            return "work %d\n" % number
-        self[number] = line_of(self.known[-number])
-        return self[number]
+        line = "work %d\n" % number if number > 0 else line_of(self.known[-number])
+        if len(self) < MOST_KNOWN:
+            self[number] = line
+        return line
 
 
 class Statements:

@@ -81,7 +81,7 @@ void Events::print(const Region &region, const Taker &taker) {
   for (const SegmentTime &time : times) end = std::max(end, time.end);
   size_t threads = std::max<size_t>(region.threads, workers());
   taker("times " + std::to_string(threads) + " 0 " + std::to_string(end) + "\n");
-  if (file) file->begin_again();
+  if (file) file->go_to(0);
   std::string bytes;
   for (size_t left = in_file; left; left -= bytes.size()) {
     bytes.resize(std::min(left, longest_piece));

@@ -48,7 +48,8 @@ NamelessFile::~NamelessFile() {
   if (file >= 0) close(file);
 }
 
-void NamelessFile::put_out(const char *bytes, std::size_t count) const {
+void NamelessFile::put_out(const char *bytes, std::size_t count) {
+  put += count;
   while (count) {
     ssize_t done = ::write(file, bytes, count);
     if (done < 0 && errno == EINTR) continue;
@@ -79,16 +80,10 @@ void NamelessFile::read_on(char *bytes, std::size_t count) {
   }
 }
 
-void NamelessFile::skip(std::size_t count) {
-  std::size_t there = std::min(count, filled - at);
-  at += there;
-  if (count > there && lseek(file, static_cast<off_t>(count - there), SEEK_CUR) < 0) give_up(unreadable);
-}
-
-void NamelessFile::begin_again() {
+void NamelessFile::go_to(std::size_t byte) {
   if (!filled) put_out(buffer.data(), at);
   at = filled = 0;
-  if (lseek(file, 0, SEEK_SET) < 0) give_up(unreadable);
+  if (lseek(file, static_cast<off_t>(byte), SEEK_SET) < 0) give_up(unreadable);
 }
 
 NewFile::NewFile(const std::string &called) : name(called), file(fopen(unfinished(name).c_str(), "w")), good(file) {}

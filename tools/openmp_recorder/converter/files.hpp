@@ -29,16 +29,17 @@ class NamelessFile {
     std::memcpy(bytes, buffer.data() + at, count);
     at += count;
   }
-  void skip(std::size_t count);
-  void begin_again();
+  std::size_t size() const { return put + at; }  // of what is written
+  void go_to(std::size_t byte);  // where it is read from then on
 
  private:
   std::vector<char> buffer;
   std::size_t at = 0, filled = 0;  // of the buffer; nothing is filled while the file is written
+  std::size_t put = 0;  // in the file itself
   int file;
   void write_on(const char *bytes, std::size_t count);
   void read_on(char *bytes, std::size_t count);
-  void put_out(const char *bytes, std::size_t count) const;
+  void put_out(const char *bytes, std::size_t count);
 };
 
 // A file that is written piece by piece.

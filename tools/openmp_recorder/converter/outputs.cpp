@@ -274,19 +274,6 @@ std::vector<Region *> held(const std::vector<Region *> &few, const Job &job, End
   return out;
 }
 
-// Where what was let go is of no use, all of it is held.
-Run *read_all(const Job &job, Ending &ending) {
-  const Ending unread = ending;
-  Run *run = new Run(read_run(job.threads, ending, how_to_read(job)));  // given back by the end of the process
-  if (!run->whole || !run->whole->before || !run->whole->before->are_in_vain) return run;
-  HowToRead how = how_to_read(job);
-  how.most_held = UINT64_MAX;
-  ending = unread;
-  *run = Run();
-  *run = read_run(job.read_again(), ending, how);
-  return run;
-}
-
 void report_whole(const Job &job, Run &run, Recording recording, int64_t end) {
   finish_whole(run, {0, true, job.start, end}, job.options.unit);
   recording.whole = run.whole.get();
@@ -303,7 +290,7 @@ void report_whole(const Job &job, Run &run, Recording recording, int64_t end) {
 
 void report(const Job &job, Ending &ending) {
   const Ending unread = ending;
-  Run &run = *read_all(job, ending);
+  Run &run = *new Run(read_run(job.threads, ending, how_to_read(job)));  // given back by the end of the process
   int64_t end = std::max(job.end, ending.last);  // of a program that was killed the head has none
   ProgramTime time = divide_time(job.threads, job.start, end);
   ThreadTime threads{outside_regions(job, run, time, end), in_code(run), !ending.full && !ending.killed};

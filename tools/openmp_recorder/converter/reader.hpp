@@ -95,7 +95,7 @@ class Reader {
   [[noreturn]] void refuse(const char *why) const;  // what the runtime never tells
 
   // run.cpp: tasks, and what runs
-  Task *fresh(Region *region);
+  Task *fresh(Region *region, bool is_of_host);
   Task *add_part(uint32_t number, Region *region);
   void charge(Task *t);
   void begin(Task *t);
@@ -154,7 +154,8 @@ class Reader {
   void take_from_later(size_t first);
   void take_steps(Task &root, size_t count);
   void take_events(Region &stretch, size_t end);
-  void end_stretch(Region &stretch, const Placed &end);
+  Stretches &before();
+  void put_stretch(Region &stretch, const std::vector<Region *> &regions, size_t chunks);
   void forget_loops(const Placed &end);
   void take_from_placed(const Placed &gone);
 
@@ -176,7 +177,11 @@ class Reader {
 
   // whole.cpp: the whole program as one text
   std::map<std::pair<uint32_t, unsigned>, Loop *> loops;  // by region, and how many the threads met there before
-  std::vector<Task *> hosts;  // the code outside of regions of threads but the first
+  // The code outside of regions of threads but the first, and all below it: it is held until the end, and stands first.
+  std::vector<Task *> hosts;
+  Region of_hosts;
+  std::vector<Region *> begun_by_hosts;
+  std::deque<Chunk> chunks_of_hosts;
   unsigned in_loops = 0;  // implicit tasks
   bool is_host(const Task *t) const { return run.whole && t->part && t->region == run.whole.get(); }
   void begin_root();

@@ -69,7 +69,6 @@ void Reader::take_from_later(size_t first) {
 
 void Reader::release_until(const Placed &found) {
   const Placed end = found;
-  if (!run.whole->before) run.whole->before = std::make_shared<Stretches>(how.beside);
   Region stretch;
   stretch.tasks = run.whole->tasks.take(1, end.blocks);
   stretch.has_auxiliary = run.whole->has_auxiliary;
@@ -80,13 +79,17 @@ void Reader::release_until(const Placed &found) {
   stretch.root = &stretch.tasks.emplace_front();
   stretch.root->part = true;
   take_steps(*stretch.root, end.steps);
-  for (size_t i = loops_gone; i < end.loops; i++) take_waits_off(run.whole->loop_list[i]);
+  for (size_t i = loops_gone; i < end.loops; i++)
+    if (Loop &loop = run.whole->loop_list[i]; !loop.is_of_host) take_waits_off(loop);
   take_events(stretch, end.events);
-  end_stretch(stretch, end);
-  run.whole->before->put(stretch);
-  run.whole->off.release(run.whole->before->count() - 1, *run.whole->root, *stretch.root);
-  for (size_t i = chunks_gone; i < end.chunks; i++)
-    if (Chunk &chunk = run.whole->chunk_list[i]; chunk.is_task) chunk.at = chunk.task->first_number;
+  for (Task &t : stretch.tasks) {
+    if (&t == stretch.root) continue;
+    while (t.open_groups) end_group(&t, nullptr);
+    t.end_reading();
+  }
+  put_stretch(stretch, {begun.begin(), begun.begin() + static_cast<std::ptrdiff_t>(end.regions)}, end.chunks);
+  before().finest.add(*stretch.root);
+  run.whole->off.release(before().count() - 1, *run.whole->root, *stretch.root);
   take_from_placed(end);
   room = std::min(room, least_stretch);
 }
@@ -127,30 +130,32 @@ void Reader::take_events(Region &stretch, size_t end) {
   events.forget(end);
 }
 
-// What is summed up at the end of all that is read.
-void Reader::end_stretch(Region &stretch, const Placed &end) {
+Stretches &Reader::before() {
+  if (!run.whole->before) run.whole->before = std::make_shared<Stretches>(how.beside);
+  return *run.whole->before;
+}
+
+// With what is summed up at the end of all that is read, of these regions and the chunks up to one.
+void Reader::put_stretch(Region &stretch, const std::vector<Region *> &regions, size_t chunks) {
   WholeProgram &whole = *run.whole;
-  for (Task &t : stretch.tasks) {
-    if (&t == stretch.root) continue;
-    while (t.open_groups) end_group(&t, nullptr);
-    t.end_reading();
-  }
+  Stretches &all = before();
   leave_out_auxiliary(stretch);
   add_up(stretch);
-  for (size_t i = 0; i < end.regions; i++) {
-    whole.before->beside.add(beside_each_other(begun[i]->parts));
-    count_parts(whole, *begun[i]);
-    begun[i]->parts = std::vector<Part>();
-    begun[i]->is_released = true;
+  for (Region *region : regions) {
+    all.beside.add(beside_each_other(region->parts));
+    count_parts(whole, *region);
+    region->parts = std::vector<Part>();
+    region->is_released = true;
   }
-  measure_chunks(whole, chunks_gone, end.chunks);
-  put_finest_pieces(whole, chunks_gone, end.chunks);
-  Stretches &before = *whole.before;
-  before.chunks.push_back(end.chunks);
-  before.work += stretch.root->total;
-  for (const Task &t : stretch.tasks) before.tasks += t.parent && !t.pieces;
-  span_of(stretch, before.ends);
-  before.finest.add(*stretch.root);
+  measure_chunks(whole, chunks_gone, chunks);
+  put_finest_pieces(whole, chunks_gone, chunks);
+  all.chunks.push_back(chunks);
+  all.work += stretch.root->total;
+  for (const Task &t : stretch.tasks) all.tasks += t.parent && !t.pieces;
+  span_of(stretch, all.ends);
+  all.put(stretch);
+  for (; chunks_gone < chunks; chunks_gone++)
+    if (Chunk &chunk = whole.chunk_list[chunks_gone]; chunk.is_task) chunk.at = chunk.task->first_number;
 }
 
 void Reader::forget_loops(const Placed &end) {
@@ -158,6 +163,7 @@ void Reader::forget_loops(const Placed &end) {
     loops.erase(loops.lower_bound({begun[i]->number, 0}), loops.lower_bound({begun[i]->number + 1, 0}));
   for (size_t i = loops_gone; i < end.loops; i++) {
     const Loop *loop = &run.whole->loop_list[i];
+    if (loop->is_of_host) continue;
     auto first = turn_locations.lower_bound({loop, {}}), last = first;
     for (; last != turn_locations.end() && last->first.first == loop; ++last) done.erase(last->second);
     turn_locations.erase(first, last);
@@ -176,6 +182,5 @@ void Reader::take_from_placed(const Placed &gone) {
   blocks_ended -= gone.blocks - 1;
   regions_ended -= gone.regions;
   seen_steps -= gone.steps;
-  chunks_gone = gone.chunks;
   loops_gone = gone.loops;
 }

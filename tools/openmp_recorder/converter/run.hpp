@@ -71,6 +71,7 @@ struct Loop {
   const void *code = nullptr;
   uint64_t count = 0, reported = 0;  // turns: of the loop, and of the chunks that were told
   bool kept = false;  // some of it, or all, is code of the parts, as this run divided it
+  bool is_of_host = false;
   uint32_t order = 0;  // of an `ordered` loop: the location that its turns take in order
   Turns *in_order = nullptr;  // of the thread whose turn it is
   std::vector<TurnWait> waits;
@@ -132,6 +133,7 @@ struct Region {
   // where the whole program is one text
   Region *whole = nullptr;  // that its tasks stand in
   Task *owner = nullptr;  // met it, and it is not in its place yet
+  bool is_of_host = false;  // as the owner
   bool resumes = false;  // the owner ran on the same thread
   int64_t met_at = 0;  // the wall clock
   size_t left = 0;  // the event with which the owner was left for it

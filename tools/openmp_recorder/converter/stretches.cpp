@@ -45,10 +45,15 @@ void Stretches::put(Region &stretch) {
   auto is_there = [&](const Task &t) { return t.parent || &t == stretch.root; };
   for (Task &t : stretch.tasks)
     if (is_there(t)) t.first_number = count++;
-  counts.push_back({count, 0});
+  counts.push_back({count, 0, file.size()});
   for (const Task &t : stretch.tasks)
     if (is_there(t)) put_task(t);
   put_events(stretch.events);
+}
+
+void Stretches::put_last_first(const Task &root) {
+  is_last_first = true;
+  finest.below = std::max(finest.below, root.end_below);
 }
 
 void Stretches::get_task(Task &t, const std::vector<Task *> &all) {
@@ -89,14 +94,14 @@ void Stretches::get_events(EventList &events, std::size_t count, const std::vect
 }
 
 void Stretches::each(bool timed, const std::function<void(Region &, std::size_t, const std::vector<Task *> &)> &take) {
-  file.begin_again();
-  for (std::size_t number = 0; number < counts.size(); number++) {
+  for (std::size_t i = 0; i < counts.size(); i++) {
+    std::size_t number = is_last_first ? (i ? i : counts.size()) - 1 : i;
+    file.go_to(counts[number].begin);
     Region stretch;
     std::vector<Task *> all;
-    for (uint32_t i = 0; i < counts[number].tasks; i++) all.push_back(&stretch.tasks.emplace_back());
+    while (all.size() < counts[number].tasks) all.push_back(&stretch.tasks.emplace_back());
     for (Task *t : all) get_task(*t, all);
     if (timed) get_events(stretch.events, counts[number].events, all);
-    else file.skip(counts[number].events * sizeof(StoredEvent));
     stretch.root = all.front();
     take(stretch, number, all);
   }

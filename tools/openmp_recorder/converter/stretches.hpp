@@ -16,12 +16,10 @@ class Stretches {
  public:
   explicit Stretches(const std::string &beside) : file(beside) {}
   void put(Region &stretch);  // what its tasks have; numbers them, for chunks of loops that are among them
+  void put_last_first(const Task &root);  // in the text: what was put last runs beside all else
   std::size_t count() const { return counts.size(); }
   // Reads all again, one at a time, with the number of each and its tasks by their numbers; with events if asked for.
   void each(bool timed, const std::function<void(Region &, std::size_t, const std::vector<Task *> &)> &take);
-
-  // A thread that the program made met a region, which stands before all else: the log is to be read again, and held.
-  bool are_in_vain = false;
 
   // sums of all that were put
   uint64_t tasks = 0;  // that are no chunks of loops
@@ -41,9 +39,11 @@ class Stretches {
   struct Count {
     uint32_t tasks;
     std::size_t events;
+    std::size_t begin;  // in the file
   };
   NamelessFile file;
   std::vector<Count> counts;  // of each
+  bool is_last_first = false;
   void put_task(const Task &t);
   void put_events(const EventList &events);
   void get_task(Task &t, const std::vector<Task *> &all);

@@ -83,6 +83,7 @@ struct Task {
       unsigned open_groups;  // of its own code
       uint32_t number;
       bool running, waiting, is_ended;
+      bool is_of_host;  // is the code of a thread that the program made, or below it
     };
     struct {  // while it is written
       int64_t total;  // `work` with everything below it
@@ -109,7 +110,7 @@ inline void Task::begin_reading(Region *of) {
   wait = nullptr;
   loop = nullptr;
   interrupted = open_groups = number = 0;
-  running = waiting = is_ended = false;
+  running = waiting = is_ended = is_of_host = false;
 }
 
 inline void Task::end_reading() {

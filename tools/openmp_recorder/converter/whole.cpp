@@ -17,7 +17,7 @@ Reader::Reader(const HowToRead &chosen) : how(chosen) {
   if (!how.whole) return;
   run.whole = std::make_unique<WholeProgram>();
   run.whole->has_events = how.times;
-  run.whole->root = fresh(run.whole.get());
+  run.whole->root = fresh(run.whole.get(), false);
   run.whole->root->part = true;
   run.whole->tasks.begin_block();
   room = std::min(how.most_held, most_room);
@@ -42,14 +42,12 @@ void Reader::initial_begin() {
   look_at_new_part(r->task);
   Task *t = run.whole->root;
   if (t->on && t->on != log) {
-    t = fresh(run.whole.get());
+    t = fresh(run.whole.get(), true);
     t->part = true;
     hosts.push_back(t);
     t->on = log;
     worker().outside = t;
     t->running = record_clock().of_processor;  // since the thread began
-    may_release = false;
-    if (run.whole->before) run.whole->before->are_in_vain = true;
     give_up_times();
   } else if (!t->on) {
     begin_root();
@@ -61,7 +59,6 @@ void Reader::meet_region(Region &region) {
   release_beginning();
   Task *t = find(r->task), *root = run.whole->root;
   region.whole = run.whole.get();
-  begun.push_back(&region);
   region.has_events = false;
   if (ImplicitTask *own = in_loop(); own && own->chunk && t && t->part) {
     t = own->chunk;  // whose turns are not told apart then
@@ -70,6 +67,8 @@ void Reader::meet_region(Region &region) {
   if (!t || t->is_ended) t = root;
   if (!root->on) begin_root();
   region.owner = t;
+  region.is_of_host = t->is_of_host;
+  (region.is_of_host ? begun_by_hosts : begun).push_back(&region);
   region.resumes = t->running && t->on == log;
   if (!region.resumes) return give_up_times();
   settle(t);
@@ -150,6 +149,7 @@ void Reader::divided_begin() {
   ImplicitTask &own = implicit[current().back()];
   in_loops++;
   own.loop = &loop_of(r->other, own.loops++);
+  own.loop->is_of_host = t->region->is_of_host;
   own.loop->what = static_cast<Divided>(r->detail);
   own.loop->code = r->place();
   own.loop->count = std::max<uint64_t>(own.loop->count, r->task);
@@ -205,7 +205,7 @@ void Reader::begin_chunk(ImplicitTask &own, uint64_t turns) {
   chunk->of_loop = true;
   chunk->origin = own.loop->what == Divided::Sections ? Origin::Section : Origin::Turns;
   chunk->pieces = 1;
-  own.last = &run.whole->chunk_list.emplace_back();
+  own.last = &(t->region->is_of_host ? chunks_of_hosts : run.whole->chunk_list).emplace_back();
   own.last->loop = own.loop;
   own.last->turns = turns;
   own.last_turns = std::max<uint64_t>(turns, 1);
@@ -293,17 +293,18 @@ void Reader::end_outside(Task *t, int64_t end, int64_t wall) {
 
 // When the threads that a program makes itself begin with their regions is not told.
 void Reader::put_hosts_beside() {
-  Task &root = *run.whole->root;
-  ShortList<Step> steps;
+  close_tasks(of_hosts);
+  Task *root = of_hosts.root = &of_hosts.tasks.emplace_front();
   for (Task *host : hosts) {
     if (!host->children) continue;
-    steps.push_back(Step::create(host));
-    host->parent = &root;
-    root.children++;
-    root.segment++;
+    add_step(*root, Step::create(host));
+    host->parent = root;
     run.whole->remarks[Remark::OtherThread].add(nullptr);
   }
-  if (steps.empty()) return;
-  for (const Step &step : root.steps) steps.push_back(step);
-  root.steps = std::move(steps);
+  of_hosts.has_auxiliary = run.whole->has_auxiliary;
+  std::deque<Chunk> &chunks = run.whole->chunk_list;
+  chunks.insert(chunks.begin() + static_cast<std::ptrdiff_t>(chunks_gone), chunks_of_hosts.begin(),
+                chunks_of_hosts.end());
+  put_stretch(of_hosts, begun_by_hosts, chunks_gone + chunks_of_hosts.size());
+  before().put_last_first(*root);
 }

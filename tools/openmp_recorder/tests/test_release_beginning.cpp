@@ -133,18 +133,18 @@ TEST(nothing_is_let_go_while_a_task_before_it_did_not_end) {
   EXPECT(made.released().whole->before == nullptr, true);
 }
 
-TEST(nothing_is_let_go_of_a_program_that_made_threads) {
+TEST(what_a_thread_of_the_program_runs_stands_before_what_was_let_go) {
   Program made(2);
   close_region(made.after(4), 1, 1);
   begin_region(made, 2, 11);
   close_region(made.after(5), 2, 11);
-  EXPECT(made.released().whole->before != nullptr, true);
+  EXPECT(made.released().whole->before->count(), 1u);
   made.add(1, RecordKind::ImplicitBegin, 9, 0, is_initial).add(1, RecordKind::ParallelBegin, 9, 3);
   made.add(1, RecordKind::ImplicitBegin, 20, 3, 0, 1)
       .after(6)
       .add(1, RecordKind::ImplicitEnd, 20)
       .add(1, RecordKind::ParallelEnd, 0, 3);
-  EXPECT(made.released().whole->before == nullptr, true);
+  EXPECT(made.released().whole->before->count(), 2u);
   EXPECT(made.text().substr(0, 5), "task ");
 }
 

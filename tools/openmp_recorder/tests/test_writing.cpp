@@ -124,8 +124,7 @@ TEST(a_file_without_a_name_gives_back_what_was_written_as_often_as_asked) {
   for (uint32_t i = 0; i < 100000; i++) file.write(&i, sizeof i);
   file.write(large.data(), large.size());
   for (uint32_t skipped : {7U, 99998U}) {
-    file.begin_again();
-    file.skip(skipped * sizeof skipped);
+    file.go_to(skipped * sizeof skipped);
     uint32_t found = 0, sum = 0;
     for (uint32_t i = skipped; i < 100000; i++) file.read(&found, sizeof found), sum += found != i;
     std::string last(large.size(), ' ');

@@ -26,12 +26,8 @@ class Program : public Made {
   }
   // Of records of which nothing runs by itself later than the last.
   Run &released() {
-    HowToRead how{UINT64_MAX, true, began, now(), nullptr, true, began, now(), 0, {}, nullptr, "/tmp/spanprof_let_go"};
-    found = read({}, how);
-    if (found.whole->before && found.whole->before->are_in_vain) {
-      how.most_held = UINT64_MAX;
-      found = read({}, how);
-    }
+    found = read({}, {UINT64_MAX, true, began, now(), nullptr, true, began, now(), 0, {}, nullptr,
+                      "/tmp/spanprof_let_go"});
     finish_whole(found, {0, true, began, now()}, 1);
     size_of(*found.whole);
     return found;

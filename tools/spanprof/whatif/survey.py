@@ -61,11 +61,12 @@ class Kind:
 def walk(found, out):
     """Depth, what stands between creations, and which waits are for tasks with depend items."""
     kinds, between = [Kind(one) for one in found.known], Counter()
-    since = None                # what the code cost since a task's end; None after another thing
+    deepest, since = 0, None    # what the code cost since a task's end; None after another thing
     tasks, groups, depth, has_items = [], [], 0, False  # of each open task what was before it; whether one has items
     for number in found.row:
         if number >= 0:
-            since = None if since is None else since + number
+            if since is not None:
+                since += number
             continue
         kind = kinds[-number]
         if kind.is_task:
@@ -73,7 +74,8 @@ def walk(found, out):
                 between[since] += 1
             tasks.append((has_items or kind.has_items, depth))
             has_items, depth = False, depth + kind.is_level
-            out.depth = max(out.depth, depth)
+            if depth > deepest:
+                deepest = depth
         elif kind.is_end_of_task:
             has_items, depth = tasks.pop()
             since = 0
@@ -83,7 +85,7 @@ def walk(found, out):
         else:
             out.ordered[kind.name if kind.is_wait else groups.pop()] += has_items
         since = None
-    out.between = between
+    out.depth, out.between = deepest, between
 
 
 def survey(stream):
