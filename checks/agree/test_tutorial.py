@@ -26,10 +26,10 @@ class Faults(unittest.TestCase):
 
 
 class Programs(unittest.TestCase):
-    def test_the_second_one_may_be_missing(self):
-        self.assertEqual(named_programs(["/no/spanprof", "/no/large"]), {"spanprof": "/no/spanprof"})
+    def test_those_that_are_not_named_are_built_here(self):
         self.assertEqual(named_programs(["/no/spanprof", "/bin/sh"]), {
             "spanprof": "/no/spanprof", "spanprof_large": "/bin/sh"})
+        self.assertTrue(named_programs(["/no/spanprof"])["spanprof_large"].endswith("/out/spanprof_large"))
 
 
 class Commands(unittest.TestCase):

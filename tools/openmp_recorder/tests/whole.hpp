@@ -26,8 +26,8 @@ class Program : public Made {
   }
   // Of records of which nothing runs by itself later than the last.
   Run &released() {
-    found = read({}, {UINT64_MAX, true, began, now(), nullptr, true, began, now(), 0, {}, nullptr,
-                      "/tmp/spanprof_let_go"});
+    found =
+        read({}, {UINT64_MAX, true, began, now(), nullptr, true, began, now(), 0, {}, nullptr, "/tmp/spanprof_let_go"});
     finish_whole(found, {0, true, began, now()}, 1);
     size_of(*found.whole);
     return found;
