@@ -5,7 +5,7 @@ from array import array
 from bisect import bisect_right
 from collections import Counter
 from dataclasses import dataclass, field, replace
-from itertools import compress
+from itertools import accumulate, compress
 from typing import Dict, List, Optional
 
 from spanprof import client
@@ -329,15 +329,21 @@ def inner_regions(program):
                    times=len(some)) for place, some in found.items()]
 
 
+def most_together(regions):
+    """The most threads that those which last at the same time add to the threads that met them."""
+    moments = [(region.begin, region.threads - 1) for region in regions] + \
+        [(region.end, 1 - region.threads) for region in regions]
+    return max(accumulate(added for _, added in sorted(moments)), default=0)
+
+
 def nested_threads(program):
     """How many threads there are at once where regions inside others have several; 0 without such regions."""
     outer = [region for region in program.regions if not region.inside and region.number] if program else []
-    begins, most = [region.begin for region in outer], 0
+    begins, within = [region.begin for region in outer], {}
     for region in program.regions if outer else ():
-        around = outer[max(0, bisect_right(begins, region.begin) - 1)]
         if region.inside and region.threads > 1:
-            most = max(most, around.threads * region.threads)
-    return most
+            within.setdefault(max(0, bisect_right(begins, region.begin) - 1), []).append(region)
+    return max((outer[around].threads + most_together(inner) for around, inner in within.items()), default=0)
 
 
 def regions_of(program):
