@@ -40,7 +40,7 @@ class Pages(unittest.TestCase):
         self.assertEqual(text.count("<section"), text.count("<section id="))
 
     def test_parts_have_rows_in_the_readme(self):
-        text = worked.page_text(["mesh", "split"])
+        text = worked.page_text("mesh")
         with open(README, encoding="utf-8") as file:
             rows = re.findall(r"(?m)^\| ([A-Z][^|]*) \|", file.read())
         for title in re.findall("<h2>(.*?)</h2>", text):
