@@ -11,6 +11,7 @@ case ${1:-} in -h | --help) sed -n '2,/^set/{/^set/!s/^# \{0,1\}//p}' "$0"; exit
 for program; do
     [ -f "$top/crates/$program/src/main.rt" ] || { echo "$0: crates/$program is no program" >&2; exit 2; }
 done
+command -v rt > /dev/null || { echo "$0: rt is not on the PATH (README.md, Prove it)" >&2; exit 2; }
 copy=$(mktemp -d)
 trap 'rm -rf "$copy"' EXIT
 

@@ -7,7 +7,7 @@ A file that names all commands or causes but one at most has a place for each, a
 statements or three quarters of the events of a log. Words that are plain English, such as `run` and `work`, don't
 count. CONTRIBUTING.md has a table for each. Its first column names files and folders, or `FOLDER`: and then what lies
 there. Each of them has to hold such a file, or one that names a word, and each such file has to be one of them or lie
-below one. Files and folders that its other guides name have to exist.
+below one. Files and folders that it names elsewhere have to exist. LOG.md has the version and a row for each event of a log.
 """
 import pathlib
 import re
@@ -16,6 +16,8 @@ import sys
 
 TOP = pathlib.Path(__file__).resolve().parents[2]
 PLAIN_ENGLISH = {"check", "run", "show", "span", "task", "work"}
+NO_RECORD = {"Nothing", "Sample"}
+RECORDER = "tools/openmp_recorder/"
 NO_PLACES = re.compile(r"(^|/)(must-fail|edits|out)/")
 NO_CODE = re.compile(r"\.(md|tasks|csv|log)$|(^|/)tests?/|_tests/|(^|/)test_|^examples/|^checks/recorders/openmp|"
                      "/predictions/unseen")
@@ -65,6 +67,20 @@ def gone(page, paths):
             yield f"CONTRIBUTING.md names {name}, which does not exist"
 
 
+def log_faults(kinds, form, page):
+    """Where LOG.md differs from the sources: by the version, and by the numbers of kinds."""
+    version, described = (re.search(pattern, text) for pattern, text in (
+        (r"\bversion = (\d+);", form), (r"This is version (\d+)\.", page)))
+    if not version or not described or version[1] != described[1]:
+        yield "LOG.md and log_form.hpp have different versions of the log"
+    cases = re.findall(r"^  (\w+)", kinds.partition("enum class RecordKind")[2].partition("};")[0], re.M)
+    rows = re.findall(r"^\| ([\d, ]+) \|", page.partition("| Kind |")[2].partition("\n\n")[0], re.M)
+    numbers = {int(number) for row in rows for number in row.split(",")}
+    for number, case in enumerate(cases):
+        if number not in numbers and case not in NO_RECORD:
+            yield f"LOG.md has no row for the kind {number}, {case}"
+
+
 def is_below(path, place):
     return path == place or path.startswith(place + "/")
 
@@ -104,7 +120,8 @@ def main(arguments):
     marks = statements(files["crates/program_text/specs/Words.antt"])
     code = {path: text for path, text in files.items() if not NO_CODE.search(path)}
     kinds = causes(files["tools/spanprof/diagnosis/causes.py"])
-    records = events(files["tools/openmp_recorder/shared/record_kind.hpp"])
+    log = [files[RECORDER + name] for name in ("shared/record_kind.hpp", "shared/log_form.hpp", "LOG.md")]
+    records = events(log[0])
     asked = [("command", "To add a command", files, words, len(words - PLAIN_ENGLISH) - 1),
              ("statement", "To add a statement or a clause of the text", code, marks, 2),
              ("cause", "To add a cause of the diagnosis", files, kinds, len(kinds) - 1),
@@ -115,7 +132,8 @@ def main(arguments):
         return 0
     wrong = [line for what, heading, texts, among, least in asked
              for line in faults(what, list(listed(page, heading)), texts, among, least)]
-    wrong += gone(page.partition("\n## To add something else")[2], paths_of(TOP))
+    wrong += log_faults(*log)
+    wrong += gone(page, paths_of(TOP))
     print(*wrong, f"{len(wrong)} wrong", sep="\n")
     return 1 if wrong else 0
 

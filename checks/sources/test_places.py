@@ -5,7 +5,7 @@ import sys
 import unittest
 
 sys.path.insert(0, str(pathlib.Path(__file__).resolve().parent))
-from places import NO_CODE, causes, commands, events, faults, gone, listed, named, statements
+from places import NO_CODE, causes, commands, events, faults, gone, listed, log_faults, named, statements
 
 PROGRAM = '''
     let command = with_command(command, Command::new(alloc, "span"))?;
@@ -47,6 +47,14 @@ class Places(unittest.TestCase):
         self.assertEqual(causes('Cause("lock", 0.1)\nCause("small_tasks", 0.1)'), {"small_tasks"})
         self.assertEqual(events("enum class RecordKind : uint8_t {\n  Nothing,  // none\n  LockGot,\n  Cancel\n};\n"),
                          {"recordkind::lockgot", "recordkind::cancel"})
+
+    def test_the_log_is_described(self):
+        kinds = "enum class RecordKind : uint8_t {\n  Nothing,  // none\n  LockGot,\n  Cancel,\n  Sample\n};\n"
+        page = "This is version 3.\n\n| Kind | What |\n|---|---|\n| 1%s | locks |\n\n| 2 | other |\n"
+        self.assertEqual(list(log_faults(kinds, "int version = 3;", page % ", 2")), [])
+        self.assertEqual(list(log_faults(kinds, "int version = 4;", page % "")),
+                         ["LOG.md and log_form.hpp have different versions of the log",
+                          "LOG.md has no row for the kind 2, Cancel"])
 
     def test_what_a_text_names(self):
         words = {"span", "greedy", "whatif", "curve"}

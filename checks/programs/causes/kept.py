@@ -4,13 +4,14 @@ have to be those of kept.txt. Nothing is measured.
 
     kept.py                                 compares
     kept.py --anew                          writes kept.txt
-    kept.py --anew FOLDER ..                and keeps the small ones of these recordings first
+    kept.py --anew FOLDER ..                and keeps the small ones of these recordings too, first
 
 A FOLDER is one that run.py left with --keep: its name begins with the compiler's, and ends with `other` where its
 programs are of that folder.
 """
 import io
 import os
+import shutil
 import subprocess
 import sys
 import tarfile
@@ -40,16 +41,25 @@ def packed(path, name):
     return out.getvalue()
 
 
+def unpack(folder):
+    with tarfile.open(ARCHIVE) as archive:
+        archive.extractall(folder)
+
+
 def keep(folders):
+    """Adds their recordings to those that are kept, in place of those of the same names."""
     with tempfile.TemporaryDirectory() as scratch:
+        unpack(scratch)
         for folder in folders:
             for name in sorted(filter(lambda name: name.endswith(".spanprof"), os.listdir(folder))):
                 found = packed(os.path.join(folder, name), name)
-                if len(found) <= SMALL:
-                    out = os.path.join(scratch, os.path.basename(os.path.abspath(folder)))
-                    os.makedirs(out, exist_ok=True)
-                    with tarfile.open(fileobj=io.BytesIO(found)) as archive:
-                        archive.extractall(out)
+                if len(found) > SMALL:
+                    print("not kept: %s has %d bytes, more than %d" % (name, len(found), SMALL))
+                    continue
+                out = os.path.join(scratch, os.path.basename(os.path.abspath(folder)))
+                shutil.rmtree(os.path.join(out, name), ignore_errors=True)
+                with tarfile.open(fileobj=io.BytesIO(found)) as archive:
+                    archive.extractall(out)
         words = ["tar", "-C", scratch, "--sort=name", "--mtime=@0", "--owner=0", "--group=0", "-cJf", ARCHIVE, "."]
         subprocess.run(words, check=True)
 
@@ -74,8 +84,7 @@ def row(folder, path):
 
 def rows():
     with tempfile.TemporaryDirectory() as scratch:
-        with tarfile.open(ARCHIVE) as archive:
-            archive.extractall(scratch)
+        unpack(scratch)
         for folder in sorted(os.listdir(scratch)):
             names = os.listdir(os.path.join(scratch, folder))
             for name in sorted(names, key=lambda name: (KINDS.index(kind_of(os.path.splitext(name)[0])), name)):

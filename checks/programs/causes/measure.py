@@ -7,15 +7,12 @@ import json
 import os
 import sys
 
-from programs import FIXED, kind_of
+from programs import FIXED, kind_of     # which adds tools to the path
 from timing import busy_processes, interleaved
-
-TOP = os.path.dirname(os.path.dirname(os.path.dirname(os.path.dirname(os.path.abspath(__file__)))))
-sys.path.insert(0, os.path.join(TOP, "tools"))
-from spanprof.errors import Fault                   # noqa: E402
-from spanprof.record.command import record_as_asked  # noqa: E402
-from spanprof.record.options import parse           # noqa: E402
-from spanprof.record.session import Session         # noqa: E402
+from spanprof.errors import Fault
+from spanprof.record.command import record_as_asked
+from spanprof.record.options import parse
+from spanprof.record.session import Session
 
 THREADS = 4
 MEDIAN_RUN = ["--runs", "5"]

@@ -2,13 +2,16 @@
 import os
 import re
 import subprocess
+import sys
 from typing import NamedTuple, Tuple
 
-KINDS = ("serial", "too_few_tasks", "imbalance", "dependence", "wait", "small_tasks", "creation", "small_regions",
-         "small_chunks", "undeferred", "loop_schedule", "lock", "exclusion", "memory", "allocation", "system", "sleep",
-         "too_few_threads", "too_many_threads", "affinity", "machine", "efficient")
+TOP = os.path.dirname(os.path.dirname(os.path.dirname(os.path.dirname(os.path.abspath(__file__)))))
+sys.path.insert(0, os.path.join(TOP, "tools"))
+from spanprof.diagnosis.causes import TABLE     # noqa: E402
+
+KINDS = tuple(cause.kind for cause in TABLE)
+WITHOUT_A_PLACE = tuple(cause.kind for cause in TABLE if not cause.is_of_program)
 MARK = re.compile(r"// <- cause$")
-WITHOUT_A_PLACE = ("machine", "efficient")
 FIXED = ".fixed"
 
 

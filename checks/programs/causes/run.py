@@ -19,14 +19,13 @@ import sys
 import tempfile
 
 from judging import answer_of, judged
-from programs import build, programs
+from programs import build, programs    # which adds tools to the path
 from timing import Times
+from spanprof.diagnosis.output import output_of
+from spanprof.recording import open_recording
 
 PATIENCE = 60       # seconds for the changes that are tried, so that a busy machine leaves none out
 HERE = os.path.dirname(os.path.abspath(__file__))
-sys.path.insert(0, os.path.join(os.path.dirname(os.path.dirname(os.path.dirname(HERE))), "tools"))
-from spanprof.diagnosis.output import output_of         # noqa: E402
-from spanprof.recording import open_recording       # noqa: E402
 
 
 def percent(number):

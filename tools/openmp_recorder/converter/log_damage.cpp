@@ -90,7 +90,7 @@ void RecordsLookedAt::add_up(int64_t stands_still) {
 
 void RecordsLookedAt::look_at(const log_form::RawRecord &record, int64_t processor, uint64_t wide) {
   auto kind = static_cast<RecordKind>(record.word >> log_form::code_bits & 255);
-  if (kind > RecordKind::DividedEnd) throw DamagedLog("it is of no kind");
+  if (kind >= RecordKind::Sample) throw DamagedLog("it is of no kind");
   if (kind == RecordKind::Items) return;  // an address is in the place of the time
   if (kind == RecordKind::StoodStill) return add_up(static_cast<int64_t>(wide));  // told at its end, which may be later
   look_at_times(record.at, processor);

@@ -331,7 +331,8 @@ TEST(what_is_no_log_is_refused) {
   later.head.version = log_form::version + 1;
   EXPECT(why(other), "no log of the recorder");
   EXPECT(why(empty), "the program ended before recording began");
-  EXPECT(why(later), "version 7 of the log, and this is for version 6");
+  std::string known = std::to_string(log_form::version), newer = std::to_string(log_form::version + 1);
+  EXPECT(why(later), "version " + newer + " of the log, and this is for version " + known);
 }
 
 // Why it is refused; empty where it is not.
@@ -358,7 +359,7 @@ TEST(what_no_recorder_writes_is_refused) {
   EXPECT(why({raw(1000000, RecordKind::Schedule)}), "thread.0.last is damaged at byte 0: its time is none of this run");
   EXPECT(why({raw(uint64_t{1} << 60, RecordKind::Schedule)}),
          "thread.0.last is damaged at byte 0: its time is none of this run");
-  EXPECT(why({raw(now, static_cast<RecordKind>(99))}), "thread.0.last is damaged at byte 0: it is of no kind");
+  EXPECT(why({raw(now, RecordKind::Sample)}), "thread.0.last is damaged at byte 0: it is of no kind");
   EXPECT(why({raw(now, RecordKind::Create, 1, 2, log_form::place_of_path(1))}),
          "thread.0.last is damaged at byte 0: its call path is not listed");
   EXPECT(why({raw(now, RecordKind::StoodStill, 0, UINT32_MAX)}),

@@ -34,7 +34,7 @@ def pattern(word):
     """Of the shell's, which a directed program's name fits."""
     if not any(fnmatch.fnmatchcase(path.stem, word) for path in [*directed_files(), *self_checking.files()]):
         raise argparse.ArgumentTypeError(f"no directed or self-checking program's name fits {word}; "
-                                         "spanprof-conformance list has them")
+                                         "`spanprof-conformance list` prints them")
     return word
 
 

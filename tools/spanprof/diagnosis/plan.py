@@ -3,7 +3,7 @@ from dataclasses import dataclass, replace
 from typing import Optional
 
 from spanprof.diagnosis.allocation import parallel_places
-from spanprof.diagnosis.causes import BY_KIND, CHEAPER, ESTIMATED, WORTH_A_CHANGE
+from spanprof.diagnosis.causes import AT_BEST, BY_KIND, ESTIMATED, WORTH_A_CHANGE
 from spanprof.diagnosis.changes import Change
 from spanprof.diagnosis.losses import (OF_SHAPE, contended_lines, in_code_losses, is_in_a_row, kind_of_task, least_of,
                                        most_shared, share_of_start)
@@ -53,7 +53,7 @@ class Step:
     @property
     def at_best(self):
         """Whether no change of this kind brings more."""
-        return self.change is None and self.kind not in CHEAPER
+        return self.change is None and BY_KIND[self.kind].without == AT_BEST
 
 
 def holder(facts, name):

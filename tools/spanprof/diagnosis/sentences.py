@@ -4,7 +4,7 @@ from collections import Counter
 
 from spanprof.diagnosis.allocation import allocating, parallel_code
 from spanprof.diagnosis.calls import NO_NAME, OFFSET, ONE_AT_A_TIME, SHARES, innermost, together
-from spanprof.diagnosis.causes import BY_KIND, CHEAPER, NAMES, NO_BOUND, SECOND
+from spanprof.diagnosis.causes import ABOUT, AT_BEST, BY_KIND, NAMES, OR_LESS, SECOND
 from spanprof.diagnosis.facts import Region
 from spanprof.diagnosis.losses import (A_TASK, MANY, average_task, copying_at, has_many_faults, holds_neighbours,
                                        is_bandwidth, is_in_a_row, is_maker, losses, maps_memory, missing_threads,
@@ -33,7 +33,7 @@ TRIED = {
     "defer": "defer more tasks at {at}: change its if or final",
     "outside": "create the tasks of {at} inside parallel and single",
     "task": "make {where} a task of its own"}
-BOUNDS = {"about": "about %s", "or less": "%s or less", "at best": "%s"}     # the first of several holds for all
+BOUNDS = {ABOUT: "about %s", OR_LESS: "%s or less", AT_BEST: "%s"}     # the first of several holds for all
 DIVIDED = r"\b(for|do|sections|loop|taskloop|workshare)\b"
 ONE_BY_ONE = r"schedule\s*\(\s*(\w+\s*:\s*)?(dynamic|guided)"
 SPLIT = {"serial": "parallelise {where}: loop or tasks", "imbalance": "divide the longest tasks at {where}",
@@ -342,21 +342,16 @@ def shortened(text, width):
     return text if len(text) <= width else text[:width - 3].rstrip() + "..."
 
 
-def bound_word(kind):
-    """What a time without losses of a kind is."""
-    return "about" if kind in NO_BOUND else "or less" if kind in CHEAPER else "at best"
-
-
 def after_words(step):
     """What the run takes after a step."""
-    word = bound_word(step.kind)
-    at_best = "at best " if word == "at best" and not step.change else ""
+    word = BY_KIND[step.kind].without
+    at_best = "at best " if word == AT_BEST and not step.change else ""
     return at_best + (lasting(step.after) if step.change else BOUNDS[word] % lasting(step.after))
 
 
 def word_of_best(found):
     """What the time at best is, where what is lost may cost more than its own time, or less."""
-    return min((bound_word(loss.kind) for loss in found.causes), key=list(BOUNDS).index, default="at best")
+    return min((BY_KIND[loss.kind].without for loss in found.causes), key=list(BOUNDS).index, default=AT_BEST)
 
 
 def gain_words(step):

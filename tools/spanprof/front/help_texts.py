@@ -40,7 +40,7 @@ FILE = " < FILE"
 USAGES = {
     "span": ("spanprof span" + FILE, "The numbers of segments, work and span of a program text."),
     "slack": ("spanprof slack" + FILE,
-              "A table (CSV) of the segments: task, cost, earliest start, slack, and 1 on the critical path, else 0."),
+              "A table (CSV) of segments: task, cost, earliest start, slack, and 1 on the critical path, else 0."),
     "greedy": ("spanprof greedy --threads P" + FILE,
                "A table (CSV) of a greedy schedule on 1 to 1,024 threads: each segment's start, end and thread."),
     "curve": ("spanprof curve --upto P" + FILE,
@@ -52,14 +52,14 @@ USAGES = {
             "Runs the segments on N worker threads, from 1 to 64, and prints the recorded graph and a digest."),
     "replay": ("spanprof replay" + FILE,
                "Whether the events of a replay document are a legal run, and what it records."),
-    "whatif": ("spanprof whatif SEGMENT=COST .." + FILE,
+    "whatif": ("spanprof whatif SEGMENT=COST .." + FILE + ", or spanprof whatif RECORDING OPTION ..",
                "Work and span with other costs of segments, and the span before.\n"
-               "With a file or an option it tries other shapes: `spanprof whatif RECORDING --help` lists the options."),
+               "Of a recording it tries other shapes: `spanprof whatif RECORDING --help` lists the options."),
     "bounds": ("spanprof bounds --upto P" + FILE, "A table (CSV) of both bounds for 1 to P threads, at most 1,024."),
     "account": ("spanprof account [--rows | --path]" + FILE,
                 "The time breakdown of a timed document, its rows, or the run's own path."),
     "places": ("spanprof places" + FILE, "A table (CSV) of places: their segments, work, part of the critical path and "
-               "least slack, and with times busy and idle time."),
+               "least slack;\nwith times busy and idle time, too."),
     "graph": ("spanprof graph" + FILE, "A table (CSV) of the segments: task, cost, and predecessors with blanks "
               "between them.\n`spanprof graph --dot FILE` writes it for Graphviz."),
 }

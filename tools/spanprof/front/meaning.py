@@ -31,7 +31,7 @@ def of_words(words):
     every = COMMANDS + LARGE_COMMANDS + tuple(TOOLS) + tuple(OTHER_NAMES) + ("help",)
     alike = difflib.get_close_matches(name, every, n=1, cutoff=CLOSEST)
     return "spanprof: there is no command `%s`%s; `spanprof --help` lists them" % (
-        name, "; did you mean `%s`?" % alike[0] if alike else "")
+        name, " (did you mean `%s`?)" % alike[0] if alike else "")
 
 
 def of_size(name, words):

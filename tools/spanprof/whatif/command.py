@@ -19,7 +19,7 @@ from spanprof.whatif.creating import costs_for
 from spanprof.whatif.listing import listing
 from spanprof.whatif.numbers import numbers_of
 from spanprof.whatif.output import as_json, lines, notes
-from spanprof.whatif.requests import Request, applied, changes
+from spanprof.whatif.requests import OPTIONS, Request, applied, changes
 from spanprof.whatif.survey import survey
 from spanprof.whatif.texts import Text, version_of, write
 
@@ -27,18 +27,6 @@ DESCRIPTION = """Changes a recorded program text as one might change the program
 bounds and end of greedy schedules before and after. Changes are made in the order of the arguments."""
 AFTER = """PLACE is a name that --places lists, or a part of it that no other name has. Exit status 1: a file or a place
 is missing, or a text is refused; 2: wrong arguments."""
-OPTIONS = (("factor", "PLACE=F", "multiply the cost of the code at PLACE by F"),
-           ("drop-wait", "PLACE", "remove the taskwait there, or the waits of the taskgroup"),
-           ("drop-depend", "PLACE", "remove the depend items of the tasks there"),
-           ("drop-name", "NAME", "remove this depend item from all tasks"),
-           ("in-for-inout", "NAME", "make this depend item in for all tasks: they only read it"),
-           ("read-only", "PLACE", "make in what the tasks there hold of those before them: they only read it"),
-           ("defer", "PLACE", "defer the undeferred tasks there"),
-           ("split", "PLACE=K", "divide the code at PLACE into K tasks in a group"),
-           ("grain", "PLACE=COST", "the same, into tasks of at most COST each"),
-           ("join", "PLACE=K", "merge each K consecutive tasks of PLACE into one"),
-           ("cutoff", "DEPTH", "create no tasks below this depth"),
-           ("task", "PLACE", "make the code at PLACE a task, which the next wait waits for"))
 
 
 def parse(words):
@@ -46,9 +34,9 @@ def parse(words):
                                      description=DESCRIPTION, epilog=AFTER, allow_abbrev=False)
     add = parser.add_argument
     add("text", metavar="MINE.spanprof", help="a recording, a program text, or - for standard input")
-    for option, metavar, words_of_help in OPTIONS:
-        add("--" + option, dest="requests", action="append", type=partial(Request, option), metavar=metavar, default=[],
-            help=words_of_help)
+    for option in OPTIONS:
+        add("--" + option.name, dest="requests", action="append", type=partial(Request, option.name),
+            metavar=option.metavar, default=[], help=option.help)
     add("--threads", type=count(1, 1024), metavar="P", help="numbers for P threads (default: as many as were recorded)")
     add("--creating", type=count(0, 10 ** 12), metavar="COST",
         help="the cost of creating a task (default: as in the text)")

@@ -4,11 +4,8 @@ import json
 from spanprof.head import grouped
 from spanprof.proof import proved
 from spanprof.validity import speaks_of, why_not_of_more_threads
+from spanprof.whatif.requests import OPTIONS
 
-RIGHT = (("drop-wait drop-depend drop-name in-for-inout read-only",
-          "whether the program stays right without it is for you to judge: no text says what its tasks read and write"),
-         ("split grain task",
-          "whether that code can be divided, or run in parallel to what follows it, is for you to judge"))
 HEADS = "%-22s %18s %18s %9s"
 
 
@@ -41,7 +38,7 @@ def notes(requests, made, costs, head, threads):
     if any(hasattr(one, "creating") for one in made):
         yield "a creation is assumed to cost %s: %s" % (grouped(costs.creating), costs.why)
     asked = {request.option for request in requests}
-    yield from (words for options, words in RIGHT if asked & set(options.split()))
+    yield from dict.fromkeys(option.judgement for option in OPTIONS if option.judgement and option.name in asked)
     yield from ("warning: " + remark for remark in head.remarks)
     yield from ("on %d threads: %s" % (p, why_not_of_more_threads(head)) for p in threads if not speaks_of(head, p))
 

@@ -1,7 +1,7 @@
-"""The changes that the command line asks for, with places that the text has."""
+"""The changes that the command line asks for, with places that the text has: one table of them."""
 import re
 from difflib import get_close_matches
-from typing import NamedTuple
+from typing import Callable, NamedTuple
 
 from spanprof.errors import Fault
 from spanprof.whatif.changes import Defer, DropDepend, DropName, DropWait, Factor, InForInout, ReadOnly
@@ -11,7 +11,9 @@ from spanprof.whatif.shapes import Cutoff, Grain, OwnTask, Split
 MOST_FACTOR = 1e6
 MOST_TOGETHER = 1000000
 MOST_COST = 10 ** 12
-WITH_A_NUMBER = ("factor", "split", "grain", "join")
+CODE, DEPENDENT = "piece of code", "task with depend items"
+IS_RIGHT = "whether the program stays right without it is for you to judge: no text says what its tasks read and write"
+IS_DIVISIBLE = "whether that code can be divided, or run in parallel to what follows it, is for you to judge"
 
 
 class Request(NamedTuple):
@@ -56,43 +58,72 @@ def place_and_number(word):
     return place, number
 
 
-def change(request, seen, costs):
-    """Of a request, in a text that has been surveyed."""
-    option, word = request
-    place, number = place_and_number(word) if option in WITH_A_NUMBER else (word, "")
-    if option == "factor":
-        return Factor(find(place, seen.code, "piece of code"), factor_of(number))
-    if option == "drop-wait":
-        wait = place.removeprefix("after ")     # the code that follows it names it, too
-        return DropWait(find(wait, seen.waits, "taskwait or taskgroup"))
-    if option == "drop-depend":
-        return DropDepend(find(place, +seen.dependent, "task with depend items"))
-    if option == "drop-name":
-        return DropName(find(place, seen.items, "depend item"))
-    if option == "in-for-inout":
-        return InForInout(find(place, seen.items, "depend item"))
-    if option == "read-only":
-        return ReadOnly(find(place, +seen.dependent, "task with depend items"))
-    if option == "defer":
-        return Defer(find(place, +seen.undeferred, "undeferred task"))
-    if option == "split":
-        parts = whole(number, 2, MOST_TOGETHER)
-        return Split(find(place, seen.code, "piece of code"), parts, costs.creating, costs.for_parts(parts))
-    if option == "grain":
-        most = whole(number, 1, MOST_COST)
-        return Grain(find(place, seen.code, "piece of code"), most, costs.creating, costs.for_parts(2))
-    if option == "join":
-        return Join(find(place, seen.tasks, "task"), whole(number, 2, MOST_TOGETHER), costs.creating)
-    if option == "cutoff":
-        return Cutoff(whole(place, 1, MOST_TOGETHER), costs.creating)
-    return OwnTask(find(place, seen.code, "piece of code"), costs.creating, costs.for_parts(1))
+def factor(word, seen, _):
+    place, number = place_and_number(word)
+    return Factor(find(place, seen.code, CODE), factor_of(number))
+
+
+def drop_wait(word, seen, _):
+    wait = word.removeprefix("after ")     # the code that follows it names it, too
+    return DropWait(find(wait, seen.waits, "taskwait or taskgroup"))
+
+
+def split(word, seen, costs):
+    place, number = place_and_number(word)
+    parts = whole(number, 2, MOST_TOGETHER)
+    return Split(find(place, seen.code, CODE), parts, costs.creating, costs.for_parts(parts))
+
+
+def grain(word, seen, costs):
+    place, number = place_and_number(word)
+    most = whole(number, 1, MOST_COST)
+    return Grain(find(place, seen.code, CODE), most, costs.creating, costs.for_parts(2))
+
+
+def join(word, seen, costs):
+    place, number = place_and_number(word)
+    return Join(find(place, seen.tasks, "task"), whole(number, 2, MOST_TOGETHER), costs.creating)
+
+
+class Option(NamedTuple):
+    """`make` answers the change, of the option's word, what a survey saw of the text, and costs."""
+    name: str
+    metavar: str
+    help: str
+    make: Callable
+    judgement: str = ""     # what is left to the reader
+
+
+OPTIONS = (
+    Option("factor", "PLACE=F", "multiply the cost of the code at PLACE by F", factor),
+    Option("drop-wait", "PLACE", "remove the taskwait there, or the waits of the taskgroup", drop_wait, IS_RIGHT),
+    Option("drop-depend", "PLACE", "remove the depend items of the tasks there",
+           lambda word, seen, _: DropDepend(find(word, +seen.dependent, DEPENDENT)), IS_RIGHT),
+    Option("drop-name", "NAME", "remove this depend item from all tasks",
+           lambda word, seen, _: DropName(find(word, seen.items, "depend item")), IS_RIGHT),
+    Option("in-for-inout", "NAME", "make this depend item in for all tasks: they only read it",
+           lambda word, seen, _: InForInout(find(word, seen.items, "depend item")), IS_RIGHT),
+    Option("read-only", "PLACE", "make in what the tasks there hold of those before them: they only read it",
+           lambda word, seen, _: ReadOnly(find(word, +seen.dependent, DEPENDENT)), IS_RIGHT),
+    Option("defer", "PLACE", "defer the undeferred tasks there",
+           lambda word, seen, _: Defer(find(word, +seen.undeferred, "undeferred task"))),
+    Option("split", "PLACE=K", "divide the code at PLACE into K tasks in a group", split, IS_DIVISIBLE),
+    Option("grain", "PLACE=COST", "the same, into tasks of at most COST each", grain, IS_DIVISIBLE),
+    Option("join", "PLACE=K", "merge each K consecutive tasks of PLACE into one", join),
+    Option("cutoff", "DEPTH", "create no tasks below this depth",
+           lambda word, _, costs: Cutoff(whole(word, 1, MOST_TOGETHER), costs.creating)),
+    Option("task", "PLACE", "make the code at PLACE a task, which the next wait waits for",
+           lambda word, seen, costs: OwnTask(find(word, seen.code, CODE), costs.creating, costs.for_parts(1)),
+           IS_DIVISIBLE),
+)
+MAKE = {option.name: option.make for option in OPTIONS}
 
 
 def changes(requests, seen, costs):
     out = []
     for request in requests:
         try:
-            out.append(change(request, seen, costs))
+            out.append(MAKE[request.option](request.word, seen, costs))
         except Fault as fault:
             raise Fault("--%s %s" % (request.option, fault)) from fault
     return out

@@ -18,7 +18,10 @@ class Programs(unittest.TestCase):
 
     def test_each_kind_has_a_program(self):
         for folder in (HERE, OTHER):
-            self.assertEqual({one.kind for one in programs(folder)}, set(KINDS))
+            names = [os.path.splitext(name)[0] for name in os.listdir(folder) if name.endswith((".c", ".cpp"))]
+            for kind in KINDS:
+                self.assertIn(kind, map(kind_of, names), "%s has no %s.c or .cpp" % (folder, kind))
+            self.assertEqual([name for name in names if not kind_of(name)], [], "no kind of causes.py begins these")
 
     def test_each_program_has_a_repair_and_a_place(self):
         for one in programs(HERE) + programs(OTHER):

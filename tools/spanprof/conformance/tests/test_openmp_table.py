@@ -31,12 +31,12 @@ class TheTable(unittest.TestCase):
         for section, what, tried in rows():
             for pattern in [] if tried.startswith("not tried") else patterns(tried):
                 with self.subTest(section=section, what=what, pattern=pattern):
-                    self.assertTrue(fnmatch.filter(self.NAMES, pattern))
+                    self.assertTrue(fnmatch.filter(self.NAMES, pattern), "no program has this name")
 
     def test_each_program_stands_in_a_row(self):
         named = {name for _, _, tried in rows() for pattern in patterns(tried)
                  for name in fnmatch.filter(self.NAMES, pattern)}
-        self.assertEqual(self.NAMES - named, set())
+        self.assertEqual(sorted(self.NAMES - named), [], "no row of tools/conformance/OPENMP.md has these programs")
 
 
 if __name__ == "__main__":

@@ -78,7 +78,7 @@ class Variants(unittest.TestCase):
 class Directed(unittest.TestCase):
     def test_each_says_what_it_shows(self):
         for name, body in directed_programs():
-            self.assertTrue(first_comment(name), name)
+            self.assertTrue(first_comment(name), name + ".tasks does not begin with a comment that says what it shows")
             self.assertTrue(body, name)
             self.assertEqual(read_program(text_of(body)), body, name)
 

@@ -1,10 +1,9 @@
-"""Each kind of cause by facts that have it; and that no kind is without a row in the documents, and a program."""
-import glob
+"""Each kind of cause by facts that have it; and that no kind is without a row in the manual."""
 import os
 import unittest
 
 from spanprof.diagnosis.calls import RUNTIME, Sampled
-from spanprof.diagnosis.causes import BY_KIND, NAMES, TABLE
+from spanprof.diagnosis.causes import BY_KIND, TABLE
 from spanprof.diagnosis.diagnose import diagnose
 from spanprof.diagnosis.facts import Region
 from spanprof.diagnosis.library_locks import set_library_locks
@@ -16,7 +15,6 @@ from spanprof.folders import TOP
 
 TASKS = "task at image.c:25"
 MANUAL = os.path.join(TOP, "tools", "man", "spanprof-record.1")
-PROGRAMS = os.path.join(TOP, "checks", "programs", "causes")
 
 
 def starved_at(one, **more):
@@ -280,21 +278,14 @@ class Kinds(unittest.TestCase):
 class Table(unittest.TestCase):
     def test_each_kind_has_a_test(self):
         for cause in TABLE:
-            self.assertTrue(hasattr(Kinds, "test_" + cause.kind), cause.kind)
-
-    def test_each_kind_has_a_short_name(self):
-        self.assertEqual({cause.kind for cause in TABLE} - set(NAMES), {"efficient"})
+            name = "test_" + cause.kind
+            self.assertTrue(hasattr(Kinds, name), "%s has no function %s" % (__file__, name))
 
     def test_each_kind_is_in_the_manual(self):
         with open(MANUAL, encoding="utf-8") as file:
             text = file.read()
         for cause in TABLE:
-            self.assertIn("\n.B %s\n" % cause.kind, text)
-
-    @unittest.skipUnless(os.path.isdir(PROGRAMS), "the programs are not here")
-    def test_each_kind_has_a_program(self):
-        for cause in TABLE:
-            self.assertTrue(glob.glob(os.path.join(PROGRAMS, cause.kind + "*.c*")), cause.kind)
+            self.assertTrue("\n.B %s\n" % cause.kind in text, "%s has no `.B %s`" % (MANUAL, cause.kind))
 
 
 if __name__ == "__main__":

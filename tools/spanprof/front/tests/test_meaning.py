@@ -2,11 +2,18 @@
 import unittest
 
 from spanprof.front.given import UNNAMED
+from spanprof.front.help_texts import GENERAL, USAGES, help_of
 from spanprof.front.meaning import meaning
 
 
 def told(words, line, text="omptasks 1\ntasks { }\n", name="mine.tasks"):
     return meaning(name, words.split(), text, line, lambda words, text: line if "\ntasks" in text else "")
+
+
+class Help(unittest.TestCase):
+    def test_no_line_is_too_long_for_a_terminal(self):
+        for text in (GENERAL, *map(help_of, USAGES)):
+            self.assertLessEqual(max(map(len, text.split("\n"))), 100, text)
 
 
 class Meaning(unittest.TestCase):
@@ -29,7 +36,7 @@ class Meaning(unittest.TestCase):
         self.assertEqual(told("slack " + __file__, "error: wrong words"), [
             "spanprof: wrong arguments of `slack`; usage: spanprof slack < " + __file__])
         self.assertEqual(told("slak", "error: wrong words"), [
-            "spanprof: there is no command `slak`; did you mean `slack`?; `spanprof --help` lists them"])
+            "spanprof: there is no command `slak` (did you mean `slack`?); `spanprof --help` lists them"])
         self.assertEqual(told("qqq", "error: wrong words"), [
             "spanprof: there is no command `qqq`; `spanprof --help` lists them"])
 

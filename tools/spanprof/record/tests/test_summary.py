@@ -40,6 +40,8 @@ def lines_of(**told):
 
 
 class Lines(unittest.TestCase):
+    maxDiff = None
+
     def test_a_recording(self):
         self.assertEqual("\n".join(summary(Answers())), EXPECTED)
 

@@ -26,7 +26,9 @@ class Sums:
 
     def term(self, words):
         name, *rest = words.split()
-        return getattr(self, name.replace("-", "_"))(*rest)
+        method = getattr(self, name.replace("-", "_"), None)
+        assert method, "%s has no method %r, which computes the source %r" % (__file__, name, words)
+        return method(*rest)
 
     def value(self, source):
         """Of `[percent] A [+ B ..] [- B ..] [/ C]`."""

@@ -1,5 +1,6 @@
 """Whole pages of the worked programs, and that the comparison sees what is wrong on one."""
 import json
+import os
 import re
 import unittest
 from dataclasses import replace
@@ -7,6 +8,8 @@ from dataclasses import replace
 from spanprof.report.tests import worked
 from spanprof.report.tests.compare import differences, faults_of, is_seen, program_of
 from spanprof.report.tests.page_reader import read_page
+
+README = os.path.join(os.path.dirname(os.path.dirname(__file__)), "README.md")
 
 
 def compared(text, name):
@@ -35,6 +38,13 @@ class Pages(unittest.TestCase):
         names = re.findall(r'<section id="(\S+)"', text)
         self.assertEqual(names, ["summary", "timeline", "places", "speedup", "source", "numbers"])
         self.assertEqual(text.count("<section"), text.count("<section id="))
+
+    def test_parts_have_rows_in_the_readme(self):
+        text = worked.page_text("mesh")
+        with open(README, encoding="utf-8") as file:
+            rows = re.findall(r"(?m)^\| ([A-Z][^|]*) \|", file.read())
+        for title in re.findall("<h2>(.*?)</h2>", text):
+            self.assertTrue(any(title.startswith(row) for row in rows), "%s has no row for %r" % (README, title))
 
     def test_words_of_a_text_are_words_on_the_page(self):
         text = worked.page_text("odd")

@@ -1,7 +1,6 @@
 import re
 import unittest
 
-from spanprof.diagnosis.causes import NAMES, TABLE
 from spanprof.diagnosis.changes import single
 from spanprof.diagnosis.diagnose import Diagnosis, diagnose
 from spanprof.diagnosis.losses import Loss, code_on_one, losses
@@ -59,10 +58,6 @@ class Screens(unittest.TestCase):
 
     def test_warnings_are_linked(self):
         self.assertIn('<a href="#numbers">2 warnings</a>', first_screen(told(), 2))
-
-    def test_each_loss_has_words(self):
-        for kind in [cause.kind for cause in TABLE if cause.kind != "efficient"] + ["recorder", "startup"]:
-            self.assertIn(kind, NAMES)
 
     def test_without_a_change(self):
         run = found(threads=1, asked=1)

@@ -1,0 +1,41 @@
+"""Each option that a tool's --help lists has its place in the tool's page and in the completion of zsh."""
+import contextlib
+import io
+import os
+import re
+import unittest
+
+from spanprof.front.routes import TOOLS, main_of
+
+HERE = os.path.dirname(os.path.dirname(os.path.abspath(__file__)))
+OPTION = re.compile(r"--[a-z][a-z-]*")
+OTHERS = {"conformance", "graph"}   # with commands of its own; with one option, and no page
+
+
+def options_of(tool):
+    out = io.StringIO()
+    with contextlib.redirect_stdout(out), contextlib.suppress(SystemExit):
+        main_of(tool)(["--help"])
+    return re.findall(r"(?m)^  (?:-[^-].*, )?(--[a-z][a-z-]*)", out.getvalue())
+
+
+def read(*path):
+    with open(os.path.join(HERE, *path), encoding="utf-8") as file:
+        return file.read()
+
+
+class Options(unittest.TestCase):
+    def test_each_has_its_places(self):
+        completion = "completion/_spanprof"
+        functions = dict(re.findall(r"(?ms)^_spanprof_(\w+)\(\) \{\n(.*?)^\}", read(completion)))
+        for tool in sorted(set(TOOLS) - OTHERS):
+            page = "man/spanprof-%s.1" % tool
+            for path, text in ((page, read(page).replace("\\-", "-")), (completion, functions[tool])):
+                options = set(options_of(tool))
+                self.assertIn("--version", options)
+                missing = options - set(OPTION.findall(text))
+                self.assertEqual(sorted(missing), [], "tools/%s lacks these options of spanprof-%s" % (path, tool))
+
+
+if __name__ == "__main__":
+    unittest.main()
