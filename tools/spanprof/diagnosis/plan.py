@@ -9,7 +9,7 @@ from spanprof.diagnosis.losses import (OF_SHAPE, contended_lines, in_code_losses
                                        most_shared, share_of_start)
 from spanprof.diagnosis.own_code import own_share
 from spanprof.diagnosis.places import SERIAL, TASK
-from spanprof.program_text import BEGINNING
+from spanprof.program_text import BEGINNING, where
 
 FOR_CODE = (*OF_SHAPE, "undeferred", "loop_schedule")   # in which threads wait while others run it
 STEPS = 3
@@ -150,11 +150,19 @@ def left(facts, now, loss, found):
     return min(now, max(int(now * (1 - facts.own_share(gone))), least_time(facts, facts.code - in_code)))
 
 
+def freed_with(facts, found, loss):
+    """What else may go with a loss: all that the lines of contended memory take, and of a small region what its threads
+    wait for at its end, and for lines that pass between them from one region to the next."""
+    if loss.kind == "memory" and facts.cost_on_one is None:
+        return max(0, contended_lines(facts, loss.place) - loss.time)
+    return sum(one.time for one in found if loss.kind == "small_regions" and one.kind in ("memory", "loop_schedule")
+               and where(one.place) == loss.place)
+
+
 def bound_of(facts, now, loss, found=()):
     """As if what is lost by this cause were gone."""
-    after = low = left(facts, now, loss, found)
-    if loss.kind == "memory" and facts.cost_on_one is None:
-        low = left(facts, now, loss._replace(time=max(loss.time, contended_lines(facts, loss.place))), found)
+    after = left(facts, now, loss, found)
+    low = left(facts, now, loss._replace(time=loss.time + freed_with(facts, found, loss)), found)
     return Step(loss.kind, loss.place, now, after, low, int(now - BOUND_LEAST * (now - after)))
 
 

@@ -348,8 +348,10 @@ def bound_word(kind):
 
 
 def after_words(step):
-    """What the run takes after a step."""
+    """What the run takes after a step; where it is no bound, between which it is likely."""
     word = bound_word(step.kind)
+    if word == "about" and not step.change and step.low < step.after:
+        return "%s to %s" % (lasting(step.low), lasting(step.high))
     at_best = "at best " if word == "at best" and not step.change else ""
     return at_best + (lasting(step.after) if step.change else BOUNDS[word] % lasting(step.after))
 
