@@ -348,8 +348,8 @@ def bound_word(kind):
 
 
 def after_words(step):
-    """What the run takes after a step; where it is no bound, between which it is likely."""
-    word = bound_word(step.kind)
+    """What the run takes after a step; where samples tell no number, between which times it is likely."""
+    word = bound_word(step.kind) if step.low else "or less"
     if word == "about" and not step.change and step.low < step.after:
         return "%s to %s" % (lasting(step.low), lasting(step.high))
     at_best = "at best " if word == "at best" and not step.change else ""
