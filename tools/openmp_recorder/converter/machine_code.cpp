@@ -8,7 +8,8 @@
 #include "source.hpp"
 
 namespace {
-// Instructions: what takes long has its sample at the next one, or soon behind; where it is tried anew, before it.
+// Instructions: what takes long has its sample at the next one, or soon behind; where it is tried anew, before it. An
+// atomic operation that has begun is ended first: a sample before it waited for something else, as after a branch.
 constexpr unsigned most_back = 3, most_ahead = 2;
 
 bool begins_with(const std::string &word, std::initializer_list<const char *> starts) {
@@ -129,8 +130,9 @@ Instructions disassembled(const ModuleOfRun &module, uint64_t first, uint64_t en
 std::vector<MemoryUse> used_near(const Instructions &all, uint64_t code) {
   std::vector<MemoryUse> out;
   std::vector<int> written;
-  auto add = [&](Instructions::const_iterator one) {
+  auto add = [&](Instructions::const_iterator one, bool is_ahead) {
     std::optional<MemoryUse> use = memory_use(one->second);
+    if (is_ahead && use && use->is_atomic) return;
     auto is_same = [&](int it) { return it < 0 || std::find(written.begin(), written.end(), it) == written.end(); };
     if (!use || !is_same(use->base) || !is_same(use->index)) return;
     use->code = one->first;
@@ -141,11 +143,11 @@ std::vector<MemoryUse> used_near(const Instructions &all, uint64_t code) {
     --back;
     if (goes_elsewhere(back->second)) break;
     written.push_back(written_register(back->second));
-    add(back);
+    add(back, false);
   }
   written.clear();
   for (unsigned i = 0; i < most_ahead && here != all.end() && !goes_elsewhere(here->second); i++, ++here) {
-    add(here);
+    add(here, true);
     written.push_back(written_register(here->second));
   }
   return out;

@@ -1,7 +1,7 @@
 #include "shared_lines.hpp"
 
 #include <algorithm>
-#include <map>
+#include <array>
 #include <set>
 
 #include "machine_code.hpp"
@@ -12,6 +12,7 @@ constexpr int64_t at_once = 20000000;  // nanoseconds, five samples of a thread
 constexpr size_t most_functions = 16;
 constexpr uint64_t longest = 1 << 14, most_bytes = 32;  // of a function, and of two instructions
 constexpr uint64_t least = 100;  // of all sampled time, the part of a function that is looked at
+constexpr double least_met = 5;  // uses on the same line, below which they say nothing
 
 struct Function {
   const ModuleOfRun *module;
@@ -74,14 +75,24 @@ size_t between(const Instructions &code, const Found &function, const Stacks &st
 }
 
 // Of a function; an atomic operation goes as a whole where nothing is shared.
-void set_beyond(const Found &function, const Stacks &stacks, const std::vector<bool> &atomic,
+void set_beyond(const Found &function, const Stacks &stacks, const std::set<size_t> &atomic,
                 std::vector<Contended> &all) {
   std::vector<Interrupted> some, others;
   for (size_t i : function.samples) (all[i].place ? some : others).push_back(stacks.interrupted[i]);
   double beyond = beyond_others(some, others, function.instructions);
   for (size_t i : function.samples)
-    if (!atomic[i]) all[i].beyond = beyond;
+    if (!atomic.count(i)) all[i].beyond *= beyond;
 }
+
+// Uses near others in time, and those of them that were on the same line, which one of them wrote.
+struct Met {
+  double times = 0, on_line = 0;
+  void add(const Used &one, const Used &other) {
+    times++;
+    on_line += one.address >> line_bits == other.address >> line_bits && (one.writes || other.writes);
+  }
+};
+
 // Whether two threads used a line at the same time, and one of them wrote it.
 bool is_contended(const std::vector<Used> &all, std::vector<size_t> &uses) {
   std::sort(uses.begin(), uses.end(), [&](size_t one, size_t other) { return all[one].wall < all[other].wall; });
@@ -119,9 +130,44 @@ double beyond_others(const std::vector<Interrupted> &some, const std::vector<Int
   return std::max(0.0, 1 - each * static_cast<double>(here.size()) / static_cast<double>(time));
 }
 
+std::map<const void *, double> shared_parts(std::vector<Used> all) {
+  std::sort(all.begin(), all.end(), [](const Used &one, const Used &other) { return one.wall < other.wall; });
+  std::map<const void *, std::array<Met, 2>> met;  // by place, of the own thread and of others
+  for (size_t i = 0; i < all.size(); i++)
+    for (size_t j = i + 1; j < all.size() && all[j].wall - all[i].wall < at_once; j++) {
+      if (all[i].sample == all[j].sample) continue;
+      bool is_other = all[i].thread != all[j].thread;
+      met[all[i].place][is_other].add(all[i], all[j]);
+      met[all[j].place][is_other].add(all[j], all[i]);
+    }
+  std::map<const void *, double> out;
+  for (auto &[place, both] : met) {
+    auto &[own, others] = both;
+    bool is_known = own.on_line + others.on_line >= least_met && others.times > 0;
+    out[place] = is_known ? std::min(1.0, others.on_line * own.times / others.times / std::max(1.0, own.on_line)) : 0;
+  }
+  return out;
+}
+
+namespace {
+// Samples of uses that met no other one count as well, in part, where those that did are less than what is shared.
+void add_unmet(const std::vector<Used> &all, const Stacks &stacks, std::vector<Contended> &out) {
+  std::map<const void *, std::array<double, 2>> time;  // by place, of samples that met none, and of those that did
+  for (const Used &use : all) time[use.place][out[use.sample].place != nullptr] += stacks.interrupted[use.sample].stands_for;
+  std::map<const void *, double> parts = shared_parts(all);
+  std::vector<Contended> more(out.size());
+  for (const Used &use : all) {
+    auto [unmet, shared] = time[use.place];
+    double part = unmet > 0 ? (parts[use.place] * (unmet + shared) - shared) / unmet : 0;
+    if (part > 0 && !out[use.sample].place && !more[use.sample].place) more[use.sample] = {use.place, part};
+  }
+  for (size_t i = 0; i < out.size(); i++)
+    if (more[i].place) out[i] = more[i];
+}
+}  // namespace
+
 std::vector<Contended> contending(const Stacks &stacks, const ModulesOfRun &modules) {
   std::vector<Used> all;
-  std::vector<std::pair<const void *, bool>> places;  // and whether they are atomic
   std::vector<std::pair<Function, Found>> functions = longest_of(functions_of(stacks, modules));
   for (auto &[function, found] : functions) {
     const ModuleOfRun &module = *function.module;
@@ -130,15 +176,20 @@ std::vector<Contended> contending(const Stacks &stacks, const ModulesOfRun &modu
     for (size_t i : found.samples) {
       const Interrupted &one = stacks.interrupted[i];
       for (const MemoryUse &use : used_near(code, in_file(one, module))) {
-        all.push_back({i, address_of(use, one.registers, module), one.thread, one.wall, use.writes});
-        places.emplace_back(reinterpret_cast<const void *>(module.base + use.code + 1), use.is_atomic);
+        auto *place = reinterpret_cast<const void *>(module.base + use.code + 1);
+        uint64_t address = address_of(use, one.registers, module);
+        all.push_back({i, address, one.thread, one.wall, use.writes, place, use.is_atomic});
       }
     }
   }
   std::vector<Contended> out(stacks.interrupted.size());
-  std::vector<bool> contended = are_contended(all), atomic(out.size());
+  std::vector<bool> contended = are_contended(all);
   for (size_t i = all.size(); i-- > 0;)
-    if (contended[i]) out[all[i].sample].place = places[i].first, atomic[all[i].sample] = places[i].second;
+    if (contended[i]) out[all[i].sample].place = all[i].place;
+  add_unmet(all, stacks, out);
+  std::set<size_t> atomic;
+  for (const Used &use : all)
+    if (use.is_atomic && use.place == out[use.sample].place) atomic.insert(use.sample);
   for (auto &[function, found] : functions) set_beyond(found, stacks, atomic, out);
   return out;
 }

@@ -120,6 +120,9 @@ TEST(what_was_used_is_known_while_its_registers_are_the_same) {
   EXPECT(used(14) == std::vector<uint64_t>({10, 18}), true);
   EXPECT(used(22) == std::vector<uint64_t>({24}), true);
   EXPECT(used(30) == std::vector<uint64_t>({30}), true);
+  all[30] = "lock addq $0x1,(%rdx)", all[35] = "inc    %rsi";
+  EXPECT(used(30).empty(), true);
+  EXPECT(used(35) == std::vector<uint64_t>({30}), true);
   EXPECT(used(15).empty(), true);
 }
 
@@ -133,6 +136,22 @@ TEST(a_line_is_contended_where_threads_use_it_at_once_and_one_writes) {
                                            {5, 0x2000, 1, 5, false},
                                            {6, 0x1040, 1, 10, true}});
   EXPECT(found == std::vector<bool>({true, true, false, false, false, false, false}), true);
+}
+
+// Of two instructions that use 64 lines: all threads use those of the first, and each has its own of the second.
+TEST(lines_are_shared_as_far_as_other_threads_are_met_in_them_as_often_as_the_own) {
+  const void *of_all = code(1), *of_each = code(2);
+  std::vector<Used> all;
+  for (unsigned i = 0; i < 4000; i++) {
+    unsigned thread = i % 4;
+    uint64_t line = (i / 4 * 2654435761u >> 8) % 64, shared = (i * 2654435761u >> 8) % 64;
+    all.push_back({i, shared << 6, thread, i * 1000000ll, true, of_all});
+    all.push_back({i, (64 + 64 * thread + line) << 6, thread, i * 1000000ll, true, of_each});
+  }
+  std::map<const void *, double> parts = shared_parts(all);
+  EXPECT(parts[of_all] > 0.7, true);
+  EXPECT(parts[of_each], 0.0);
+  EXPECT(shared_parts({{0, 0, 0, 1, true, of_all}, {1, 0, 1, 2, true, of_all}})[of_all], 0.0);
 }
 
 TEST(all_uses_of_a_contended_line_are_while_others_run) {

@@ -9,7 +9,7 @@ from spanprof.diagnosis.losses import (OF_SHAPE, contended_lines, in_code_losses
                                        most_shared, share_of_start)
 from spanprof.diagnosis.own_code import own_share
 from spanprof.diagnosis.places import SERIAL, TASK
-from spanprof.program_text import BEGINNING
+from spanprof.program_text import BEGINNING, where
 
 FOR_CODE = (*OF_SHAPE, "undeferred", "loop_schedule")   # in which threads wait while others run it
 STEPS = 3
@@ -146,15 +146,27 @@ def left(facts, now, loss, found):
     """Of the run, without what is lost by this cause; all other code is still to run."""
     in_code = sum(one.time for one in in_code_losses(facts) if one.kind == loss.kind)
     in_code = max(in_code, loss.time) if in_code else 0
-    gone = loss.time + waiting_for(facts, found, loss)
-    return min(now, max(int(now * (1 - facts.own_share(gone))), least_time(facts, facts.code - in_code)))
+    freed = freed_with(loss, found)
+    gone = loss.time + waiting_for(facts, found, loss) + sum(freed.values())
+    least = least_time(facts, facts.code - in_code - freed["memory"])
+    return min(now, max(int(now * (1 - facts.own_share(gone))), least))
+
+
+def freed_with(loss, found):
+    """By kind, what else goes where the threads meet less often at a region: what they wait for at its end, and for
+    lines that pass between them from one time to the next."""
+    return {kind: sum(one.time for one in found if loss.kind == "small_regions" and one.kind == kind
+                      and where(one.place) == loss.place) for kind in ("memory", "loop_schedule")}
 
 
 def bound_of(facts, now, loss, found=()):
-    """As if what is lost by this cause were gone."""
+    """As if what is lost by this cause were gone. The least is 0 where lines pass between threads at small regions: not
+    all of these were seen."""
     after = low = left(facts, now, loss, found)
     if loss.kind == "memory" and facts.cost_on_one is None:
         low = left(facts, now, loss._replace(time=max(loss.time, contended_lines(facts, loss.place))), found)
+    if freed_with(loss, found)["memory"]:
+        low = 0
     return Step(loss.kind, loss.place, now, after, low, int(now - BOUND_LEAST * (now - after)))
 
 

@@ -343,8 +343,10 @@ def shortened(text, width):
 
 
 def after_words(step):
-    """What the run takes after a step."""
-    word = BY_KIND[step.kind].without
+    """What the run takes after a step; where samples tell no number, between which times it is likely."""
+    word = BY_KIND[step.kind].without if step.low else OR_LESS
+    if word == ABOUT and not step.change and step.low < step.after:
+        return "%s to %s" % (lasting(step.low), lasting(step.high))
     at_best = "at best " if word == AT_BEST and not step.change else ""
     return at_best + (lasting(step.after) if step.change else BOUNDS[word] % lasting(step.after))
 

@@ -150,6 +150,15 @@ class Steps(unittest.TestCase):
         run.cost_on_one = {TASKS: 200 * MS}     # measured
         self.assertEqual(bound_of(run, 100 * MS, Loss("memory", TASKS, 200 * MS)).low, 50 * MS)
 
+    def test_what_passes_between_threads_from_region_to_region_goes_with_small_ones(self):
+        lost, waits = Loss("small_regions", "image.c:25", 100 * MS), Loss("loop_schedule", TASKS, 20 * MS)
+        shared, others = Loss("memory", TASKS, 80 * MS), Loss("memory", "task at image.c:40", 40 * MS)
+        run = facts(code=240 * MS)
+        for found, after, low in (([others], 75, 75), ([others, waits], 70, 70), ([shared, others, waits], 50, 0)):
+            step = bound_of(run, 100 * MS, lost, [lost, *found])
+            self.assertEqual((step.after, step.low), (after * MS, low * MS))
+        self.assertEqual(bound_of(run, 100 * MS, lost._replace(kind="lock"), [shared, waits]).after, 75 * MS)
+
     def test_a_wait_that_some_turns_reach_is_likely_needless(self):
         change, seen = single("drop-wait", "taskwait at a.c:9"), SimpleNamespace(ordered={"taskwait at a.c:9": 0})
         self.assertEqual(likely(facts(), seen, change), 0.3)

@@ -1,5 +1,6 @@
 import unittest
 from collections import Counter
+from dataclasses import replace
 from types import SimpleNamespace
 
 from spanprof.diagnosis.calls import RUNTIME, Sampled
@@ -13,7 +14,7 @@ from spanprof.diagnosis.names import Names, Suspect, block_end, items_in
 from spanprof.diagnosis.places import AFTER_REGION, OF_THREADS, OWN, SERIAL, SHARE, TASK, Place
 from spanprof.diagnosis.plan import Step
 from spanprof.diagnosis.schema import as_json
-from spanprof.diagnosis.sentences import (WIDTH, change_sentence, first_digits, joined, lost_sentence, short_lines,
+from spanprof.diagnosis.sentences import (WIDTH, after_words, change_sentence, first_digits, joined, lost_sentence, short_lines,
                                           shortened, speed_words, sum_lines, times_of, waits, who_asked)
 from spanprof.diagnosis.tests.worked import MS, facts, place
 from spanprof.source_lines import Line
@@ -203,6 +204,13 @@ class Sentences(unittest.TestCase):
             "lost  60 %  threads write the same cache lines at once: image.c:11 and 12",
             "do    keep what image.c:11 writes in a local variable                        100 ms -> about 40.0 ms"])
         self.assertIn("not known: what it costs on one thread: --full", lines[4])
+        run.calls = run.calls._replace(at={TASKS: Counter({"image.c:11": 28000, "image.c:12": 12000})})
+        lines = short_lines(diagnose(run), Names(run, SOURCES))
+        self.assertTrue(lines[2].endswith(" 100 ms -> 25.0 ms to 82.0 ms"), lines[2])
+
+    def test_small_regions_through_which_lines_pass_may_cost_less(self):
+        step = Step("small_regions", TASKS, 100 * MS, 50 * MS, 50 * MS, 60 * MS)
+        self.assertEqual([after_words(step), after_words(replace(step, low=0))], ["about 50.0 ms", "50.0 ms or less"])
 
     def test_code_that_streams_and_shares_no_lines_lacks_bandwidth(self):
         run = found(cost_on_one={TASKS: 10 * MS}, usage={"user_ns": 1, "system_ns": 0, "peak_bytes": 1 << 28})
