@@ -14,7 +14,7 @@ import re
 import sys
 
 FILES = {
-    "gomp": [f"libgomp/{name}" for name in ("task.c", "taskloop.c", "team.c", "config/linux/bar.c", "priority_queue.c")],
+    "gomp": [f"libgomp/{name}.c" for name in ("task", "taskloop", "team", "config/linux/bar", "priority_queue")],
     "kmp": [f"openmp/runtime/src/kmp_{name}.cpp" for name in ("tasking", "taskdeps", "barrier")]}
 LEFT_OUT = re.compile(r"target|device|acc_|pause|omp_get|initialize_team|free_pool|attr|ompt|itt_|_tdg|_record|"
                       r"successors|hidden_helper|_dist|computeVars|^init$|^resize$|hierarch|_node_id", re.I)

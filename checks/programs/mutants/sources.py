@@ -37,8 +37,8 @@ class Gomp:
 
 
 class Kmp:
-    """libomp, of a source package llvm-toolchain-N (`apt-get source --download-only --tar-only llvm-toolchain-N`), built
-    by clang 16, or by clang 19 where that is missing."""
+    """libomp, of a source package llvm-toolchain-16 or -19 (`apt-get source --download-only --tar-only ..`), built by
+    clang 16, or 19 where that is missing."""
     archives = "/usr/src/llvm-toolchain-*.orig.tar.xz"
     needed = ("openmp/*", "cmake/*")
     library = "build/runtime/src/libomp.so"

@@ -89,7 +89,7 @@ GOMP_taskwait (void)
   task->waits = true;
   gomp_mutex_lock (&lock);
   wait_for (task,
-	    task->other);
+            task->other);
   again:
 }
 """
