@@ -37,17 +37,19 @@ class Gomp:
 
 
 class Kmp:
-    """libomp, of a source package llvm-toolchain-16 (`apt-get source --download-only --tar-only llvm-toolchain-16`)."""
+    """libomp, of a source package llvm-toolchain-16 or -19 (`apt-get source --download-only --tar-only ..`), built by
+    clang 16, or 19 where that is missing."""
     archives = "/usr/src/llvm-toolchain-*.orig.tar.xz"
     needed = ("openmp/*", "cmake/*")
     library = "build/runtime/src/libomp.so"
 
     @staticmethod
     def configure(tree, log, flags):
+        version = "16" if shutil.which("clang-16") else "19"
         run(["cmake", "-G", "Ninja", "-S", "openmp", "-B", "build", "-DCMAKE_BUILD_TYPE=RelWithDebInfo",
              "-DOPENMP_STANDALONE_BUILD=ON", "-DOPENMP_ENABLE_LIBOMPTARGET=OFF", "-DLIBOMP_OMPD_SUPPORT=OFF",
-             "-DCMAKE_C_COMPILER=clang-16", "-DCMAKE_CXX_COMPILER=clang++-16", f"-DCMAKE_CXX_FLAGS={flags}",
-             f"-DCMAKE_SHARED_LINKER_FLAGS={flags}"], tree, log)
+             f"-DCMAKE_C_COMPILER=clang-{version}", f"-DCMAKE_CXX_COMPILER=clang++-{version}",
+             f"-DCMAKE_CXX_FLAGS={flags}", f"-DCMAKE_SHARED_LINKER_FLAGS={flags}"], tree, log)
 
     @staticmethod
     def make(tree, log):

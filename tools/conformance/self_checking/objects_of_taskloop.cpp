@@ -1,5 +1,5 @@
-// Objects in firstprivate, private and lastprivate of a taskloop: as many are destroyed as made, and the last turn's is
-// assigned.
+// Objects in firstprivate, private and lastprivate of a taskloop, deferred or not: as many are destroyed as made, and the
+// last turn's is assigned.
 // openmp: 12.6 taskloop construct, 5.4.3 to 5.4.5 data-sharing clauses
 #include "expect.h"
 
@@ -23,7 +23,7 @@ struct Counted {
 
 static void loop(int round) {
   Counted first(round), own(5), last(3);
-#pragma omp taskloop firstprivate(first) private(own) lastprivate(last) num_tasks(6)
+#pragma omp taskloop firstprivate(first) private(own) lastprivate(last) num_tasks(6) if (round % 2)
   for (int i = 0; i < 30; i++) {
     expect("a copy's value", first.value, round);
     if (i % 6 == 0) linger();

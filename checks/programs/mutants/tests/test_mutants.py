@@ -83,37 +83,49 @@ class Operators(unittest.TestCase):
 GOMP_taskwait (void)
 {
   struct gomp_task *task = 0;
+  /* if (task == 0); */
   if (task == NULL)
     return;
   task->waits = true;
   gomp_mutex_lock (&lock);
+  wait_for (task,
+            task->other);
   again:
 }
-""".split("\n")
+"""
+
+    def changed(self, number):
+        """What each operator makes of a line."""
+        return {change.operator: change.new for change in operators.changes_of(self.SOURCE) if change.number == number}
 
     def test_each_operator(self):
-        seen = {change.operator: change.new for change in operators.changes_of(self.SOURCE) if change.number in (4, 6)}
-        self.assertEqual(seen, {"negate": ("  if (!(task == NULL))",), "drop": ("  ;",),
-                                "swap": ("  task->waits = false;",),
-                                "move": ("  gomp_mutex_lock (&lock);", "  task->waits = true;")})
+        self.assertEqual(self.changed(5), {"negate": ("  if (!(task == NULL))",), "compare": ("  if (task != NULL)",)})
+        self.assertEqual(self.changed(7), {"drop": ("  ;",), "constant": ("  task->waits = false;",),
+                                           "move": ("  gomp_mutex_lock (&lock);", "  task->waits = true;")})
 
-    def test_declarations_labels_and_code_for_devices_stay(self):
-        self.assertEqual({change.number for change in operators.changes_of(self.SOURCE)}, {4, 6, 7})
-        other = [line.replace("GOMP_taskwait", "GOMP_target_ext") for line in self.SOURCE]
+    def test_a_statement_of_two_lines(self):
+        self.assertEqual(self.changed(9), {"drop": ("  ;", "")})
+
+    def test_a_condition_of_two_lines(self):
+        lines = ["  if (a", "      && b)"]
+        self.assertEqual(operators.negated(lines, lines, 0), ["  if (!(a", "      && b))"])
+
+    def test_comments_labels_and_code_for_devices_stay(self):
+        self.assertEqual({change.number for change in operators.changes_of(self.SOURCE)}, {3, 5, 7, 8, 9})
+        other = self.SOURCE.replace("GOMP_taskwait", "GOMP_target_ext")
         self.assertEqual(list(operators.changes_of(other)), [])
 
-    def test_few_of_a_function(self):
-        changes = [("task.c", change) for change in operators.changes_of(self.SOURCE)]
-        self.assertEqual(len(list(operators.chosen(changes, 1, 9))), operators.MOST_OF_FUNCTION)
-        self.assertEqual(len(list(operators.chosen(changes, 1, 1))), 1)
+    def test_functions(self):
+        code = ["static bool __kmp_push(int x,", "  int y);", "f (void (*g) (int))", "  g (1);"]
+        self.assertEqual(list(operators.functions_of(code)), ["__kmp_push", "__kmp_push", "f", "f"])
 
     def test_a_patch_can_be_read(self):
         with tempfile.TemporaryDirectory() as folder:
             tree, patches = pathlib.Path(folder), pathlib.Path(folder) / "patches"
-            for name in operators.FILES:
-                (tree / "libgomp" / name).parent.mkdir(parents=True, exist_ok=True)
-                (tree / "libgomp" / name).write_text("\n".join(self.SOURCE))
-            operators.main([folder, str(patches), "--count", "2"])
+            for name in operators.FILES["gomp"]:
+                (tree / name).parent.mkdir(parents=True, exist_ok=True)
+                (tree / name).write_text(self.SOURCE)
+            operators.main(["gomp", folder, str(patches), "--count", "2"])
             self.assertEqual(len(mutants_of("gomp", folder=patches)), 2)
             self.assertIn("+++ b/libgomp/", next(patches.iterdir()).read_text())
 

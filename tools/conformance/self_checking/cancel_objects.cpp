@@ -1,0 +1,42 @@
+// Objects that were copied for tasks of a cancelled group are destroyed, whether or not their tasks run.
+// openmp: 16.1 cancel construct, 5.4.4 firstprivate clause
+// env: OMP_CANCELLATION=true
+#include "expect.h"
+
+static long alive;
+
+struct Counted {
+  int value;
+  explicit Counted(int value) : value(value) { add(1); }
+  Counted(const Counted &other) : value(other.value) { add(1); }
+  ~Counted() { add(-1); }
+  static void add(long by) {
+#pragma omp atomic
+    alive += by;
+  }
+};
+
+static void create_all() {
+  Counted counted(3);
+#pragma omp taskgroup
+  for (int i = 0; i < 30; i++) {
+#pragma omp task firstprivate(counted)
+    {
+      expect("the copy's value", counted.value, 3);
+      if (i == 2) {
+#pragma omp cancel taskgroup
+      }
+      linger();
+    }
+  }
+}
+
+int main() {
+  for (int round = 0; round < 20; round++) {
+#pragma omp parallel
+#pragma omp single
+    create_all();
+    expect("objects that were not destroyed", alive, 0);
+  }
+  return wrong;
+}
