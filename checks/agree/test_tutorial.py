@@ -26,8 +26,7 @@ class Faults(unittest.TestCase):
 
 
 class Programs(unittest.TestCase):
-    def test_the_second_one_may_be_missing(self):
-        self.assertEqual(named_programs(["/no/spanprof", "/no/large"]), {"spanprof": "/no/spanprof"})
+    def test_both_by_their_names(self):
         self.assertEqual(named_programs(["/no/spanprof", "/bin/sh"]), {
             "spanprof": "/no/spanprof", "spanprof_large": "/bin/sh"})
 
