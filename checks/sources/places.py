@@ -7,7 +7,8 @@ A file that names all commands or causes but one at most has a place for each, a
 statements or three quarters of the events of a log. Words that are plain English, such as `run` and `work`, don't
 count. CONTRIBUTING.md has a table for each. Its first column names files and folders, or `FOLDER`: and then what lies
 there. Each of them has to hold such a file, or one that names a word, and each such file has to be one of them or lie
-below one. Files and folders that it names elsewhere have to exist. LOG.md has the version and a row for each event of a log.
+below one. Files and folders that it names elsewhere have to exist. LOG.md has the version and a row for each event of
+a log.
 """
 import pathlib
 import re

@@ -153,7 +153,8 @@ namespace {
 // Samples of uses that met no other one count as well, in part, where those that did are less than what is shared.
 void add_unmet(const std::vector<Used> &all, const Stacks &stacks, std::vector<Contended> &out) {
   std::map<const void *, std::array<double, 2>> time;  // by place, of samples that met none, and of those that did
-  for (const Used &use : all) time[use.place][out[use.sample].place != nullptr] += stacks.interrupted[use.sample].stands_for;
+  for (const Used &use : all)
+    time[use.place][out[use.sample].place != nullptr] += stacks.interrupted[use.sample].stands_for;
   std::map<const void *, double> parts = shared_parts(all);
   std::vector<Contended> more(out.size());
   for (const Used &use : all) {

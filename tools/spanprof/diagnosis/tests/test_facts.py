@@ -200,7 +200,8 @@ class Starting(unittest.TestCase):
         outer = alone._replace(number=4, begin=90, end=99, threads=4, inside=0)
         nested = alone._replace(number=5, begin=91, end=95, threads=2)
         later, beside = nested._replace(begin=95, end=97, threads=3), nested._replace(begin=94, end=99, threads=4)
-        programs = [run, None] + [Program(100, [outer, *some]) for some in ((nested,), (nested, later), (nested, beside))]
+        inner = ((nested,), (nested, later), (nested, beside))
+        programs = [run, None] + [Program(100, [outer, *some]) for some in inner]
         self.assertEqual([nested_threads(one) for one in programs], [4, 0, 5, 6, 8])
         self.assertEqual([(one.place, one.threads, one.times, one.elapsed) for one in inner_regions(run)],
                          [("a.c:2", 4, 1, 50)])
