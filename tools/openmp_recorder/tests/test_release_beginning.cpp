@@ -144,7 +144,7 @@ TEST(what_a_thread_of_the_program_runs_stands_before_what_was_let_go) {
       .after(6)
       .add(1, RecordKind::ImplicitEnd, 20)
       .add(1, RecordKind::ParallelEnd, 0, 3);
-  EXPECT(made.released().whole->before->count(), 2u);
+  EXPECT(made.released().whole->before->count(), 3u);
   EXPECT(made.text().substr(0, 5), "task ");
 }
 
