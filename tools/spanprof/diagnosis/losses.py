@@ -315,9 +315,11 @@ def often_begun(facts):
 
 
 def missing_threads(facts):
-    """By region: the time of threads that its team did not have."""
-    return {region.place: (facts.usable - region.threads) * region.elapsed for region in facts.regions
-            if region.threads < facts.usable}
+    """By region: the time of threads that its team did not have. Those of a region inside it count only as far as the
+    run was asked for as many."""
+    wanted = min(facts.usable, facts.asked or facts.usable)
+    return {region.place: (wanted - region.threads) * region.elapsed for region in facts.regions
+            if region.threads < wanted}
 
 
 def kind_of_preempted(facts):

@@ -3,7 +3,7 @@ import unittest
 
 from spanprof.diagnosis.calls import Sampled
 from spanprof.diagnosis.facts import Region
-from spanprof.diagnosis.losses import Loss, by_place, code_on_one, divided, losses, system_time
+from spanprof.diagnosis.losses import Loss, by_place, code_on_one, divided, losses, missing_threads, system_time
 from spanprof.diagnosis.places import OF_THREADS, SERIAL, SHARE, TASK
 from spanprof.diagnosis.tests.worked import MS, facts, place
 
@@ -37,6 +37,11 @@ class Losses(unittest.TestCase):
         lost = {kind: sum(loss.time for loss in found if loss.kind == kind) for kind in ("too_few_threads",
                                                                                          "loop_schedule")}
         self.assertEqual(lost, {"too_few_threads": 180 * MS, "loop_schedule": 20 * MS})
+
+    def test_a_team_of_as_many_as_were_asked_for_lacks_none(self):
+        team = [Region("a.c:2", 2, 90 * MS)]
+        self.assertEqual(missing_threads(facts([], threads=3, asked=2, regions=team)), {})
+        self.assertEqual(missing_threads(facts([], threads=3, asked=3, regions=team)), {"a.c:2": 90 * MS})
 
     def test_a_part_of_the_beginning_starts_the_program(self):
         begins = place("the beginning", SERIAL, cost=20 * MS, pieces=1, tasks=0)
