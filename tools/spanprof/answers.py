@@ -53,8 +53,8 @@ def take_runs(head, runs):
 class Answers:
     """Of a text, by its path or that of a recording."""
 
-    def __init__(self, recording, threads=None):
-        self.path = getattr(recording, "text", recording)
+    def __init__(self, recording, threads=None, tell=None):
+        self.path, self.tell = getattr(recording, "text", recording), tell or (lambda words: None)
         self.name = shown_name(self.path)
         self.asked, self.wanted_threads = [], threads
         self.file = TextFile(self.path)
@@ -66,10 +66,14 @@ class Answers:
     def text(self):
         return str(self.file)
 
+    def noted(self, shown):
+        """That this is asked, as a line of a terminal."""
+        self.tell(shown)
+        self.asked.append(shown)
+
     def note(self, *words):
-        """That this is asked, as one would ask it."""
         shown = " ".join(words[:3]) + " .." * (len(words) > 3)
-        self.asked.append("spanprof_large %s < %s" % (shown, self.name))
+        self.noted("spanprof_large %s < %s" % (shown, self.name))
 
     def ask(self, *words):
         self.note(*words)
@@ -128,7 +132,7 @@ class Answers:
         """By name the row of `places`, where each kind of segments has one of these names."""
         numbers = {name: number for number, name in enumerate(dict.fromkeys(names))}
         of_kind = [numbers[name] for name in names]
-        self.note("places")
+        self.noted("spanprof_large places < " + self.name)
         return dict(zip(numbers, zip(*client.places(self.path, map(of_kind.__getitem__, self.code.of)))))
 
     def costs(self):

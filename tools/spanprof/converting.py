@@ -11,6 +11,7 @@ import tempfile
 from spanprof.built import Product, find_or_build
 from spanprof.errors import Fault
 from spanprof.folders import builds_in
+from spanprof.progress import Progress, bytes_read
 from spanprof.recording import REGIONS, SEGMENTS, TEXT, TIMES, made_folder
 from spanprof.regions import program_of
 
@@ -22,6 +23,7 @@ STEM = "program"
 FILES = {".tasks": TEXT, ".times": TIMES, ".regions": REGIONS, ".segments": SEGMENTS, ".off": "off", ".locks": "locks",
          ".calls": "calls"}
 FAILED = ("fault", "unwritten")
+SECONDS = 0.5       # between two looks at how far the converter is
 DIED = {signal.SIGKILL: "it was killed, as the system does where memory is short",
         signal.SIGXFSZ: "a file would be longer than `ulimit -f` allows"}
 
@@ -40,16 +42,41 @@ def convert(program, log, out, variables):
     """What is told of one log, whose texts are OUT.tasks and so on."""
     rest = {name: value for name, value in variables.items() if name not in LOADERS}
     try:
-        done = subprocess.run([program, log, out], env=rest, stdout=subprocess.PIPE, text=True,
-                              errors="surrogateescape", check=False)
+        process = subprocess.Popen([program, log, out], env=rest, stdout=subprocess.PIPE, text=True,
+                                   errors="surrogateescape")
     except OSError as wrong:
         raise Fault("%s: %s" % (program, wrong.strerror)) from wrong
-    told = [json.loads(line) for line in done.stdout.splitlines() if line.strip().endswith("}")]
-    status = done.returncode
+    told = [json.loads(line) for line in output_of(process, log).splitlines() if line.strip().endswith("}")]
+    status = process.returncode
     if status and not has_failed(told):
         why = "ended with status %d" % status if status > 0 else "died: " + DIED.get(-status, "signal %d" % -status)
         told.append({"message": "fault", "log": log, "what": "its converter " + why})
     return told
+
+
+def output_of(process, log):
+    """What the converter prints; a terminal is shown how much of the log it has read, and then that it writes."""
+    progress, name = Progress("converting"), os.path.basename(os.path.dirname(log))
+    whole = sum(os.path.getsize(path) for path in glob.glob(os.path.join(glob.escape(log), "*"))) or 1
+    with process:
+        try:
+            return at_the_end(process, lambda: show_how_far(progress, name, bytes_read(process) / whole))
+        finally:
+            progress.end()
+            process.kill()      # where this was interrupted
+
+
+def show_how_far(progress, name, share):
+    progress.name = ("reading the log of %s" if share < 1 else "writing the texts of %s") % name
+    progress.at(share if share < 1 else None)
+
+
+def at_the_end(process, meanwhile):
+    while True:
+        try:
+            return process.communicate(timeout=SECONDS)[0]
+        except subprocess.TimeoutExpired:
+            meanwhile()
 
 
 def has_failed(told):

@@ -9,6 +9,7 @@ from spanprof.diagnosis.losses import holds_neighbours, kind_of_starved, most_sh
 from spanprof.diagnosis.places import LEAST_HOLDERS, OF_THREADS, SERIAL, SHARE, in_text
 from spanprof.errors import Fault
 from spanprof.program_text import BARRIER
+from spanprof.progress import Progress, each
 from spanprof.whatif.creating import costs_for
 from spanprof.whatif.numbers import greedy_end
 from spanprof.whatif.requests import Request, applied, changes
@@ -163,4 +164,5 @@ class Bench:
     def tries(self, found, before=()):
         """Those of the changes that can be made, on top of others."""
         ask = client.at_once if len(self.kept) < LARGE else map
-        return list(filter(None, ask(lambda change: self.one(tuple(before), change), found)))
+        shown = each(found, Progress("trying changes"))
+        return list(filter(None, ask(lambda change: self.one(tuple(before), change), shown)))

@@ -3,7 +3,7 @@ import argparse
 
 from spanprof import client
 from spanprof.answers import Answers
-from spanprof.command import Console, check_files, end_with
+from spanprof.command import Console, check_files, end_with, writing
 from spanprof.graph.dot import lines
 from spanprof.recording import text_of
 from spanprof.text_file import TextFile
@@ -20,6 +20,7 @@ def parse(words):
     parser.add_argument("text", metavar="FILE", help="a recording, a program text, or - for standard input")
     parser.add_argument("--dot", action="store_true", help="print it for Graphviz (`| dot -Tsvg > graph.svg`), with "
                         "places in the source and the critical path in red")
+    parser.add_argument("-o", "--output", help="write to this file")
     parser.add_argument("--version", action=Version)
     return parser.parse_args(words)
 
@@ -38,8 +39,13 @@ def dot_lines(path):
 
 def answer(options):
     options.text = text_of(options.text)
-    check_files(options.text)
-    print(*(dot_lines if options.dot else table_lines)(options.text), sep="\n")
+    check_files(options.text, options.output, "graph")
+    told = dot_lines(options.text) if options.dot else table_lines(options.text)
+    if not options.output:
+        print(*told, sep="\n")
+        return
+    with writing(options.output) as out:
+        print(*told, sep="\n", file=out)
 
 
 def main(words):

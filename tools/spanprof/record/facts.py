@@ -60,4 +60,4 @@ def facts_of_program(program):
 def facts_of_run(ended, variables, processors):
     """With the names of recording.json. `ended` is how the program ended."""
     return {"threads": {"asked": threads_asked(variables)}, "processors": processors, "elapsed_ns": ended.elapsed,
-            "usage": usage_of(ended.usage), "host": ended.host}
+            "usage": usage_of(ended.usage), "host": ended.host, "counters": ended.counters or None}

@@ -90,11 +90,13 @@ class PassedOn:
 
 
 class Ended(NamedTuple):
-    """`status` is the exit status, or less than 0 the signal; `elapsed` is in nanoseconds; `host` is of the machine."""
+    """`status` is the exit status, or less than 0 the signal; `elapsed` is in nanoseconds; `host` is of the machine;
+    `counters` are of the processor, where they were asked for."""
     status: int
     elapsed: int
     usage: resource.struct_rusage
     host: dict = {}
+    counters: dict = {}
 
 
 def begun(path, words, variables):

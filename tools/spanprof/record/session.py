@@ -8,6 +8,7 @@ from spanprof import client
 from spanprof.converting import convert_into, converter, has_failed, recorder_library
 from spanprof.errors import Fault
 from spanprof.record.console import say, tell
+from spanprof.record.counters import Counters
 from spanprof.record.facts import facts_of_run, processors_there_are
 from spanprof.record.files import check_file, check_folder
 from spanprof.record.linkage import linkage
@@ -107,7 +108,9 @@ class Session:
 
     def run(self, out, others=None):
         """One run, with other variables too, whose logs are OUT.spanprof/log and so on: how it ended."""
-        return watched(self.path, self.options.command, self.variables(out, others))
+        with Counters() as counters:
+            ended = watched(self.path, self.options.command, self.variables(out, others))
+            return ended._replace(counters=counters.read())
 
     def facts_of(self, ended, out):
         """What a recording tells of its run."""

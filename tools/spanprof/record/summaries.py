@@ -9,6 +9,7 @@ from spanprof.command import show
 from spanprof.diagnosis.output import output_of
 from spanprof.errors import Fault
 from spanprof.record.console import tell
+from spanprof.record.counters import words_of
 from spanprof.record.ranks import is_child
 from spanprof.record.summary import named, other_region, summary
 from spanprof.record.summary_json import run_json, summary_json, write_json
@@ -53,7 +54,8 @@ def print_summary(options, recording, answers, others, news, scale, is_cut):
     if options.all or not (diagnosis or is_cut):
         show(summary(answers, news + [why] * bool(why), others, lines_of(account, no_breakdown),
                      program_of(recording.text)))
-        show(named("losses", diagnosis.sum_lines() if diagnosis else []))
+        show(named("losses", diagnosis.sum_lines() if diagnosis else []) +
+             named("counters", words_of(recording.meta.get("counters") or {})))
     if options.json:
         run = run_json(answers, account, no_breakdown)
         write_json(options.json, summary_json(diagnosis and diagnosis.json(), run, scale))

@@ -8,6 +8,7 @@ from spanprof.command import Console, check_files, count, end_with, percent, sho
 from spanprof.diagnosis.compare import as_json as comparison_json, compared, is_slower, lines as comparison_lines
 from spanprof.diagnosis.output import output_of
 from spanprof.errors import Fault
+from spanprof.progress import Progress
 from spanprof.recording import open_recording, text_of
 from spanprof.report.page import page
 from spanprof.report.stacks import folded, stacks
@@ -79,17 +80,18 @@ def write(path, text):
         file.write(text.encode("utf-8", "replace"))     # a file's name may be no UTF-8
 
 
-def write_the_rest(chosen):
+def write_the_rest(chosen, progress):
     """What was asked for; what was written is told."""
     if chosen.json:
         print(json.dumps(output_of(open_recording(chosen.program), chosen.source or ()).json(), indent=2))
-    view = View(chosen.program, chosen.threads, chosen.source) if chosen.output or chosen.trace else None
+    view = View(chosen.program, chosen.threads, chosen.source, progress) if chosen.output or chosen.trace else None
     if chosen.trace and view.is_long:
         raise Fault("%s: the text is beyond the limits of spanprof, and has no --trace" % chosen.program)
-    made = {"page": lambda: page(view), "trace": lambda: trace_text(view),
+    made = {"page": lambda: page(view, progress), "trace": lambda: trace_text(view),
             "stacks": lambda: folded(stacks(open_recording(chosen.program)))}
     for path, what in outputs(chosen):
         write(path, made[what]())
+    progress.end()
     show(["spanprof-report: written: %s" % path for path, _ in outputs(chosen)])
     if chosen.output not in (None, "-") and view.diagnosis:
         show(view.diagnosis.lines(), sys.stdout)
@@ -119,7 +121,7 @@ def answer(chosen):
         return
     chosen.program = text_of(chosen.program)
     check(chosen)
-    write_the_rest(chosen)
+    write_the_rest(chosen, Progress("spanprof-report"))
 
 
 def main(words):

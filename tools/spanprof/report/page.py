@@ -3,6 +3,7 @@ import json
 import os
 from string import Template
 
+from spanprof.progress import Progress, each
 from spanprof.report.colours import colour_rules
 from spanprof.report.markup import join, markup
 from spanprof.report.part_changes import changes_part
@@ -24,16 +25,17 @@ def kept(name):
         return file.read()
 
 
-def parts(view):
+def parts(view, progress):
     """Some texts have not all of them."""
     makers = (first_part, timeline_part, places_part, changes_part, curve_part, source_part, numbers_part)
-    return list(filter(None, [make(view) for make in makers]))
+    return list(filter(None, [make(view) for make in each(makers, progress)]))
 
 
-def page(view):
+def page(view, progress=None):
     """The whole page as text."""
+    made = parts(view, progress or Progress("making the page"))
     data = json.dumps(timeline_data(view), ensure_ascii=False, separators=(",", ":"))
     return Template(kept("page.html")).substitute(
-        title=markup(view.name), main=join(parts(view), "\n"),
+        title=markup(view.name), main=join(made, "\n"),
         data=data.replace("<", "\\u003c"),     # so that nothing ends the element
         style=colour_rules() + kept("style.css"), script="\n".join(map(kept, SCRIPTS)))

@@ -37,8 +37,8 @@ class View:
     """Of a long text the run is shown in bins of time, and what would need a row or a picture of each segment is left
     out."""
 
-    def __init__(self, path, threads=None, source=None):
-        self.answers = Answers(path, threads)
+    def __init__(self, path, threads=None, source=None, tell=None):
+        self.answers = Answers(path, threads, tell)
         self.units = Units(self.answers.head)
         self.figures = Figures(self.units)
         here = [os.path.dirname(os.path.abspath(folder_of(path) or path)), os.getcwd()]
@@ -96,11 +96,13 @@ class View:
         times = open_recording(self.answers.path).times
         if not times:
             return None
+        self.answers.tell("reading " + os.path.basename(times))
         return levels_in(times, self)
 
     @cached_property
     def diagnosis(self):
         """Of a recorded run on several threads; None where there is none, as of a text without times."""
+        self.answers.tell("changes of %s" % self.name)
         return diagnosis_of(self.answers, self.sources.folders)
 
     @cached_property

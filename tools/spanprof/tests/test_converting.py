@@ -34,6 +34,13 @@ class Converters(InFolder):
     def into(self, folder, words):
         return converting.convert_into(self.converter(words), "a/log", folder, dict(os.environ))
 
+    def test_how_far_it_is(self):
+        shown = mock.Mock()
+        for share in (0.25, 1.2):
+            converting.show_how_far(shown, "a.spanprof", share)
+            shown.at.assert_called_with({0.25: 0.25}.get(share))
+        self.assertEqual(shown.name, "writing the texts of a.spanprof")
+
     def test_texts_come_into_the_folder(self):
         folder = recording(self.folder)
         told = self.into(folder, 'echo new > $2.tasks; echo off > $2.off\n'

@@ -1,4 +1,5 @@
 """In tools/: python3 -m unittest discover -s spanprof/graph/tests -t ."""
+import os
 import unittest
 from unittest import mock
 
@@ -52,6 +53,12 @@ class Command(InFolder):
         told = self.told("--dot")
         self.assertIn('  s1 [label="1: task at a.c:3\\n3", color=red, penwidth=2];\n  s0 -> s1 [color=red', told)
         self.assertIn("  s1 -> s3 [color=red, penwidth=2];\n  s2 -> s3;\n}", told)
+
+    def test_into_a_file(self):
+        path = os.path.join(self.folder, "graph.csv")
+        self.assertEqual(self.told("-o", path), "")
+        with open(path, encoding="utf-8") as file:
+            self.assertEqual(file.read(), TABLE)
 
 
 if __name__ == "__main__":

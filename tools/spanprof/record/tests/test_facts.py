@@ -9,7 +9,7 @@ from spanprof.record.run import Ended
 from spanprof.regions import Program, Region
 
 USED = resource.struct_rusage((1.5, 0.25, 8, 0, 0, 0, 410, 3, 0, 0, 0, 0, 0, 0, 12, 7))
-ENDED = Ended(0, 5000, USED, {"suspended_ns": 0})
+ENDED = Ended(0, 5000, USED, {"suspended_ns": 0}, {"cycles": 7})
 PROGRAM = Program(5000, [Region(1, 1, 0, 100, 4, 8, 0, 90, 0, "a.c:3"),
                          Region(2, 0, 200, 900, 2, 0, 1, 90, 0, "a.c:9"),
                          Region(3, 2, 1000, 1300, 4, 8, 0, 90, 0, "a.c:3")])
@@ -53,6 +53,8 @@ class Facts(unittest.TestCase):
         found = facts_of_run(ENDED, {"OMP_NUM_THREADS": "8"}, 4)
         self.assertEqual((found["threads"], found["processors"], found["elapsed_ns"], found["host"]),
                          ({"asked": 8}, 4, 5000, {"suspended_ns": 0}))
+        self.assertEqual(found["counters"], {"cycles": 7})
+        self.assertIsNone(facts_of_run(ENDED._replace(counters={}), {}, 4)["counters"])
 
     def test_of_a_program(self):
         self.assertEqual(facts_of_program(PROGRAM)["threads"], {"most": 4})

@@ -56,6 +56,9 @@ class Printed(InFolder):
         self.assertEqual(self.told(folder, all=False),
                          ["now: spanprof-report %s" % folder, "a note"])
         self.assertEqual(self.told(recording(self.folder))[-1], "losses        9 % code")
+        counted = {"counters": {"cycles": 2, "instructions": 3}}
+        self.assertEqual(self.told(recording(self.folder, facts=counted))[-1],
+                         "counters      1.50 instructions per cycle (measured)")
         self.diagnosed.return_value = None, "no diagnosis: no program"
         self.assertEqual(self.told(recording(self.folder), all=False)[-1], "              no diagnosis: no program")
 

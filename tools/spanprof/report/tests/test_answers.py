@@ -12,16 +12,18 @@ class OfTheWorkedProgram(unittest.TestCase):
         patch = worked.patched()
         patch.start()
         self.addCleanup(patch.stop)
-        self.answers = Answers(worked.path("mesh.tasks"))
+        self.told = []
+        self.answers = Answers(worked.path("mesh.tasks"), tell=self.told.append)
 
     def test_numbers_of_span(self):
         self.assertEqual(self.answers.span_numbers, {"tasks": 5, "segments": 13, "work": 41, "span": 31})
         self.assertEqual((self.answers.work, self.answers.span, self.answers.tasks), (41, 31, 5))
 
-    def test_each_command_is_asked_once_and_noted(self):
+    def test_each_command_is_asked_once_and_told(self):
         for _ in range(2):
             self.assertEqual(len(self.answers.rows.cost), 13)
-        self.assertEqual(self.answers.asked, ["spanprof_large slack < mesh.tasks"])
+        self.assertEqual(self.told, ["spanprof_large slack < mesh.tasks"])
+        self.assertEqual(self.answers.asked, self.told)
 
     def test_rows(self):
         self.assertEqual([column[8] for column in self.answers.rows], [8, 4, 17, 3, 0])
