@@ -87,8 +87,8 @@ _spanprof_record() {
         --unit) _spanprof_among "$current" ns us ms ;;
         --clock) _spanprof_among "$current" wall cpu ;;
         --json) _spanprof_files "$current" .json ;;
-        --out | --runtime) _spanprof_files "$current" ;;
-        --threads | --runs | --scale) ;;
+        --out | --runtime | --against) _spanprof_files "$current" ;;
+        --threads | --runs | --scale | --fail-above) ;;
         *) case $current in
             -*) _spanprof_among "$current" -- "$(_spanprof_options "${COMP_WORDS[0]}")" ;;
             *) _spanprof_files "$current" ;;
@@ -114,7 +114,7 @@ _spanprof_report() {
     case $before in
         -o | --output) _spanprof_files "$current" .html ;;
         --trace) _spanprof_files "$current" .json ;;
-        --folded) _spanprof_files "$current" ;;
+        --folded | --pprof) _spanprof_files "$current" ;;
         --source) _spanprof_folders "$current" ;;
         --threads) ;;
         *) case $current in

@@ -2,6 +2,7 @@
 import signal
 
 from spanprof.command import end_with, show
+from spanprof.diagnosis.compare import is_slower
 from spanprof.errors import OWN_FAULT, Fault
 from spanprof.record.calibrate import calibrate
 from spanprof.record.console import CONSOLE, say
@@ -15,6 +16,8 @@ from spanprof.record.session import Session
 from spanprof.record.summaries import print_summaries
 from spanprof.record.summary import named
 from spanprof.record.summary_json import write_json
+
+SLOWER = 3      # than an earlier recording, by more than it may be
 
 
 def report(session, recorded, scale):
@@ -46,6 +49,8 @@ def record_and_report(options):
             recorded, scale = record_as_asked(session)
         status = recorded.status
         report(session, recorded, scale)
+        if is_slower(session.comparison, options.fail_above):
+            return status or SLOWER
         return status if recorded.is_whole else status or OWN_FAULT
     except Fault as fault:
         say(str(fault))

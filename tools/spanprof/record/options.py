@@ -3,7 +3,7 @@ import argparse
 import os
 import re
 
-from spanprof.command import count
+from spanprof.command import count, percent
 from spanprof.errors import Fault
 from spanprof.record.ranks import is_launcher
 from spanprof.record.target import launched
@@ -11,9 +11,9 @@ from spanprof.version import Version
 
 DESCRIPTION = """Records a run of an OpenMP program, and prints on standard error what costs it time and what to change
 first."""
-AFTER = """Everything after -- is the program and its arguments. The exit status is the program's, 2 for
-wrong arguments, 125 if nothing was recorded, 126 if the program cannot be run, 127 if it does not exist. The program
-still reads OMP_* variables."""
+AFTER = """Everything after -- is the program and its arguments. The exit status is the program's, 2 for wrong
+arguments, 3 if --fail-above was exceeded, 125 if nothing was recorded, 126 if the program cannot be run, 127 if it does
+not exist. The program still reads OMP_* variables."""
 MOST_RUNS = 99
 RUNS_OF_A_SCALE = 5
 MOST_THREADS = 1024
@@ -64,6 +64,10 @@ def parser():
         help="record the calls that led to each creation of a task, and distinguish its callers")
     add("--runtime", metavar="llvm|gnu|FILE", help="run on LLVM's runtime, on gcc's, or on the one in FILE (default: "
         "the runtime that the program is linked with)")
+    add("--against", metavar="BEFORE.spanprof",
+        help="compare with an earlier recording: whether the program is faster, where, and what was predicted")
+    add("--fail-above", type=percent, metavar="5%",
+        help="with --against: exit with status 3 if the program is slower by more than this")
     add("--all", action="store_true", help="print everything known of the run after the diagnosis")
     add("--json", metavar="FILE", help="write the diagnosis as JSON, too")
     add("--version", action=Version)
@@ -100,6 +104,8 @@ def parse(words):
     check_name(reader, chosen.out)
     if chosen.scale and chosen.threads:
         reader.error("--scale does not combine with --threads")
+    if chosen.fail_above is not None and not chosen.against:
+        reader.error("--fail-above needs --against")
     if chosen.full and (chosen.scale or chosen.runs):
         reader.error("--full does not combine with --scale and --runs")
     chosen.runs = chosen.runs or (RUNS_OF_A_SCALE if chosen.scale else 1)

@@ -20,7 +20,7 @@ from spanprof.record.runtime import choose, refuse_targets, what_it_lacks
 from spanprof.record.runtime_name import note_of
 from spanprof.record.target import find, launched
 from spanprof.record.work import Work, taken
-from spanprof.recording import ENDING, LOG, META, TEXT
+from spanprof.recording import ENDING, LOG, META, TEXT, open_recording
 
 
 @dataclass
@@ -34,6 +34,15 @@ class Recorded:
     def is_whole(self):
         """Whether there is a recording of all of the run: on a full disk there is one of its beginning."""
         return bool(self.found) and not (self.said and self.said.is_cut)
+
+
+def check_earlier(path, out, is_replaced):
+    """A fault before the run where there is no recording to compare with, or none would be left."""
+    if not os.path.exists(path):
+        raise Fault("--against %s: no such recording" % path)
+    open_recording(path)
+    if is_replaced and os.path.realpath(path) == os.path.realpath(out + ENDING):
+        raise Fault("--force would replace %s, with which --against compares; --out names the new one" % path)
 
 
 def notes_on(preload, called, is_asked=False):
@@ -72,6 +81,9 @@ class Session:
         self.out = of_rank(os.path.abspath(options.out), self.rank)
         check_folder(options.out)
         check_file(options.json, "--json")
+        self.comparison = None      # with an earlier recording, where that is asked for
+        if options.against:
+            check_earlier(options.against, self.out, options.force)
         client.ask(["span"], "omptasks 1\n")    # a fault before the run, where nothing can read its recording
         for name in ("scale", "full"):
             if getattr(options, name) and (launches or self.rank is not None):

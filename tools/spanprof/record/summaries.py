@@ -6,6 +6,7 @@ import shlex
 from spanprof.answers import Answers
 from spanprof.breakdown_lines import lines_of
 from spanprof.command import show
+from spanprof.diagnosis.compare import compared, lines as comparison_lines
 from spanprof.diagnosis.output import output_of
 from spanprof.errors import Fault
 from spanprof.record.console import tell
@@ -41,11 +42,21 @@ def diagnosed(recording, is_cut=False):
         return None, "no diagnosis: %s" % wrong
 
 
-def print_summary(options, recording, answers, others, news, scale, is_cut):
+def print_diagnosis(session, recording, news, is_cut):
+    """And how it differs from an earlier recording; answers it, or none and why."""
     diagnosis, why = diagnosed(recording, is_cut)
     if diagnosis:
         paths = os.path.relpath(recording.folder), os.path.abspath(recording.folder)
         show(diagnosis.lines(MORE % shlex.quote(min(paths, key=len)), news))
+    if diagnosis and session.options.against:
+        session.comparison = compared(output_of(open_recording(session.options.against)), diagnosis)
+        show(comparison_lines(session.comparison))
+    return diagnosis, why
+
+
+def print_summary(session, recording, answers, others, news, scale, is_cut):
+    options = session.options
+    diagnosis, why = print_diagnosis(session, recording, news, is_cut)
     if is_cut and not options.all:
         show(["%s: %s" % (recording.name, words) for words in news + [why]])
     if (diagnosis or is_cut) and not (options.all or options.json):
@@ -71,7 +82,7 @@ def print_measured(session, pairs, news, scale, is_cut):
     late, ranks = waited_for(waits), told_of_waits(waits)
     first = max(pairs, key=lambda pair: (late is not None and waits_of(pair[0]) == late, pair[1].work))
     others = [rank_line(*pair) for pair in pairs if pair is not first]
-    print_summary(session.options, *first, others, news, scale, is_cut)
+    print_summary(session, *first, others, news, scale, is_cut)
     show(["rank  " + ranks] if ranks else [])
 
 

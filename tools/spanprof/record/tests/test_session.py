@@ -4,6 +4,7 @@ import io
 import os
 import resource
 import unittest
+from types import SimpleNamespace
 from unittest import mock
 
 from spanprof.errors import Fault
@@ -13,11 +14,21 @@ from spanprof.record.run import Ended
 from spanprof.record.runs import record_often
 from spanprof.record.runtime import Chosen
 from spanprof.record.session import Recorded
-from spanprof.recording import open_recording
+from spanprof.recording import Recording, open_recording
 from spanprof.tests.in_folder import InFolder
-from spanprof.tests.recordings import TEXT, write
+from spanprof.tests.recordings import TEXT, recording, write
 
 USED = resource.struct_rusage((1.5, 0.25, 0, 0, 0, 0, 410, 3, 0, 0, 0, 0, 0, 0, 12, 7))
+
+
+class Earlier(InFolder):
+    def test_what_is_compared_with_is_there_and_stays(self):
+        out = os.path.join(self.folder, "mine")
+        recording(self.folder)
+        session.check_earlier(out + ".spanprof", out, False)
+        for path, words in ((out + ".spanprof/", "--force would replace"), ("none", "--against none: no such recor")):
+            with self.assertRaisesRegex(Fault, words):
+                session.check_earlier(path, out, True)
 
 
 class Reasons(unittest.TestCase):
@@ -134,13 +145,19 @@ class Runs(InFolder):
 
 
 class Statuses(unittest.TestCase):
-    def status(self, recorded, reported=None):
+    def status(self, recorded, reported=None, change=0.0, **options):
         with mock.patch("spanprof.record.command.Session") as made, contextlib.redirect_stderr(io.StringIO()), \
-                mock.patch("spanprof.record.command.print_summaries", side_effect=reported):
+                mock.patch("spanprof.record.command.report", side_effect=reported):
             made.return_value.begun.side_effect = contextlib.nullcontext
             made.return_value.options.scale, made.return_value.options.runs = None, 1
             made.return_value.record_once.side_effect = [recorded]
-            return command.record_and_report(None)
+            made.return_value.comparison = mock.Mock(is_other=True, change=change)
+            return command.record_and_report(argparse.Namespace(**dict(dict(fail_above=None), **options)))
+
+    def test_slower_than_an_earlier_recording(self):
+        self.assertEqual(self.status(Recorded(0, ["a"]), change=0.07, fail_above=5), 3)
+        self.assertEqual(self.status(Recorded(0, ["a"]), change=0.04, fail_above=5), 0)
+        self.assertEqual(self.status(Recorded(7, ["a"]), change=0.07, fail_above=5), 7)
 
     def test_the_program_decides(self):
         self.assertEqual(self.status(Recorded(0, ["a"])), 0)

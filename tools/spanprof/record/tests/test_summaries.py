@@ -35,7 +35,7 @@ class Printed(InFolder):
         return Answers(name=name, work=self.works.get(name, 100), head=Head(**dict(WHOLE, **self.heads.get(name, {}))))
 
     def told(self, *folders, things=(), rank=None, **options):
-        chosen = argparse.Namespace(**dict(dict(json=None, runs=1, all=True), **options))
+        chosen = argparse.Namespace(**dict(dict(json=None, runs=1, all=True, against=None), **options))
         made = mock.Mock(notes=["a note"], rank=rank, out=os.path.join(self.folder, "mine"), options=chosen,
                          work=argparse.Namespace(name="mine"))
         with mock.patch("spanprof.record.summaries.Answers", side_effect=self.answered), \
