@@ -2,6 +2,7 @@
 
 #include <algorithm>
 #include <array>
+#include <cmath>
 #include <set>
 
 #include "machine_code.hpp"
@@ -13,14 +14,9 @@ constexpr size_t most_functions = 16;
 constexpr uint64_t longest = 1 << 14, most_bytes = 32;  // of a function, and of two instructions
 constexpr uint64_t least = 100;  // of all sampled time, the part of a function that is looked at
 constexpr double least_met = 5;  // uses on the same line, below which they say nothing
+constexpr size_t most_pairs = 1 << 22;  // of uses that are compared: more tell no more
 
-struct Function {
-  const ModuleOfRun *module;
-  uint64_t first;  // in the file
-  bool operator<(const Function &other) const {
-    return module != other.module ? module < other.module : first < other.first;
-  }
-};
+using Function = std::pair<const ModuleOfRun *, uint64_t>;  // where it begins in the file
 
 struct Found {
   uint64_t time = 0, end = 0;
@@ -75,23 +71,51 @@ size_t between(const Instructions &code, const Found &function, const Stacks &st
 }
 
 // Of a function; an atomic operation goes as a whole where nothing is shared.
-void set_beyond(const Found &function, const Stacks &stacks, const std::set<size_t> &atomic,
-                std::vector<Contended> &all) {
+void set_beyond(const Found &function, const Stacks &stacks, std::vector<Contended> &all) {
   std::vector<Interrupted> some, others;
   for (size_t i : function.samples) (all[i].place ? some : others).push_back(stacks.interrupted[i]);
   double beyond = beyond_others(some, others, function.instructions);
   for (size_t i : function.samples)
-    if (!atomic.count(i)) all[i].beyond *= beyond;
+    if (!all[i].is_atomic) all[i].beyond *= beyond;
 }
 
 // Uses near others in time, and those of them that were on the same line, which one of them wrote.
 struct Met {
-  double times = 0, on_line = 0;
-  void add(const Used &one, const Used &other) {
-    times++;
-    on_line += one.address >> line_bits == other.address >> line_bits && (one.writes || other.writes);
-  }
+  double times[2] = {}, on_line[2] = {};  // of the own thread, and of others
 };
+
+// The most that is within the spread of such counts: few tell hardly more than whether lines are shared or not.
+double shared_part(const Met &met) {
+  auto [own, others] = met.on_line;
+  if (own + others < least_met || others == 0) return 0;
+  double most = others + std::sqrt(others), least_own = std::max(1.0, own - std::sqrt(own));
+  return std::min(1.0, most / met.times[1] * met.times[0] / least_own);
+}
+
+// Whether another thread used any line at about the same time.
+std::vector<bool> are_beside_others(const std::vector<Used> &all) {
+  std::map<int64_t, std::set<unsigned>> threads;
+  for (const Used &use : all)
+    for (int64_t near : {-1, 0, 1}) threads[use.wall / at_once + near].insert(use.thread);
+  std::vector<bool> out;
+  for (const Used &use : all) out.push_back(threads[use.wall / at_once].size() > 1);
+  return out;
+}
+
+// Samples of uses that met no other one count as well, in part, where those that did are less than what is shared.
+void add_unmet(const std::vector<Used> &all, const Stacks &stacks, std::vector<Contended> &out) {
+  std::map<const void *, std::array<double, 2>> time;  // by place, of samples that met none, and of those that did
+  std::vector<bool> beside = are_beside_others(all);
+  for (const Used &use : all)
+    time[use.place][out[use.sample].place != nullptr] += stacks.interrupted[use.sample].stands_for;
+  std::map<const void *, double> parts = shared_parts(all);
+  for (size_t i = 0; i < all.size(); i++) {
+    const Used &use = all[i];
+    auto [unmet, shared] = time[use.place];
+    double part = unmet > 0 ? (parts[use.place] * (unmet + shared) - shared) / unmet : 0;
+    if (part > 0 && beside[i] && !out[use.sample].place) out[use.sample] = {use.place, part, use.is_atomic};
+  }
+}
 
 // Whether two threads used a line at the same time, and one of them wrote it.
 bool is_contended(const std::vector<Used> &all, std::vector<size_t> &uses) {
@@ -107,15 +131,11 @@ bool is_contended(const std::vector<Used> &all, std::vector<size_t> &uses) {
 
 std::vector<bool> are_contended(const std::vector<Used> &all) {
   std::map<uint64_t, std::vector<size_t>> by_line;
-  std::map<int64_t, std::set<unsigned>> threads;  // by time, those that used any line
-  for (size_t i = 0; i < all.size(); i++) {
-    by_line[all[i].address >> line_bits].push_back(i);
-    for (int64_t near : {-1, 0, 1}) threads[all[i].wall / at_once + near].insert(all[i].thread);
-  }
-  std::vector<bool> out(all.size());
+  for (size_t i = 0; i < all.size(); i++) by_line[all[i].address >> line_bits].push_back(i);
+  std::vector<bool> out(all.size()), beside = are_beside_others(all);
   for (auto &[line, uses] : by_line)
     if (is_contended(all, uses))
-      for (size_t i : uses) out[i] = threads[all[i].wall / at_once].size() > 1;
+      for (size_t i : uses) out[i] = beside[i];
   return out;
 }
 
@@ -132,47 +152,27 @@ double beyond_others(const std::vector<Interrupted> &some, const std::vector<Int
 
 std::map<const void *, double> shared_parts(std::vector<Used> all) {
   std::sort(all.begin(), all.end(), [](const Used &one, const Used &other) { return one.wall < other.wall; });
-  std::map<const void *, std::array<Met, 2>> met;  // by place, of the own thread and of others
+  std::map<const void *, Met> met;
+  size_t near = std::max<size_t>(4, most_pairs / std::max<size_t>(1, all.size()));
   for (size_t i = 0; i < all.size(); i++)
-    for (size_t j = i + 1; j < all.size() && all[j].wall - all[i].wall < at_once; j++) {
-      if (all[i].sample == all[j].sample) continue;
-      bool is_other = all[i].thread != all[j].thread;
-      met[all[i].place][is_other].add(all[i], all[j]);
-      met[all[j].place][is_other].add(all[j], all[i]);
+    for (size_t j = i + 1; j < std::min(all.size(), i + near) && all[j].wall - all[i].wall < at_once; j++) {
+      const Used &one = all[i], &other = all[j];
+      if (one.sample == other.sample) continue;
+      bool is_other = one.thread != other.thread, is_line = one.address >> line_bits == other.address >> line_bits;
+      for (const void *place : {one.place, other.place})
+        met[place].times[is_other]++, met[place].on_line[is_other] += is_line && (one.writes || other.writes);
     }
   std::map<const void *, double> out;
-  for (auto &[place, both] : met) {
-    auto &[own, others] = both;
-    bool is_known = own.on_line + others.on_line >= least_met && others.times > 0;
-    out[place] = is_known ? std::min(1.0, others.on_line * own.times / others.times / std::max(1.0, own.on_line)) : 0;
-  }
+  for (auto &[place, found] : met) out[place] = shared_part(found);
   return out;
 }
-
-namespace {
-// Samples of uses that met no other one count as well, in part, where those that did are less than what is shared.
-void add_unmet(const std::vector<Used> &all, const Stacks &stacks, std::vector<Contended> &out) {
-  std::map<const void *, std::array<double, 2>> time;  // by place, of samples that met none, and of those that did
-  for (const Used &use : all)
-    time[use.place][out[use.sample].place != nullptr] += stacks.interrupted[use.sample].stands_for;
-  std::map<const void *, double> parts = shared_parts(all);
-  std::vector<Contended> more(out.size());
-  for (const Used &use : all) {
-    auto [unmet, shared] = time[use.place];
-    double part = unmet > 0 ? (parts[use.place] * (unmet + shared) - shared) / unmet : 0;
-    if (part > 0 && !out[use.sample].place && !more[use.sample].place) more[use.sample] = {use.place, part};
-  }
-  for (size_t i = 0; i < out.size(); i++)
-    if (more[i].place) out[i] = more[i];
-}
-}  // namespace
 
 std::vector<Contended> contending(const Stacks &stacks, const ModulesOfRun &modules) {
   std::vector<Used> all;
   std::vector<std::pair<Function, Found>> functions = longest_of(functions_of(stacks, modules));
   for (auto &[function, found] : functions) {
-    const ModuleOfRun &module = *function.module;
-    Instructions code = disassembled(module, function.first, found.end);
+    const ModuleOfRun &module = *function.first;
+    Instructions code = disassembled(module, function.second, found.end);
     found.instructions = between(code, found, stacks, module);
     for (size_t i : found.samples) {
       const Interrupted &one = stacks.interrupted[i];
@@ -186,11 +186,8 @@ std::vector<Contended> contending(const Stacks &stacks, const ModulesOfRun &modu
   std::vector<Contended> out(stacks.interrupted.size());
   std::vector<bool> contended = are_contended(all);
   for (size_t i = all.size(); i-- > 0;)
-    if (contended[i]) out[all[i].sample].place = all[i].place;
+    if (contended[i]) out[all[i].sample] = {all[i].place, 1, all[i].is_atomic};
   add_unmet(all, stacks, out);
-  std::set<size_t> atomic;
-  for (const Used &use : all)
-    if (use.is_atomic && use.place == out[use.sample].place) atomic.insert(use.sample);
-  for (auto &[function, found] : functions) set_beyond(found, stacks, atomic, out);
+  for (auto &[function, found] : functions) set_beyond(found, stacks, out);
   return out;
 }

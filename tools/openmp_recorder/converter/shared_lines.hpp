@@ -23,6 +23,7 @@ struct Used {
 struct Contended {
   const void *place = nullptr;
   double beyond = 1;
+  bool is_atomic = false;
 };
 
 // A line is contended where two threads used it at once and one wrote it: then all its uses are, while others run too.

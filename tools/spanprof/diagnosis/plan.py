@@ -143,30 +143,29 @@ def waiting_for(facts, found, loss):
 
 
 def left(facts, now, loss, found):
-    """Of the run, without what is lost by this cause; all other code is still to run."""
+    """Of the run, without what is lost by this cause; all other code is still to run. While one thread records that a
+    small region begins or ends the others wait for it, which no change wins back."""
     in_code = sum(one.time for one in in_code_losses(facts) if one.kind == loss.kind)
     in_code = max(in_code, loss.time) if in_code else 0
     freed = freed_with(loss, found)
     gone = loss.time + waiting_for(facts, found, loss) + sum(freed.values())
+    gone -= min(loss.time, (facts.threads - 1) * facts.recorder) * (loss.kind == "small_regions")
     least = least_time(facts, facts.code - in_code - freed["memory"])
     return min(now, max(int(now * (1 - facts.own_share(gone))), least))
 
 
 def freed_with(loss, found):
-    """By kind, what else goes where the threads meet less often at a region: what they wait for at its end, and for
-    lines that pass between them from one time to the next."""
+    """By kind, what else goes where threads meet less often at a region: lines pass between them, and they wait there."""
     return {kind: sum(one.time for one in found if loss.kind == "small_regions" and one.kind == kind
                       and where(one.place) == loss.place) for kind in ("memory", "loop_schedule")}
 
 
 def bound_of(facts, now, loss, found=()):
-    """As if what is lost by this cause were gone. The least is 0 where lines pass between threads at small regions: not
-    all of these were seen."""
+    """As if what is lost by this cause were gone. The least is 0 where lines pass: not all of these were seen."""
     after = low = left(facts, now, loss, found)
     if loss.kind == "memory" and facts.cost_on_one is None:
         low = left(facts, now, loss._replace(time=max(loss.time, contended_lines(facts, loss.place))), found)
-    if freed_with(loss, found)["memory"]:
-        low = 0
+    low *= not freed_with(loss, found)["memory"]
     return Step(loss.kind, loss.place, now, after, low, int(now - BOUND_LEAST * (now - after)))
 
 

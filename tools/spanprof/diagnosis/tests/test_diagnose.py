@@ -159,6 +159,11 @@ class Steps(unittest.TestCase):
             self.assertEqual((step.after, step.low), (after * MS, low * MS))
         self.assertEqual(bound_of(run, 100 * MS, lost._replace(kind="lock"), [shared, waits]).after, 75 * MS)
 
+    def test_small_regions_wait_for_the_recorder_too(self):
+        lost, run = Loss("small_regions", "image.c:25", 100 * MS), facts(code=240 * MS, recorder=8 * MS)
+        self.assertEqual(bound_of(run, 100 * MS, lost).after, 81 * MS)
+        self.assertEqual(bound_of(run, 100 * MS, lost._replace(kind="lock")).after, 75 * MS)
+
     def test_a_wait_that_some_turns_reach_is_likely_needless(self):
         change, seen = single("drop-wait", "taskwait at a.c:9"), SimpleNamespace(ordered={"taskwait at a.c:9": 0})
         self.assertEqual(likely(facts(), seen, change), 0.3)
