@@ -155,7 +155,7 @@ def left(facts, now, loss, found):
 
 
 def freed_with(loss, found):
-    """By kind, what else goes where threads meet less often at a region: lines that pass between them, and waits."""
+    """By kind, what else goes where threads meet less often at a region: lines pass between them, and they wait there."""
     return {kind: sum(one.time for one in found if loss.kind == "small_regions" and one.kind == kind
                       and where(one.place) == loss.place) for kind in ("memory", "loop_schedule")}
 
