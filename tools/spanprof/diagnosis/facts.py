@@ -89,6 +89,7 @@ class Facts:
     is_imported: bool = False           # of another tool's tasks
     needless: set = field(default_factory=set)      # waits that may be, by the source
     usage: Optional[dict] = None
+    children: int = 0                   # processor time of the programs that it started
     stolen: float = 0.0                 # of the machine's processors' time, by its host
     others: Optional[int] = None        # time that other programs, and the host, used its processors
     coverage: Optional[float] = None
@@ -145,6 +146,11 @@ class Facts:
         """Of a place of the text: of those that it names alike that for which threads waited most."""
         same = [key for key in self.places if in_text(key) == name]
         return max(same, key=lambda key: self.starved_by.get(key, 0), default=name)
+
+    def least_time(self, code):
+        """That of this code on as many threads as run at once, and with that of the programs that it started on all
+        processors."""
+        return max(code / self.usable, (code + self.children) / (self.processors or self.usable))
 
     def share(self, time):
         return time / self.whole_time if self.whole_time else 0.0
@@ -305,7 +311,7 @@ def set_meta(facts, meta):
     facts.is_of_gcc = facts.is_of_gcc or facts.runtime.startswith(RUNTIMES["gnu"])
     facts.is_imported = bool(meta.get("imported"))
     facts.runs = len(meta.get("runs") or [1])
-    facts.usage = usage or None
+    facts.usage, facts.children = usage or None, meta.get("children_ns") or 0
     facts.stolen, facts.others = stolen_share(host, meta.get("elapsed_ns") or 0), used_by_others(host, usage or {})
     facts.true_one, facts.true_many = meta.get("true_one"), meta.get("true_many")
     facts.cost_on_one = meta.get("cost_on_one")

@@ -106,7 +106,7 @@ def predicted(now, before, end):
 
 def least_time(facts, code):
     """All of this code on as many threads as run at once."""
-    return int(facts.seen * code / max(facts.usable * facts.elapsed, 1))
+    return int(facts.seen * facts.least_time(code) / max(facts.elapsed, 1))
 
 
 def undivided(facts, name):

@@ -29,6 +29,9 @@ class Sleeps(unittest.TestCase):
         self.assertEqual(self.words({READS: 60, WRITES: 5, NAPS: 35}),
                          "in read, called by load (60 %) and nanosleep, called by nap (35 %)")
 
+    def test_other_programs(self):
+        self.assertEqual(self.words({("main", "libc_system@libc.so.6"): 80}), "in system for a program that it started")
+
     def test_without_samples(self):
         self.assertEqual(self.words({}), "for files, a network or other locks")
 
