@@ -41,6 +41,7 @@ class Region:
     elapsed: int
     asked: Optional[int] = None
     times: int = 1
+    together: int = 1       # at most so many at a time
 
 
 @dataclass
@@ -332,13 +333,13 @@ def inner_regions(program):
         if region.inside and region.threads > 1:
             found.setdefault(region.place, []).append(region)
     return [Region(place, max(one.threads for one in some), union((one.begin, one.end) for one in some),
-                   times=len(some)) for place, some in found.items()]
+                   times=len(some), together=most_together(some, lambda region: 1)) for place, some in found.items()]
 
 
-def most_together(regions):
-    """The most threads that those which last at the same time add to the threads that met them."""
-    moments = [(region.begin, region.threads - 1) for region in regions] + \
-        [(region.end, 1 - region.threads) for region in regions]
+def most_together(regions, weight):
+    """The most that those weigh which last at the same time."""
+    moments = [(region.begin, weight(region)) for region in regions] + \
+        [(region.end, -weight(region)) for region in regions]
     return max(accumulate(added for _, added in sorted(moments)), default=0)
 
 
@@ -349,7 +350,8 @@ def nested_threads(program):
     for region in program.regions if outer else ():
         if region.inside and region.threads > 1:
             within.setdefault(max(0, bisect_right(begins, region.begin) - 1), []).append(region)
-    return max((outer[around].threads + most_together(inner) for around, inner in within.items()), default=0)
+    added = {around: most_together(inner, lambda region: region.threads - 1) for around, inner in within.items()}
+    return max((outer[around].threads + most for around, most in added.items()), default=0)
 
 
 def regions_of(program):

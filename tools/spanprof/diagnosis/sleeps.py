@@ -26,6 +26,16 @@ def by_call(sampled):
     return [(call, time / whole) for call, time in sorted(found.items(), key=lambda pair: (-pair[1], pair[0])) if whole]
 
 
+def is_of_programs(facts, name):
+    """Whether most of a place's sleep is for other programs, which need processors too."""
+    return any(call in FOR_PROGRAMS and share >= MOST for (call, _), share in by_call(facts.calls.slept.get(name, {})))
+
+
+def sooner(facts, name):
+    """What else ends the waits sooner."""
+    return "the longest first" if is_of_programs(facts, name) else "use more threads"
+
+
 def words_of_sleep(facts, name, told):
     """Such as `in read, called by load`, or of MPI for other ranks; two calls with their shares. What it may be where
     no sample tells."""
@@ -35,7 +45,7 @@ def words_of_sleep(facts, name, told):
         return "for files, a network or other locks"
     named = [function + (", called by " + caller if caller not in told else "") for (function, caller), _ in found]
     if len(found) == 1 or found[0][1] >= MOST:
-        return "in " + named[0] + (" for a program that it started" if found[0][0][0] in FOR_PROGRAMS else "")
+        return "in " + named[0] + (" for a program that it started" if is_of_programs(facts, name) else "")
     return "in " + " and ".join("%s (%.0f %%)" % (one, 100 * share) for one, (_, share) in zip(named, found))
 
 

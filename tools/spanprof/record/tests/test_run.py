@@ -61,7 +61,8 @@ class Ends(unittest.TestCase):
     def test_the_time_of_the_programs_that_it_started(self):
         alone = "for _ in range(3000000): pass"
         outer = "import subprocess, sys; subprocess.run([sys.executable, '-c', %r])" % alone
-        own, others = (watched(sys.executable, [sys.executable, "-c", code], dict(os.environ)) for code in (alone, outer))
+        own, others = (watched(sys.executable, [sys.executable, "-c", code], dict(os.environ))
+                       for code in (alone, outer))
         self.assertEqual(own.children, 0)
         self.assertGreater(others.children, 0)
         self.assertLess(others.children, 1.1e9 * (others.usage.ru_utime + others.usage.ru_stime))
