@@ -73,6 +73,61 @@ def catalogue(chance, count, ending=""):
                             for text in texts)
 
 
+def field(side):
+    """A block of numbers, as zfp reads them."""
+    values = (math.sin(x / 5) * math.cos(y / 7) + z / side
+              for z in range(side) for y in range(side) for x in range(side))
+    return struct.pack("<%df" % side ** 3, *values)
+
+
+def song(chords):
+    """Notes, as fluidsynth reads them."""
+    track = bytearray()
+    for chord in range(chords):
+        notes = [40 + (5 * chord + 7 * voice) % 40 for voice in range(4)]
+        track += b"".join(bytes((0, 0x90, note, 90)) for note in notes)
+        track += b"".join(bytes((60 * (note == notes[0]), 0x80, note, 0)) for note in notes)
+    track += b"\0\xff\x2f\0"
+    return struct.pack(">4sIHHH4sI", b"MThd", 6, 0, 1, 120, b"MTrk", len(track)) + bytes(track)
+
+
+def inverters(stages):
+    """A chain of inverters, as ngspice reads it."""
+    pair = "mp{0} o{0} {1} vdd vdd pch w=2u l=0.18u\nmn{0} o{0} {1} 0 0 nch w=1u l=0.18u\nc{0} o{0} 0 5f\n"
+    chain = "".join(pair.format(i, "o%d" % (i - 1) if i else "in") for i in range(stages))
+    models = "".join(".model %s %s level=14 version=4.8.0\n" % (name, name[0] + "mos") for name in ("nch", "pch"))
+    return "inverters\nvdd vdd 0 1.8\nvin in 0 pulse(0 1.8 0 20p 20p 0.5n 1n)\n" + chain + models + \
+        ".tran 10p 0.3n\n.print tran v(o5)\n.end\n"
+
+
+def classified(chance, count, form):
+    """Lines of twelve values and their class, in the form of a program that learns."""
+    for _ in range(count):
+        values = [chance.randrange(20) for _ in range(12)]
+        yield form(values, (values[0] * values[3] + values[5]) % 2)
+
+
+def of_timbl(values, found):
+    return "%s c%d\n" % (" ".join("v%d" % value for value in values), found)
+
+
+def of_xgboost(values, found):
+    return "%d %s\n" % (found, " ".join("%d:%d" % pair for pair in enumerate(values)))
+
+
+def commands(count):
+    """Some of which take four times as long, as ParaFly reads them."""
+    return "".join("awk 'BEGIN { for (i = 0; i < %d; i++) s += i; print s }' > out%d\n"
+                   % (200000 * (1 + 3 * (i % 5 == 0)), i) for i in range(count))
+
+
+def learnt():
+    """What timbl and xgboost learn from."""
+    chance = random.Random(4)
+    found = {"train.data": (3000, of_timbl), "test.data": (200, of_timbl), "train.svm": (3000, of_xgboost)}
+    return {name: "".join(classified(chance, *how)) for name, how in found.items()}
+
+
 def inputs():
     """What each file has."""
     chance = random.Random(1)
@@ -81,6 +136,8 @@ def inputs():
     found["reads.fasta"] = fasta(sequences(random.Random(2), 40, 100, 0.03, "acgt"))
     found["letters.pgm"] = lettering("HELLO HOLE HELL LEE HOE")
     found["old.po"], found["new.pot"] = (catalogue(random.Random(3), *what) for what in ((1500,), (600, " x")))
+    found.update(learnt(), **{"field.raw": field(64), "song.mid": song(40), "inverters.cir": inverters(60),
+                              "commands": commands(8)})
     genomes = enumerate(sequences(chance, 3, 60000, 0.05, "ACGT"))
     return dict(found, **{"genome%d.fasta" % number: fasta([pair]) for number, pair in genomes})
 

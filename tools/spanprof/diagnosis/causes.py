@@ -59,7 +59,7 @@ TABLE = (
     Cause("system", "operating system", 0.1,
           "{system} % of the processor time is spent in the kernel: {kernel} in {where}", "{less_kernel}", OR_LESS),
     Cause("sleep", "asleep", 0.1, "{sleeper} waits {in_what}",
-          "wait less at {sleeps_at}: start it earlier, or use more threads", OR_LESS),
+          "wait less at {sleeps_at}: start it earlier, or {sooner}", OR_LESS),
     Cause("too_few_threads", "too few threads", 0.1, "{got} in the region at {where}{others}: {usable} can run",
           "ask for {usable} threads at {where}{who_asked}"),
     Cause("too_many_threads", "too many threads", 0.1, "{threads} threads on {processors}, {in_region}", "{fewer}"),

@@ -29,7 +29,7 @@ class Diagnosis:
         """Where all threads run its code all the time, but for an interpreter's."""
         facts = self.facts
         code = self.code_on_one + (facts.usable - 1) * interpreted_time(facts)
-        least = facts.now * code * facts.target / (facts.own_time * facts.usable or 1)
+        least = facts.now * facts.least_time(code) * facts.target / (facts.own_time or 1)
         return min(facts.now, int(least))
 
 

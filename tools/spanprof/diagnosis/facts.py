@@ -41,6 +41,7 @@ class Region:
     elapsed: int
     asked: Optional[int] = None
     times: int = 1
+    together: int = 1       # at most so many at a time
 
 
 @dataclass
@@ -89,6 +90,7 @@ class Facts:
     is_imported: bool = False           # of another tool's tasks
     needless: set = field(default_factory=set)      # waits that may be, by the source
     usage: Optional[dict] = None
+    children: int = 0                   # processor time of the programs that it started
     stolen: float = 0.0                 # of the machine's processors' time, by its host
     others: Optional[int] = None        # time that other programs, and the host, used its processors
     coverage: Optional[float] = None
@@ -145,6 +147,11 @@ class Facts:
         """Of a place of the text: of those that it names alike that for which threads waited most."""
         same = [key for key in self.places if in_text(key) == name]
         return max(same, key=lambda key: self.starved_by.get(key, 0), default=name)
+
+    def least_time(self, code):
+        """That of this code on as many threads as run at once, and with that of the programs that it started on all
+        processors."""
+        return max(code / self.usable, (code + self.children) / (self.processors or self.usable))
 
     def share(self, time):
         return time / self.whole_time if self.whole_time else 0.0
@@ -305,7 +312,7 @@ def set_meta(facts, meta):
     facts.is_of_gcc = facts.is_of_gcc or facts.runtime.startswith(RUNTIMES["gnu"])
     facts.is_imported = bool(meta.get("imported"))
     facts.runs = len(meta.get("runs") or [1])
-    facts.usage = usage or None
+    facts.usage, facts.children = usage or None, meta.get("children_ns") or 0
     facts.stolen, facts.others = stolen_share(host, meta.get("elapsed_ns") or 0), used_by_others(host, usage or {})
     facts.true_one, facts.true_many = meta.get("true_one"), meta.get("true_many")
     facts.cost_on_one = meta.get("cost_on_one")
@@ -326,13 +333,13 @@ def inner_regions(program):
         if region.inside and region.threads > 1:
             found.setdefault(region.place, []).append(region)
     return [Region(place, max(one.threads for one in some), union((one.begin, one.end) for one in some),
-                   times=len(some)) for place, some in found.items()]
+                   times=len(some), together=most_together(some, lambda region: 1)) for place, some in found.items()]
 
 
-def most_together(regions):
-    """The most threads that those which last at the same time add to the threads that met them."""
-    moments = [(region.begin, region.threads - 1) for region in regions] + \
-        [(region.end, 1 - region.threads) for region in regions]
+def most_together(regions, weight):
+    """The most that those weigh which last at the same time."""
+    moments = [(region.begin, weight(region)) for region in regions] + \
+        [(region.end, -weight(region)) for region in regions]
     return max(accumulate(added for _, added in sorted(moments)), default=0)
 
 
@@ -343,7 +350,8 @@ def nested_threads(program):
     for region in program.regions if outer else ():
         if region.inside and region.threads > 1:
             within.setdefault(max(0, bisect_right(begins, region.begin) - 1), []).append(region)
-    return max((outer[around].threads + most_together(inner) for around, inner in within.items()), default=0)
+    added = {around: most_together(inner, lambda region: region.threads - 1) for around, inner in within.items()}
+    return max((outer[around].threads + most for around, most in added.items()), default=0)
 
 
 def regions_of(program):

@@ -106,7 +106,7 @@ def predicted(now, before, end):
 
 def least_time(facts, code):
     """All of this code on as many threads as run at once."""
-    return int(facts.seen * code / max(facts.usable * facts.elapsed, 1))
+    return int(facts.seen * facts.least_time(code) / max(facts.elapsed, 1))
 
 
 def undivided(facts, name):
@@ -155,7 +155,7 @@ def left(facts, now, loss, found):
 
 
 def freed_with(loss, found):
-    """By kind, what else goes where threads meet less often at a region: lines pass between them, and they wait there."""
+    """By kind, what else goes where threads meet less often at a region: lines that pass between them, and waits."""
     return {kind: sum(one.time for one in found if loss.kind == "small_regions" and one.kind == kind
                       and where(one.place) == loss.place) for kind in ("memory", "loop_schedule")}
 

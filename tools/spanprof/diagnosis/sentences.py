@@ -12,7 +12,7 @@ from spanprof.diagnosis.losses import (A_TASK, MANY, average_task, copying_at, h
 from spanprof.diagnosis.own_code import interpreted_share, is_interpreter, words_of_interpreter
 from spanprof.diagnosis.places import AFTER_REGION, SERIAL, SHARE
 from spanprof.diagnosis.plan import holder
-from spanprof.diagnosis.sleeps import place_of_sleep, sleeper, words_of_sleep
+from spanprof.diagnosis.sleeps import place_of_sleep, sleeper, sooner, words_of_sleep
 from spanprof.durations import lasting
 from spanprof.head import grouped
 from spanprof.program_text import SECTION, where
@@ -211,8 +211,11 @@ def words_of_region(facts, names, name):
     for region in facts.inner:
         if region.place == name:
             times = several(region.times, "region")
+            # Without nesting one thread runs each: too little where fewer of them last at a time than threads can run.
+            fewer = "no nesting at %s: omp_set_max_active_levels(1)" if region.together >= facts.usable else \
+                "fewer threads at %s: num_threads"
             out.update(in_region="as %s at %s began inside others" % (times, names.place(name)),
-                       fewer="no nesting at %s: omp_set_max_active_levels(1)" % names.at(name))
+                       fewer=fewer % names.at(name))
     for region in facts.regions + facts.inner:
         if region.place == name:
             out.update(got=several(region.threads, "thread"), who_asked=who_asked(facts, region))
@@ -280,7 +283,7 @@ def words(facts, names, name):
     """What a sentence may have, of a place, a wait, a lock or a region."""
     place = facts.places.get(name)
     out = dict(words_of_run(facts, names), where=names.place(name), at=names.at(name), item="",
-               sleeper=sleeper(names, name), sleeps_at=place_of_sleep(names, name),
+               sleeper=sleeper(names, name), sleeps_at=place_of_sleep(names, name), sooner=sooner(facts, name),
                in_what=words_of_sleep(facts, name, sleeper(names, name)), tasks="", many="", largest="", average="",
                contended="", chunks="", a_chunk="", of_turns="",
                alone=words_of_interpreter(facts) if is_interpreter(name) else "the others wait",

@@ -8,6 +8,13 @@ from spanprof.diagnosis.directives import COMMENT, code_of
 MOST = 0.8      # of a place's sleep, from which on one call is told as all of it
 LEAST = 0.1     # from which on a call is told beside another
 MOST_LINES = 2
+OF_LIBRARY = re.compile("^(__)?libc_")      # before the name of a function, where the C library has it twice
+FOR_PROGRAMS = ("system", "wait", "waitpid", "wait4", "waitid", "pclose")
+
+
+def call_of(calls):
+    """The function that code slept in."""
+    return OF_LIBRARY.sub("", calls[-1].partition(OF_SYSTEM)[0])
 
 
 def by_call(sampled):
@@ -15,8 +22,18 @@ def by_call(sampled):
     the most first."""
     found, whole = Counter(), sum(sampled.values())
     for calls, time in sampled.items():
-        found[calls[-1].partition(OF_SYSTEM)[0], caller_of(calls, len(calls) - 1)] += time
+        found[call_of(calls), caller_of(calls, len(calls) - 1)] += time
     return [(call, time / whole) for call, time in sorted(found.items(), key=lambda pair: (-pair[1], pair[0])) if whole]
+
+
+def is_of_programs(facts, name):
+    """Whether most of a place's sleep is for other programs, which need processors too."""
+    return any(call in FOR_PROGRAMS and share >= MOST for (call, _), share in by_call(facts.calls.slept.get(name, {})))
+
+
+def sooner(facts, name):
+    """What else ends the waits sooner."""
+    return "the longest first" if is_of_programs(facts, name) else "use more threads"
 
 
 def words_of_sleep(facts, name, told):
@@ -28,7 +45,7 @@ def words_of_sleep(facts, name, told):
         return "for files, a network or other locks"
     named = [function + (", called by " + caller if caller not in told else "") for (function, caller), _ in found]
     if len(found) == 1 or found[0][1] >= MOST:
-        return "in " + named[0]
+        return "in " + named[0] + (" for a program that it started" if is_of_programs(facts, name) else "")
     return "in " + " and ".join("%s (%.0f %%)" % (one, 100 * share) for one, (_, share) in zip(named, found))
 
 
@@ -49,7 +66,7 @@ def lines_of_sleep(names, name):
     place, slept = names.facts.places.get(name), names.facts.calls.slept.get(name, {})
     most = max(slept, key=slept.get, default=())
     file = names.stretch(place)[0] if place and len(most) > 1 else ""
-    call = re.compile(r"\b%s\s*\(" % re.escape(most[-1].partition(OF_SYSTEM)[0])) if file else None
+    call = re.compile(r"\b%s\s*\(" % re.escape(call_of(most))) if file else None
     lines = names.lines_of(file)
     found = [number for number, line in enumerate(lines, 1) if call and call.search(COMMENT.sub("", code_of(line)))]
     begin, end = names.body(file, most[-2]) if found else (0, 0)

@@ -19,7 +19,7 @@ from spanprof.record.run import environment, signal_name, watched
 from spanprof.record.runtime import choose, refuse_targets, what_it_lacks
 from spanprof.record.runtime_name import note_of
 from spanprof.record.target import find, launched
-from spanprof.record.work import Work, taken
+from spanprof.record.work import Work, process_of, taken
 from spanprof.recording import ENDING, LOG, META, TEXT, open_recording
 
 
@@ -124,22 +124,23 @@ class Session:
             ended = watched(self.path, self.options.command, self.variables(out, others))
             return ended._replace(counters=counters.read())
 
-    def facts_of(self, ended, out):
-        """What a recording tells of its run."""
-        return {**facts_of_run(ended, self.variables(out), processors_there_are()), "arguments": self.options.command}
+    def facts_of(self, ended, out, folder):
+        """What a recording tells of its run; of children that of the process that they are children of."""
+        children = ended.children if process_of(folder) == ended.process else 0
+        return {**facts_of_run(ended, self.variables(out), processors_there_are()), "children_ns": children,
+                "arguments": self.options.command}
 
-    def write(self, folder, out, facts):
+    def write(self, folder, out, ended):
         """The texts of a log in its folder, and what is told of them."""
         tell("converting the log of " + os.path.basename(folder))
         told = convert_into(self.converter, os.path.join(folder, LOG), folder, self.variables(out))
         self.note_once(note_of(os.path.join(folder, LOG)))
         if not has_failed(told):
-            write_meta(folder, facts)
+            write_meta(folder, self.facts_of(ended, out, folder))
         return told
 
     def write_all(self, folders, out, ended):
-        facts = self.facts_of(ended, out)
-        return Messages(bool(folders), [one for folder in folders for one in self.write(folder, out, facts)])
+        return Messages(bool(folders), [one for folder in folders for one in self.write(folder, out, ended)])
 
     def write_text(self, folder, out):
         """The text of the whole program of a log in its folder; empty where there is none."""

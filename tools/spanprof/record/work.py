@@ -12,7 +12,7 @@ from spanprof.errors import Fault
 from spanprof.recording import ENDING, LOG
 
 PART = ".part"
-BEGAN = slice(64, 72)   # of a log's head
+BEGAN, PROCESS = slice(64, 72), slice(80, 84)   # of a log's head
 
 
 def taken(name):
@@ -94,13 +94,23 @@ class Work:
         return self.publish() if os.path.isdir(self.part) else {}
 
 
-def begun_at(folder):
-    """When the process began that wrote this log, by its head."""
+def in_head(folder, form, where):
+    """A number of the head of its log; 0 where there is none."""
     try:
         with open(os.path.join(folder, LOG, "head"), "rb") as file:
-            return struct.unpack("=q", file.read(BEGAN.stop)[BEGAN])[0]
+            return struct.unpack(form, file.read(where.stop)[where])[0]
     except (OSError, struct.error):
         return 0
+
+
+def begun_at(folder):
+    """When the process began that wrote this log."""
+    return in_head(folder, "=q", BEGAN)
+
+
+def process_of(folder):
+    """The number of the process that wrote this log."""
+    return in_head(folder, "=I", PROCESS)
 
 
 def ends(folders, stem):

@@ -112,6 +112,11 @@ class Diagnoses(unittest.TestCase):
     def test_at_best_all_threads_run_its_code_all_the_time(self):
         self.assertEqual(diagnose(facts([place(TASKS)], starved=200 * MS)).best, 50 * MS)
 
+    def test_the_programs_that_it_started_need_the_processors_too(self):
+        run = facts([place(TASKS)], asleep=380 * MS, asleep_by={TASKS: 380 * MS}, children=300 * MS, asked=2)
+        found = diagnose(run)
+        self.assertEqual((found.best, found.steps[0].kind, found.steps[0].after), (80 * MS, "sleep", 80 * MS))
+
     def test_no_run_is_shorter_than_its_work_on_all_threads(self):
         told = diagnose(idle(TASKS), Bench({(): 90, asked("split", TASKS + "=4"): 10}))
         self.assertEqual(told.plan[0].after, 50 * MS)

@@ -205,6 +205,7 @@ class Starting(unittest.TestCase):
         self.assertEqual([nested_threads(one) for one in programs], [4, 0, 5, 6, 8])
         self.assertEqual([(one.place, one.threads, one.times, one.elapsed) for one in inner_regions(run)],
                          [("a.c:2", 4, 1, 50)])
+        self.assertEqual([one.together for some in programs[3:] for one in inner_regions(some)], [1, 2])
 
 
 if __name__ == "__main__":

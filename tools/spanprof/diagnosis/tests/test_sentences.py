@@ -280,6 +280,16 @@ class Sentences(unittest.TestCase):
                              lost + "in the region at image.c:6")
             self.assertEqual(change_sentence(run, Names(run, SOURCES), step), change)
 
+    def test_regions_inside_others_are_needed_where_few_last_at_a_time(self):
+        step = Step("too_many_threads", "image.c:6", 100 * MS, 50 * MS, 40 * MS, 60 * MS)
+        changes = []
+        for together in (4, 1):
+            run = found(regions=[Region("image.c:2", 4, 90 * MS)],
+                        inner=[Region("image.c:6", 4, 90 * MS, together=together)])
+            changes.append(change_sentence(run, Names(run, SOURCES), step))
+        self.assertEqual(changes, ["no nesting at image.c:6: omp_set_max_active_levels(1)",
+                                   "fewer threads at image.c:6: num_threads"])
+
     def test_lines_of_one_file_are_joined(self):
         self.assertEqual(joined([Line("a.c", 12), Line("a.c", 9), Line("a.c", 10)]), "a.c:9, 10 and 12")
         self.assertEqual(joined([Line("a.c", 12), Line("b.c", 9)]), "a.c:12 and b.c:9")

@@ -4,7 +4,7 @@ from types import SimpleNamespace
 from spanprof.diagnosis.calls import Sampled
 from spanprof.diagnosis.names import Names
 from spanprof.diagnosis.places import OF_THREADS, OWN
-from spanprof.diagnosis.sleeps import by_call, place_of_sleep, sleeper, words_of_sleep
+from spanprof.diagnosis.sleeps import by_call, place_of_sleep, sleeper, sooner, words_of_sleep
 from spanprof.diagnosis.tests.worked import facts, place
 
 PLACE = "the beginning"
@@ -28,6 +28,12 @@ class Sleeps(unittest.TestCase):
     def test_mixed_sleep_is_divided(self):
         self.assertEqual(self.words({READS: 60, WRITES: 5, NAPS: 35}),
                          "in read, called by load (60 %) and nanosleep, called by nap (35 %)")
+
+    def test_other_programs(self):
+        sampled = {("main", "libc_system@libc.so.6"): 80}
+        self.assertEqual(self.words(sampled), "in system for a program that it started")
+        found = [sooner(facts(calls=Sampled({}, {PLACE: one})), PLACE) for one in (sampled, {READS: 9})]
+        self.assertEqual(found, ["the longest first", "use more threads"])
 
     def test_without_samples(self):
         self.assertEqual(self.words({}), "for files, a network or other locks")

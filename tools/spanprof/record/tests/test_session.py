@@ -3,6 +3,7 @@ import contextlib
 import io
 import os
 import resource
+import struct
 import unittest
 from types import SimpleNamespace
 from unittest import mock
@@ -107,6 +108,16 @@ class Runs(InFolder):
         meta = open_recording(folder).meta
         self.assertEqual((meta["unit"], meta["threads"], meta["elapsed_ns"]), ("us", {"asked": 3}, 30))
         self.assertEqual((meta["usage"]["minor_faults"], self.names()), (410, ["mine.spanprof"]))
+
+    def test_the_time_of_children_is_of_their_parent(self):
+        made = self.session([])
+        for number, children in ((7, 50), (8, 0)):
+            folder = os.path.join(self.folder, "mine%d.spanprof" % number)
+            os.makedirs(os.path.join(folder, "log"))
+            with open(os.path.join(folder, "log", "head"), "wb") as file:
+                file.write(bytes(80) + struct.pack("=I", number))
+            facts = made.facts_of(Ended(0, 9, USED, process=7, children=50), "mine", folder)
+            self.assertEqual(facts["children_ns"], children)
 
     def test_a_name_that_is_taken(self):
         self.record(self.session([0]))
