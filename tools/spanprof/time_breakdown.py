@@ -17,24 +17,12 @@ from spanprof.text_file import PIECE
 NO_TIMES_KEPT = "several of the program's threads meet regions, or it has more tasks and chunks than times are kept of"
 
 
-class Row(NamedTuple):
-    """When a segment was ready, began and ended, in nanoseconds since the region began."""
-    thread: int
-    ready: int
-    begin: int
-    end: int
-
-
 class Rows(NamedTuple):
-    """Of each segment the same, in columns."""
+    """When each segment was ready, began and ended, in nanoseconds since the region began; in columns."""
     thread: array
     ready: array
     begin: array
     end: array
-
-    @classmethod
-    def of(cls, rows):
-        return cls(*(array("q", column) for column in zip(*rows)))
 
     @property
     def on_few_threads(self):

@@ -6,7 +6,7 @@ def cell(name, piece, is_number, **attributes):
     return tag(name, markup(piece), class_="n" if is_number else None, **attributes)
 
 
-def table(heads, rows, numeric=(), is_sortable=False, class_=None):
+def table(heads, rows, numeric=(), is_sortable=False):
     """`numeric` are the columns that stand to the right. Heads and cells are words or markup."""
     def head(i, words):
         inner = tag("button", markup(words), type="button") if is_sortable else words
@@ -14,8 +14,8 @@ def table(heads, rows, numeric=(), is_sortable=False, class_=None):
 
     top = tag("thead", tag("tr", *[head(i, words) for i, words in enumerate(heads)]))
     lines = [tag("tr", *[cell("td", piece, i in numeric) for i, piece in enumerate(row)]) for row in rows]
-    words = " ".join(filter(None, ["sortable" if is_sortable else "", class_ or ""])) or None
-    return tag("div", tag("table", top, tag("tbody", *lines), class_=words), class_="wide")
+    made = tag("table", top, tag("tbody", *lines), class_="sortable" if is_sortable else None)
+    return tag("div", made, class_="wide")
 
 
 def place_cell(name, line="", colour=None):

@@ -1,12 +1,19 @@
 """Columns as answers have them, of what tests list one by one."""
+from array import array
 from operator import add
 
 from spanprof.segment_table import Code, Kind, read_code
+from spanprof.time_breakdown import Rows
 
 
 def segments_of(text):
     """Of a text without loops, one by one."""
     return list(read_code(text.split("\n"), "the text"))
+
+
+def rows_of(rows):
+    """Of each segment its thread, and when it was ready, began and ended."""
+    return Rows(*(array("q", column) for column in zip(*rows)))
 
 
 def code_of(segments):

@@ -8,9 +8,8 @@ from spanprof.breakdown_program import NoBreakdown
 from spanprof.head import Lock
 from spanprof.record.tests.made_up import Answers, Head
 from spanprof.remarks import remark_of
-from spanprof.tests.columns import code_of
-from spanprof.time_breakdown import (TimeBreakdown, Blocked, Row, Rows, recorded_breakdown, breakdown_of, divide_busy,
-                                     times_name)
+from spanprof.tests.columns import code_of, rows_of
+from spanprof.time_breakdown import TimeBreakdown, Blocked, recorded_breakdown, breakdown_of, divide_busy, times_name
 
 SUMS = "threads 2\nelapsed 14\nbusy 11\ndelayed 7\nstarved 8\noutside 2\n"
 ROWS = "segment,thread,ready,begin,end\n0,0,0,0,5\n1,0,5,6,9\n2,0,5,9,11\n3,1,11,12,13\n"
@@ -56,7 +55,7 @@ class Asked(unittest.TestCase):
                                  ["times 2 0 14", "0 0 0 5", "1 0 6 9", "2 0 9 11", "3 1 12 13"]])
 
     def test_on_as_few_threads_as_ran_at_once(self):
-        rows = Rows.of([Row(9, 0, 0, 4), Row(7, 0, 2, 6), Row(5, 0, 3, 3), Row(5, 0, 4, 8), Row(9, 0, 6, 7)])
+        rows = rows_of([(9, 0, 0, 4), (7, 0, 2, 6), (5, 0, 3, 3), (5, 0, 4, 8), (9, 0, 6, 7)])
         self.assertEqual(rows.on_few_threads, rows._replace(thread=array("q", [0, 1, 0, 0, 1])))
 
     def test_times_of_another_text(self):

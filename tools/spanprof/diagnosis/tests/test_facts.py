@@ -20,7 +20,8 @@ from spanprof.errors import Fault
 from spanprof.head import read_head
 from spanprof.recording import open_recording
 from spanprof.regions import Program, Region, program_of
-from spanprof.time_breakdown import TimeBreakdown, Row, Rows
+from spanprof.tests.columns import rows_of
+from spanprof.time_breakdown import TimeBreakdown
 
 HEAD = """# recorded: {"program": "image", "threads": 2, "clock": "wall", "unit": "us"}
 # whole program: {"regions": 1}
@@ -162,14 +163,14 @@ class Recorded(unittest.TestCase):
 
 class Starting(unittest.TestCase):
     def test_delays_as_long_as_a_runtime_takes_are_of_regions_that_start(self):
-        rows = [Row(1, 0, 2000, 9000), Row(2, 0, 150000, 160000), Row(0, 160000, 165000, 170000), Row(0, 0, 0, 1)]
+        rows = [(1, 0, 2000, 9000), (2, 0, 150000, 160000), (0, 160000, 165000, 170000), (0, 0, 0, 1)]
         places = [OWN + " at a.c:3", OWN + " at a.c:3", AFTER_REGION + " at a.c:3", "task at a.c:5"]
-        found = starting_shares(SimpleNamespace(rows=Rows.of(rows), places=places))
+        found = starting_shares(SimpleNamespace(rows=rows_of(rows), places=places))
         self.assertEqual(found, {places[0]: 52000 / 152000, places[2]: 1.0})
 
     def test_threads_that_only_took_turns_are_not_idle(self):
-        rows = [Row(0, 0, 0, 10), Row(5, 10, 10, 30), Row(0, 30, 30, 40)]
-        found = TimeBreakdown(8, 50, 40, 0, 240, 120, rows=Rows.of(rows), places=["a", "b", "c"])
+        rows = [(0, 0, 0, 10), (5, 10, 10, 30), (0, 30, 30, 40)]
+        found = TimeBreakdown(8, 50, 40, 0, 240, 120, rows=rows_of(rows), places=["a", "b", "c"])
         with mock.patch("spanprof.client.places", lambda _, of, wanted, times: ([0, 0, 0], [10, 20, 10])):
             one = of_those_at_once(found, 2)
         self.assertEqual((one.threads, one.delayed, one.starved, one.outside), (2, 0, 40, 20))
