@@ -114,9 +114,9 @@ _spanprof_report() {
     case $before in
         -o | --output) _spanprof_files "$current" .html ;;
         --trace) _spanprof_files "$current" .json ;;
-        --folded | --pprof) _spanprof_files "$current" ;;
+        --folded) _spanprof_files "$current" ;;
         --source) _spanprof_folders "$current" ;;
-        --threads) ;;
+        --threads | --fail-above) ;;
         *) case $current in
             -*) _spanprof_among "$current" "$(_spanprof_options "${COMP_WORDS[0]}")" ;;
             *) _spanprof_files "$current" .tasks ;;
@@ -149,7 +149,7 @@ _spanprof_predict() {
     case $before in
         -o | --output) _spanprof_files "$current" .tasks ;;
         --runtime) _spanprof_among "$current" "llvm gnu" ;;
-        --threads) ;;
+        --threads | --fail-above) ;;
         *) case $current in
             -*) _spanprof_among "$current" "$(_spanprof_options "${COMP_WORDS[0]}")" ;;
             *) _spanprof_files "$current" .tasks ;;

@@ -19,7 +19,7 @@ CASES = {  # by tool, words and the status with which they end it; {text} and {l
     "conformance": (("--nothing", 2), ("emit {none}", 2), ("emit {log}", 2), ("run --cc {none}", 2)),
 }
 # Those that need a compiler or two recordings.
-OTHERS = {"conformance": {1, 130}, "report": {3}}
+OTHERS = {"conformance": {1, 130}, "record": {3}, "report": {3}}
 
 
 def told_in(words):

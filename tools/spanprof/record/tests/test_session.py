@@ -5,7 +5,6 @@ import os
 import resource
 import struct
 import unittest
-from types import SimpleNamespace
 from unittest import mock
 
 from spanprof.errors import Fault
@@ -15,7 +14,7 @@ from spanprof.record.run import Ended
 from spanprof.record.runs import record_often
 from spanprof.record.runtime import Chosen
 from spanprof.record.session import Recorded
-from spanprof.recording import Recording, open_recording
+from spanprof.recording import open_recording
 from spanprof.tests.in_folder import InFolder
 from spanprof.tests.recordings import TEXT, recording, write
 
