@@ -1,4 +1,4 @@
--- Of a document one thing is told.
+-- There is one report on a document.
 use Rattle.std.proofs.Common.{◌≡◌, ◌∙◌, ℕ, List, Option, Some, None, refl, sym, inl, inr}
 use Rattle.command_words.specs.declared.large.DocumentRequest.{DocumentRequest}
 use Rattle.program_text.specs.Marks.{Mark}

@@ -1,4 +1,4 @@
--- Of a table one thing is told.
+-- There is one report on a table.
 use Rattle.std.proofs.Common.{◌≡◌, ◌∙◌, ◌≤◌, ℕ, List, [], false, length, sum, refl, sym, inl, inr}
 use Rattle.std.proofs.Common.{ap, arith, ◌∷◌}
 use Rattle.command_words.specs.declared.large.TableRequest.{TableRequest}

@@ -77,7 +77,7 @@ one_of_text Certify program one other (inl a) (inr b) = absurd (b.larger a.fits)
 one_of_text Certify program one other (inr a) (inl b) = absurd (a.larger b.fits)
 one_of_text Certify program one other (inr a) (inr b) = a.says ∙ sym b.says
 
--- of the same program the same is told
+-- the report on the same program is the same
 one_told : (asked : LargeRequest) (input : List ℕ) (program : ProgramMarks) (one other : Report)
     → IsNested program.marks
     → Tells asked input program one

@@ -31,7 +31,7 @@ IsMetered text_meter bytes = HasTaken bytes text_meter
 abbrev pub IsKept : List ℕ → List ℕ → Type 0
 IsKept document bytes = document ≡ bytes
 
--- what a line still may have can be told
+-- what a line still may have can be said
 pub line_fits : (before after : Option (List ℕ)) (room : Room) (Holds : List ℕ → Type 0)
     → IsTaken before after room Holds
     → room.line ≤ LARGEST_LINE

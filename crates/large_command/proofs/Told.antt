@@ -1,4 +1,4 @@
--- What a meter's calls answer is told in the report.
+-- The report has what a meter's calls answer.
 use Rattle.std.proofs.Common.{◌≡◌, ◌+◌, ◌∙◌, ℕ, List, [], Option, Some, None, inl, inr, ap}
 use Rattle.std.specs.Option.{IfSome}
 use Rattle.std.proofs.Common.{append-nil, arith, subst, sym}

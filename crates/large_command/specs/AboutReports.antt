@@ -1,4 +1,4 @@
--- What the program tells about itself.
+-- What the program says about itself.
 use Rattle.std.specs.Prelude.{ℕ, List}
 use Rattle.command_words.specs.declared.about.About.{About}
 use Rattle.command_words.specs.declared.about.About.TheVariants.{Help, Version}

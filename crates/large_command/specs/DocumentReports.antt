@@ -1,4 +1,4 @@
--- What is told of a document: of its program, and of what stands behind the divider.
+-- The report on a document: on its program, and on what stands behind the divider.
 use Rattle.std.specs.Prelude.{◌≡◌, ◌⊎◌, ℕ, List, Option, Some, None}
 use Rattle.command_words.specs.declared.large.DocumentRequest.{DocumentRequest}
 use Rattle.program_text.specs.Document.{program_part, rest_part}

@@ -28,7 +28,7 @@ use Rattle.large_command.specs.Lengths.{IsTooLong}
 use Rattle.large_command.specs.TableReports.{TellsTable}
 use Rattle.large_command.specs.TextReports.{TellsText}
 
--- a number each for the tasks beside the root, the segments, the work and the span
+-- a number each for the tasks besides the root, the segments, the work and the span
 abbrev pub numbers_report : (tasks segments work span : ℕ) → Report
 numbers_report
     tasks
@@ -91,7 +91,7 @@ text_of (OfTable asked) input = input
 text_of (OfText asked) input = input
 text_of (OfDocument asked) input = program_part input
 
--- of this program, and of a document that begins with it, this is told
+-- the report on this program, and on a document that begins with it
 abbrev pub Tells : LargeRequest → List ℕ → ProgramMarks → Report → Type 0
 Tells (OfMeter asked) input program output = TellsMarks asked program.marks output
 Tells (OfTable asked) input program output = TellsTable asked (table_of program.marks) output
@@ -105,13 +105,13 @@ pub record IsOfProgram (meter : Meter) : Type 0 where
   pub nested : IsNested marks
   pub measures : Measures meter (last_moment marks)
 
--- of the marks that a meter has taken this is told
+-- the report on the marks that a meter has taken
 abbrev pub TellsMeter : MeterRequest → Meter → Report → Type 0
 TellsMeter asked meter output =
     (marks : List Mark) → (nested : IsNested marks)
     → Measures meter (last_moment marks) → TellsMarks asked marks output
 
--- the text stands for a program, and no token of it is wrong: what is asked is told
+-- the text stands for a program, and no token of it is wrong: what is asked is answered
 pub record AcceptsText (asked : LargeRequest) (input : List ℕ) (output : Report) : Type 0 where
   pub program : ProgramMarks
   pub stands : StandsForLarge (text_of asked input) program

@@ -1,4 +1,4 @@
--- What is told of the table of a text.
+-- The report on the table of a text.
 use Rattle.std.specs.Prelude.{◌≡◌, ◌⊎◌, ◌≤◌, length, sum}
 use Rattle.command_words.specs.declared.large.TableRequest.{TableRequest}
 use Rattle.command_words.specs.declared.large.TableRequest.TheVariants.{Curve, Graph, Greedy}
@@ -31,7 +31,7 @@ pub record TellsRows (asked : TableRequest) (table : Table) (output : Report) : 
   pub fits : FitsRows table
   pub says : SaysOfTable asked table output
 
--- of a larger table there is only this to tell
+-- of a larger table there is only this report
 pub record LacksRows (table : Table) (output : Report) : Type 0 where
   pub larger : ¬ FitsRows table
   pub says : output ≡ out_of_memory

@@ -1,4 +1,4 @@
-//! What the program tells about itself.
+//! What the program says about itself.
 ghost use Rattle.std.specs.Prelude.{◌≡◌};
 ghost use Rattle.large_command.specs.AboutReports.{about_text};
 

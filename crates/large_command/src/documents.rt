@@ -69,7 +69,7 @@ fn take_text(meter: &mut TextMeter, text: &[u8]) -> Result<(), AllocFault>
     Ok(())
 }
 
-/// What is told of a program with this text and this table, and of what stands behind it.
+/// The report on a program with this text and this table, and on what stands behind it.
 fn tell_document(
     alloc: Global,
     asked: DocumentRequest,
@@ -105,7 +105,7 @@ fn tell_behind(
     requires rest { length rest.now < 2 ^ 63 }
     ensures { IfOk result (λ report. TellsRest asked program.now rest.now table report) }
 {
-    // Does nothing when it runs: its clauses tell the proof how many rows there are at most.
+    // Does nothing when it runs: its clauses say how many rows there are at most.
     task_segments::laws::within_rows(&table);
     tell_rest(alloc, asked, program, rest, table)
 }

@@ -223,7 +223,7 @@ fn meter_for(alloc: Global, key: NameKey, asked: &LargeRequest) -> Result<TextMe
     }
 }
 
-/// What is told of a text that such a meter has taken.
+/// The report on a text that such a meter has taken.
 fn tell_taken(
     rt: &(impl Threads + Sync),
     alloc: Global,
@@ -244,7 +244,7 @@ fn tell_taken(
     }
 }
 
-/// What a document tells, which is read whole.
+/// The report on a document, which is read whole.
 fn answer_whole<R: Read>(
     alloc: Global,
     key: NameKey,

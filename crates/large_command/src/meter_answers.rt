@@ -20,7 +20,7 @@ use task_program::AllocFault;
 use task_program::fault::ReadKind;
 use task_segments::table::LargeTable;
 
-/// What can be told of a text that a meter has taken, or the line of its first fault.
+/// What a meter answers about a text that it has taken, or the line of its first fault.
 pub(crate) fn answer_meter(
     alloc: Global,
     asked: MeterRequest,
@@ -90,7 +90,7 @@ fn tell(alloc: Global, asked: MeterRequest, meter: &Meter) -> Result<Report, All
     }
 }
 
-/// What a meter tells, once it has taken all of a text.
+/// What a meter answers once it has taken all of a text.
 fn numbers(alloc: Global, meter: &Meter) -> Result<Report, AllocFault>
     ensures { IfOk result (λ report. TellsMeter Numbers meter.now report) }
 {

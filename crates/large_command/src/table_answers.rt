@@ -40,7 +40,7 @@ fn tell_table(
 ) -> Result<Report, AllocFault>
     ensures { IfOk result (λ report. TellsTable asked.now table report) }
 {
-    // Does nothing when it runs: its clauses tell the proof how many rows there are at most.
+    // Does nothing when it runs: its clauses say how many rows there are at most.
     task_segments::laws::within_rows(&table);
     say_of_table(rt, alloc, asked, table)
 }

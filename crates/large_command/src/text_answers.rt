@@ -71,7 +71,7 @@ fn certify(alloc: Global, written: Vec<u8>, table: LargeTable) -> Result<Report,
         → table ≡ table_of program.marks
         → TellsText Certify program report) }
 {
-    // Does nothing when it runs: its clauses tell the proof how many rows there are at most.
+    // Does nothing when it runs: its clauses say how many rows there are at most.
     task_segments::laws::within_rows(&table);
     tell_certificate(alloc, written, table)
 }

@@ -138,7 +138,7 @@ wrong_here costs after lines n changes said why next so_far is =
     so_far.wrong ∙ wrong_at lines n after said next
     ∙ ap (λ (o : Option WrongLine). or_later n o behind) is
 
--- the fault that it tells is that of the list
+-- its fault is that of the list
 pub refused_line : (costs after : List ℕ) (lines : List (List ℕ)) (n : ℕ) (changes : List Change)
     (said : Option ChangeLine) (fault : ListFault)
     → SaysNext lines n said

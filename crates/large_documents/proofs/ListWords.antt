@@ -1,4 +1,4 @@
--- A line of a list with too many words is told by the first two.
+-- A line of a list with too many words is known by the first two.
 use Rattle.std.proofs.Common.{◌≡◌, ℕ, List, [], ◌∷◌, take, refl}
 use Rattle.large_documents.specs.ChangeLists.{words_say}
 

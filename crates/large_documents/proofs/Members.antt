@@ -1,4 +1,4 @@
--- Which times there are, and what is told of them.
+-- Which times there are, and the reports on them.
 use Rattle.std.proofs.Common.{◌≡◌, ◌-◌, ◌<◌, ℕ, zero, suc, List, length, arith, ap, sym, refl}
 use Rattle.std.proofs.Common.{◌∙◌, inl, inr, subst}
 use Rattle.std.proofs.lemmas.List.{get_or_default, length-map}
@@ -59,7 +59,7 @@ pub same_count : (table : Table) (graph : RecordedGraph) → IsGraphOf table gra
 same_count table graph of =
     sym (ap length of.costs ∙ length-map table.segments (λ (row : Segment). row.cost))
 
--- what is told of a graph and lines behind it is told of its table
+-- the report on a graph and lines behind it is that on its table
 pub says_of_read : (tells : RecordedGraph → RegionTimes → TimedRun → Report → Type 0)
     (before : ℕ) (rest : List ℕ) (table : Table) (graph : RecordedGraph) (output : Report)
     → IsGraph graph
@@ -99,7 +99,7 @@ says_of_read tells before rest table graph output is of (inr (inr read)) =
       says = read.says;
     })
 
--- what is told of a run that was read
+-- the report on a run that was read
 says_of_run : (tells : RecordedGraph → RegionTimes → TimedRun → Report → Type 0)
     (rest : List ℕ) (graph : RecordedGraph) (region : RegionTimes) (run : TimedRun) (output : Report)
     → ReadsRun graph rest region run

@@ -1,4 +1,4 @@
--- Of the times of a run one thing is told.
+-- There is one report on the times of a run.
 use Rattle.std.proofs.Common.{◌≡◌, ◌∙◌, ◌⊎◌, ℕ, List, length, subst, sym, ap, inl, inr}
 use Rattle.command_words.specs.declared.large.AccountRequest.{AccountRequest}
 use Rattle.command_words.specs.declared.large.AccountRequest.TheVariants.{Sums, Rows, Path}
@@ -35,7 +35,7 @@ one_told Path graph region run one other a b =
     (one_path (length graph.costs) (Precedes graph) run a.path b.path a.is_path b.is_path))
     a.says b.says
 
--- where of a legal run one thing is told
+-- where there is one report on a legal run
 module _ (tells : RecordedGraph → RegionTimes → TimedRun → Report → Type 0)
     (single : (graph : RecordedGraph) (region : RegionTimes) (run : TimedRun) (one other : Report)
     → IsGraph graph → tells graph region run one → tells graph region run other → one ≡ other) where

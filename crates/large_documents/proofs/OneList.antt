@@ -1,4 +1,4 @@
--- Of a list of changes something is told, and no two things.
+-- There is a report on a list of changes, and no two.
 use Rattle.std.proofs.Common.{◌≡◌, ◌∙◌, ℕ, List, [], Option, Some, None, ap, inl, inr, refl, subst, sym}
 use Rattle.command_words.specs.declared.changes.Change.{Change}
 use Rattle.dispatch_core.proofs.SomeGraph.{IsWhole}

@@ -1,4 +1,4 @@
--- Of the places of segments something is told, and no two things.
+-- There is a report on the places of segments, and no two.
 use Rattle.std.proofs.Common.{◌≡◌, ◌∙◌, ℕ, List, Option, Some, None, ap, [], inl, inr, length}
 use Rattle.std.proofs.Common.{refl, subst, sym, codes}
 use Rattle.std.proofs.lemmas.Bool.{cases_eq}
@@ -89,7 +89,7 @@ one_taken program rest table one other a b =
     one_of before table a.places (rest_part rest) one other a.says
     (subst (λ (xs : List ℕ). TellsOfPlaces before table xs (rest_part rest) other) places b.says)
 
--- a text that gives places has no fault that is told
+-- a text that gives places has no fault to report
 not_refused : {P : Type 0} (n : ℕ) (text places : List ℕ) (fault : PlacesFault) (output : Report)
     → places_in n text ≡ Some places
     → length places ≡ n

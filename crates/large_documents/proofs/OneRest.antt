@@ -1,4 +1,4 @@
--- Of a document something is told, and no two things.
+-- There is a report on a document, and no two.
 use Rattle.std.proofs.Common.{ℕ, List, Some}
 use Rattle.command_words.specs.declared.large.DocumentRequest.{DocumentRequest}
 use Rattle.command_words.specs.declared.large.DocumentRequest.TheVariants.{Account, Check}

@@ -179,7 +179,7 @@ module _ (graph : RecordedGraph) (p first last : ℕ) (run : TimedRun) (is : IsG
 
 -- ---- the parts of the text
 
--- what is told of the parts of a text is told of the text
+-- the report on the parts of a text is that on the text
 pub takes_places : (program rest given : List ℕ) (times : Option (List ℕ)) (before : ℕ) (table : Table)
     (places : List ℕ) (output : Report)
     → given ≡ program_part rest

@@ -1,4 +1,4 @@
--- Of lines behind a program something is told.
+-- There is a report on lines behind a program.
 use Rattle.std.proofs.Common.{◌≡◌, ◌<◌, ◌⊎◌, ◌∙◌, ℕ, List, length, refl, sym, ap, arith, inl, inr}
 use Rattle.std.proofs.lemmas.List.{length-map}
 use Rattle.std.proofs.lemmas.List.Splits.{length-slice_split}
@@ -49,7 +49,7 @@ has_each n segments each = record {
   each_end = length-map segments (λ (t : SegmentTimes). t.end) ∙ each;
 }
 
--- where of each legal run on a table's graph something is told
+-- where there is a report on each legal run on a table's graph
 module _ (table : Table) (tells : RecordedGraph → RegionTimes → TimedRun → Report → Type 0)
     (some : (graph : RecordedGraph) (region : RegionTimes) (segments : List SegmentTimes)
     → IsGraph graph → IsGraphOf table graph

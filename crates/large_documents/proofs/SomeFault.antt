@@ -94,7 +94,7 @@ module _ (graph : RecordedGraph) (is : IsGraph graph) (p first last : ℕ) (run 
     ];
   }
 
-  -- of a segment that is out of range the first reason is told
+  -- of a segment that is out of range the first reason is reported
   range_fault : (s : ℕ) → IsUpTo n p first last run s → Out s → HasFault n R p first last run
   range_fault s upto out = elim (cases_lt (at run.threads s) p) [
     | inr none ↦ record {

@@ -1,4 +1,4 @@
--- What is told of the times of a run that stand behind its program.
+-- The report on the times of a run that stand behind its program.
 use Rattle.std.specs.Prelude.{ℕ, ◌≡◌, ◌≢◌, ◌⊎◌, ◌++◌, ◌∷◌, List, length, codes}
 use Rattle.std.specs.Fmt.{decimal}
 use Rattle.command_words.specs.declared.large.AccountRequest.{AccountRequest}
@@ -55,7 +55,7 @@ times_refusal times.OutOfMemory = out_of_memory
 
 -- ---- the times of a run on a program
 
--- the times are those of a legal run, of which this is told
+-- the times are those of a legal run, and this is the report on it
 pub record AcceptsRun (telling : RecordedGraph → RegionTimes → TimedRun → Report → Type 0)
     (graph : RecordedGraph) (region : RegionTimes) (segments : List SegmentTimes) (output : Report)
     : Type 0 where
@@ -66,7 +66,7 @@ pub record AcceptsRun (telling : RecordedGraph → RegionTimes → TimedRun → 
       (run_of segments)
   pub says : telling graph region (run_of segments) output
 
--- they are not, and this fault is told
+-- they are not, and this fault is reported
 pub record RefusesRun (graph : RecordedGraph) (region : RegionTimes) (segments : List SegmentTimes)
     (output : Report)
     : Type 0 where
@@ -76,7 +76,7 @@ pub record RefusesRun (graph : RecordedGraph) (region : RegionTimes) (segments :
       region.last (run_of segments) fault
   pub says : output ≡ times_refusal fault
 
--- the text tells times of the program's segments
+-- the text has times of the program's segments
 pub record TakesTimes (telling : RecordedGraph → RegionTimes → TimedRun → Report → Type 0)
     (rest : List ℕ) (table : Table) (output : Report)
     : Type 0 where
@@ -89,7 +89,7 @@ pub record TakesTimes (telling : RecordedGraph → RegionTimes → TimedRun → 
   pub answers : AcceptsRun telling graph region segments output
       ⊎ RefusesRun graph region segments output
 
--- it does not, and this fault is told
+-- it does not, and this fault is reported
 pub record RefusesTimes (before : ℕ) (rest : List ℕ) (table : Table) (output : Report) : Type
     0 where
   pub fault : TimeTextFault
@@ -97,7 +97,7 @@ pub record RefusesTimes (before : ℕ) (rest : List ℕ) (table : Table) (output
   pub is_fault : IsTextFault (length table.segments) (lines_of rest) fault
   pub says : output ≡ text_refusal before fault
 
--- what is told of a program with this table, and of the lines of a run behind a divider, before which
+-- the report on a program with this table, and on the lines of a run behind a divider, before which
 -- so many lines have ended
 abbrev pub SaysOfTimes : (RecordedGraph → RegionTimes → TimedRun → Report → Type 0) → (before : ℕ)
     → (rest : List ℕ) → Table → Report → Type 0

@@ -1,4 +1,4 @@
--- What is told of the times of a legal run.
+-- The report on the times of a legal run.
 use Rattle.std.specs.Prelude.{ℕ, zero, suc, ◌-◌, ◌≡◌, ◌++◌, List, [], ◌∷◌, length, max, Option, Some}
 use Rattle.std.specs.Prelude.{codes}
 use Rattle.command_words.specs.declared.large.AccountRequest.{AccountRequest}

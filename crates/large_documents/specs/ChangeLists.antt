@@ -69,7 +69,7 @@ first_wrong costs lines = wrong_from costs 0 lines
 
 -- ---- what a fault says
 
--- want of memory says nothing of the list
+-- out of memory says nothing of the list
 abbrev pub IsListFault : List ℕ → List (List ℕ) → ListFault → Type 0
 IsListFault costs lines (Wrong i why) = first_wrong costs lines ≡ Some (i, why)
 IsListFault costs lines OutOfMemory = ⊤

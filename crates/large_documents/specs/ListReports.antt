@@ -1,4 +1,4 @@
--- What is told of a list of changes of costs behind its program.
+-- The report on a list of changes of costs behind its program.
 use Rattle.std.specs.Prelude.{ℕ, ◌≡◌, ◌⊎◌, List, Some, None, codes}
 use Rattle.command_words.specs.declared.changes.Change.{Change}
 use Rattle.program_text.specs.Document.{lines_of}
@@ -23,12 +23,12 @@ word_of (Refused CostTooLarge) = codes "CostTooLarge"
 word_of (Refused WorkTooLarge) = codes "WorkTooLarge"
 word_of (Refused OutOfMemory) = codes "OutOfMemory"
 
--- the line of a fault; want of memory has none
+-- the line of a fault; out of memory has none
 abbrev pub TellsFault : List ℕ → ListFault → Report → Type 0
 TellsFault program (Wrong i why) output = output ≡ at_line (ended program) i (word_of why)
 TellsFault program of_list.OutOfMemory output = ⊥
 
--- no line is wrong: what `whatif` tells of these changes
+-- no line is wrong: the report of `whatif` on these changes
 pub record TakesList (rest : List ℕ) (table : Table) (output : Report) : Type 0 where
   pub right : first_wrong (costs_of table) (lines_of rest) ≡ None
   pub changes : List Change
@@ -42,7 +42,7 @@ pub record RefusesList (program rest : List ℕ) (table : Table) (output : Repor
   pub is_first : first_wrong (costs_of table) (lines_of rest) ≡ Some (line, why)
   pub says : output ≡ at_line (ended program) line (word_of why)
 
--- what is told of a program with this text and this table, and of the lines behind it
+-- the report on a program with this text and this table, and on the lines behind it
 abbrev pub SaysOfList : (program rest : List ℕ) → Table → Report → Type 0
 SaysOfList program rest table output =
     TakesList rest table output ⊎ RefusesList program rest table output

@@ -15,7 +15,7 @@ changes_on None = []
 changes_on (Some Blank) = []
 changes_on (Some (Puts change)) = change ∷ []
 
--- what is wrong with the line of this index; want of memory says nothing of it
+-- what is wrong with the line of this index; out of memory says nothing of it
 abbrev pub IsFaultOfLine : List ℕ → ℕ → Option ChangeLine → ListFault → Type 0
 IsFaultOfLine costs i said (Wrong line why) = (line ≡ i) × (wrong_with costs said ≡ Some why)
 IsFaultOfLine costs i said OutOfMemory = ⊤

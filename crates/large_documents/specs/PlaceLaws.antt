@@ -11,7 +11,7 @@ use Rattle.large_documents.specs.TimedPlaces.{sum_at}
 use Rattle.large_documents.specs.Places.{place_count, segments_at, sums_at}
 use Rattle.large_documents.specs.declared.places.PlaceSums.{PlaceSums}
 
--- the sum of something that is told of each place
+-- the sum of a number of each place
 abbrev pub over_places : (costs : List ℕ) → Findings → (places : List ℕ) → (PlaceSums → ℕ) → ℕ
 over_places costs found places told =
     sum_by (λ p. told (sums_at places costs found.slacks found.chain p))
@@ -37,7 +37,7 @@ pub record TimesAddUp (graph : RecordedGraph) (p first last : ℕ) (run : TimedR
       (range_with_len 0 (place_count places))
       ≡ (shares_of graph p first last run).starved
 
--- a segment counts at its place, of which a row tells
+-- a segment counts at its place, which has a row
 pub record HasPlace (places : List ℕ) (s : ℕ) : Type 0 where
   pub counts : Contains (segments_at places (at places s)) s
   pub told : at places s < place_count places

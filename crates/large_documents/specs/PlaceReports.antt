@@ -1,4 +1,4 @@
--- What is told of the places of a program's segments that stand behind it.
+-- The report on the places of a program's segments that stand behind it.
 use Rattle.std.specs.Prelude.{ℕ, ◌≡◌, ◌⊎◌, List, length, codes, Option, None, Some}
 use Rattle.dispatch_core.specs.RecordedGraph.{RecordedGraph}
 use Rattle.program_text.specs.Document.{program_part, rest_part}
@@ -27,7 +27,7 @@ pub record TellsSums (graph : RecordedGraph) (places : List ℕ) (output : Repor
   pub is_analysis : IsAnalysis graph found
   pub says : output ≡ places_of graph.costs found places
 
--- what is told of the places of a table's segments
+-- the report on the places of a table's segments
 pub record TellsPlaces (table : Table) (places : List ℕ) (output : Report) : Type 0 where
   pub graph : RecordedGraph
   pub found : Findings
@@ -47,19 +47,19 @@ pub record TakesPlaces (program rest : List ℕ) (table : Table) (output : Repor
   pub are_places : ArePlaces (length table.segments) (program_part rest) places
   pub says : TellsOfPlaces (before_times program rest) table places (rest_part rest) output
 
--- want of memory has no line
+-- out of memory has no line
 abbrev pub TellsFault : PlacesFault → Report → Type 0
 TellsFault BadForm output = output ≡ refused_as (codes "BadForm")
 TellsFault Count output = output ≡ refused_as (codes "Count")
 TellsFault OutOfMemory output = ⊥
 
--- it does not, and this fault is told
+-- it does not, and this fault is reported
 pub record RefusesPlaces (rest : List ℕ) (table : Table) (output : Report) : Type 0 where
   pub fault : PlacesFault
   pub is_fault : IsPlacesFault (length table.segments) (program_part rest) fault
   pub says : TellsFault fault output
 
--- what is told of a program with this text and this table, and of what stands behind it: places, up to a
+-- the report on a program with this text and this table, and on what stands behind it: places, up to a
 -- second divider, and behind that the times of a run
 abbrev pub SaysOfPlaces : (program rest : List ℕ) → Table → Report → Type 0
 SaysOfPlaces program rest table output =

@@ -1,4 +1,4 @@
--- The places of a program's segments, and what is told of each.
+-- The places of a program's segments, and the row of each.
 use Rattle.std.specs.Prelude.{ℕ, ◌+◌, ◌-◌, ◌≡◌, ◌≢◌, ◌==◌, ⊤, Bool, List, [], ◌∷◌, length, Option}
 use Rattle.std.specs.Prelude.{Some, None, codes, filter, map, max, min, slice_index_or, sum_by}
 use Rattle.std.specs.List.{range_with_len}
@@ -26,7 +26,7 @@ pub record IsOtherCount (n : ℕ) (text : List ℕ) : Type 0 where
   pub told : places_in n text ≡ Some places
   pub other : length places ≢ n
 
--- what a fault says. Want of memory says nothing of the text
+-- what a fault says. Out of memory says nothing of the text
 abbrev pub IsPlacesFault : ℕ → List ℕ → PlacesFault → Type 0
 IsPlacesFault n text BadForm = places_in n text ≡ None
 IsPlacesFault n text Count = IsOtherCount n text
@@ -53,7 +53,7 @@ abbrev pub place_count : List ℕ → ℕ
 place_count [] = 0
 place_count (p ∷ places) = max (p + 1) (place_count places)
 
--- ---- what is told of a place
+-- ---- the row of a place
 
 abbrev pub least_with : ℕ → Option ℕ → Option ℕ
 least_with x None = Some x
@@ -94,7 +94,7 @@ abbrev pub places_header : List (List ℕ)
 places_header =
     codes "place" ∷ codes "segments" ∷ codes "work" ∷ codes "on_path" ∷ codes "path" ∷ codes "slack" ∷ []
 
--- a place, and what is told of it
+-- a place, and its numbers
 abbrev pub row_of : PlaceSums → ℕ → List (Option ℕ)
 row_of sums p =
     Some p ∷ Some sums.segments ∷ Some sums.work ∷ Some sums.on_path ∷ Some sums.path ∷ sums.slack

@@ -1,4 +1,4 @@
--- What is told of a document of any size, by the table of its program and what stands behind it.
+-- The report on a document of any size, by the table of its program and what stands behind it.
 use Rattle.std.specs.Prelude.{ℕ, List, Some}
 use Rattle.command_words.specs.declared.large.DocumentRequest.{DocumentRequest}
 use Rattle.command_words.specs.declared.large.DocumentRequest.TheVariants.{Account, Check}

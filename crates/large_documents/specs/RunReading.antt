@@ -1,4 +1,4 @@
--- Carried out: the times of a run are read, or a refusal is told.
+-- Carried out: the times of a run are read, or refused.
 use Rattle.std.specs.Prelude.{ℕ, ◌≡◌, ◌≢◌, ◌⊎◌, ⊤, List, length}
 use Rattle.dispatch_core.specs.RecordedGraph.{Precedes, RecordedGraph}
 use Rattle.program_text.specs.Document.{lines_of}
@@ -15,7 +15,7 @@ use Rattle.large_documents.specs.Times.{run_of}
 use Rattle.large_documents.specs.declared.accounts.RunRead.{RunRead}
 use Rattle.large_documents.specs.declared.accounts.RunRead.TheVariants.{Legal, Refused}
 
--- the lines tell the times of a legal run
+-- the lines have the times of a legal run
 pub record ReadsRun (graph : RecordedGraph) (rest : List ℕ) (region : RegionTimes) (run : TimedRun)
     : Type 0 where
   pub segments : List SegmentTimes
@@ -25,14 +25,14 @@ pub record ReadsRun (graph : RecordedGraph) (rest : List ℕ) (region : RegionTi
       run
   pub within : IsRanged (length graph.costs) region.threads region.first region.last run
 
--- they tell times, and not of a legal run
+-- they have times, and not of a legal run
 pub record ReadsNoRun (graph : RecordedGraph) (rest : List ℕ) (output : Report) : Type 0 where
   pub region : RegionTimes
   pub segments : List SegmentTimes
   pub tells : TellsTimes (length graph.costs) (lines_of rest) region segments
   pub refuses : RefusesRun graph region segments output
 
--- they tell none
+-- they have none
 pub record ReadsNoTimes (graph : RecordedGraph) (before : ℕ) (rest : List ℕ) (output : Report) : Type
     0 where
   pub fault : TimeTextFault
@@ -53,7 +53,7 @@ IsRunRead graph before rest (Legal region run) = ReadsRun graph rest region run
 IsRunRead graph before rest (Refused output) =
     ReadsNoRun graph rest output ⊎ ReadsNoTimes graph before rest output
 
--- what is told of a run that was read, or of why none was
+-- the report on a run that was read, or on why none was
 abbrev pub TellsOfRead : (RecordedGraph → RegionTimes → TimedRun → Report → Type 0) → RecordedGraph
     → RunRead → Report → Type 0
 TellsOfRead telling graph (Legal region run) output = telling graph region run output
@@ -66,7 +66,7 @@ MayTell graph (Legal region run) =
     × IsRanged (length graph.costs) region.threads region.first region.last run
 MayTell graph (Refused why) = ⊤
 
--- the lines tell the times of a legal run, of which this is told
+-- the lines have the times of a legal run, and this is the report on it
 pub record TellsRead (telling : RecordedGraph → RegionTimes → TimedRun → Report → Type 0)
     (graph : RecordedGraph) (rest : List ℕ) (output : Report)
     : Type 0 where
@@ -79,7 +79,7 @@ pub record TellsRead (telling : RecordedGraph → RegionTimes → TimedRun → R
       (run_of segments)
   pub says : telling graph region (run_of segments) output
 
--- what is told of a graph, and of the lines of a run on it
+-- the report on a graph, and on the lines of a run on it
 abbrev pub SaysOfRead : (RecordedGraph → RegionTimes → TimedRun → Report → Type 0) → RecordedGraph
     → (before : ℕ) → (rest : List ℕ) → Report → Type 0
 SaysOfRead telling graph before rest output =

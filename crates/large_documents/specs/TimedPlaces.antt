@@ -1,4 +1,4 @@
--- What is told of each place of a run with times.
+-- The row of each place of a run with times.
 use Rattle.std.specs.Prelude.{ℕ, ◌≡◌, ◌++◌, ◌+◌, List, [], ◌∷◌, Option, Some, codes, slice_index_or}
 use Rattle.std.specs.Prelude.{sum_by}
 use Rattle.dispatch_core.specs.RecordedGraph.{RecordedGraph}
@@ -20,7 +20,7 @@ sum_at places numbers p = sum_by (at numbers) (segments_at places p)
 abbrev pub timed_header : List (List ℕ)
 timed_header = places_header ++ codes "busy" ∷ codes "delayed" ∷ codes "starved" ∷ []
 
--- a place, what is told of it without times, how long its segments ran, how long threads were delayed
+-- a place, its numbers without times, how long its segments ran, how long threads were delayed
 -- while one of them had been ready longest, and how long they starved while one had run longest
 abbrev pub timed_row_of : PlaceSums → (busy delayed starved : ℕ) → ℕ → List (Option ℕ)
 timed_row_of sums busy delayed starved p =

@@ -1,4 +1,4 @@
-//! What is told of a program and the times of a run of it.
+//! The report on a program and the times of a run of it.
 ghost use Rattle.std.specs.Prelude.{◌≡◌, IfOk, length};
 ghost use Rattle.large_documents.specs.AccountReports.{SaysOfAccount};
 ghost use Rattle.large_documents.specs.Accounts.{TellsRun};
@@ -19,7 +19,7 @@ use time_accounts::region::Region;
 use time_accounts::times::Times;
 use time_text::{RegionTimes, SegmentTimes, TimeTextFault, TimesText, read_times};
 
-/// What is told of a program with this text and this table, by the lines behind it: what is wrong
+/// The report on a program with this text and this table, by the lines behind it: what is wrong
 /// with the lines comes first, then why they are not the times of a legal run. The table is dropped
 /// once its graph is made.
 pub(crate) fn tell_account(
@@ -38,7 +38,7 @@ pub(crate) fn tell_account(
     tell_read(alloc, asked, &graph, read)
 }
 
-/// What is told of the times that were read, or were not.
+/// The report on times that were read, or were not.
 fn tell_read(
     alloc: Global,
     asked: AccountRequest,
@@ -54,7 +54,7 @@ fn tell_read(
     }
 }
 
-/// The times of a legal run, or what is told where there are none.
+/// The times of a legal run, or the report where there are none.
 #[derive(Drop)]
 pub(crate) enum RunRead {
     Legal(RegionTimes, Times),

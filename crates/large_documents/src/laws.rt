@@ -16,7 +16,7 @@ pub fn limits()
     ensures events { MOST_LARGE_EVENTS ≡ 8_000_000_000 }
 {}
 
-/// Of a document whose program has a table, no two things are told, and one is.
+/// Of a document whose program has a table, there are no two reports, and there is one.
 pub fn one_report()
     ensures one { (asked : DocumentRequest) (program rest : List ℕ) (marks : List Mark)
         → IsReading marks → HasOneReport asked program rest marks }
@@ -39,7 +39,7 @@ pub fn times_add_up()
         → length places ≡ length graph.costs → TimesAddUp graph p first last run places }
 {}
 
-/// Each segment counts at one place, and the slack that is told of a place is the least one.
+/// Each segment counts at one place, and the slack in the row of a place is the least one.
 pub fn one_place()
     ensures some { (places : List ℕ) (s : ℕ) → s < length places → HasPlace places s }
     ensures one { (places : List ℕ) (p q s : ℕ) → Contains (segments_at places p) s

@@ -1,4 +1,4 @@
-//! What is told of documents of any size: a text, its divider, and what stands behind it.
+//! Reports on documents of any size: a text, its divider, and the rest.
 #![tactic(auto)]
 
 mod accounts;

@@ -1,4 +1,4 @@
-//! What is told of a program and a list of changes of costs.
+//! The report on a program and a list of changes of costs.
 ghost use Rattle.std.specs.Prelude.{◌≡◌, IfOk};
 ghost use Rattle.large_documents.specs.ListReports.{SaysOfList, TellsFault, word_of};
 
@@ -11,7 +11,7 @@ use task_program::AllocFault;
 use task_segments::table::LargeTable;
 use whatif_costs::fault::WhatFault;
 
-/// What `whatif` tells of a program with this table and this text and of the changes that stand in
+/// The report of `whatif` on a program with this table and this text and on the changes that stand in
 /// the list behind it, or its first wrong line. The table is dropped once its graph is made.
 pub(crate) fn tell_listed(
     alloc: Global,

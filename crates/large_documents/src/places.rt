@@ -1,4 +1,4 @@
-//! What is told of a program and the places of its segments.
+//! The report on a program and the places of its segments.
 ghost use Rattle.std.specs.Prelude.{◌≡◌, ◌+◌, ◌-◌, ◌<◌, ◌^◌, [], IfErr, IfOk, OnOk, Some, length};
 ghost use Rattle.csv_table.specs.Tables.{numbered_table};
 ghost use Rattle.large_documents.specs.PlaceReports.{SaysOfPlaces, TellsFault, TellsSums};
@@ -20,7 +20,7 @@ use task_program::document::{Document, split_document};
 use task_program::plain_words::{is_blank, read_number};
 use task_segments::table::LargeTable;
 
-/// What is told of one place.
+/// The sums of one place.
 #[derive(Clone, Copy, Debug, PartialEq, Eq)]
 pub struct PlaceSums {
     /// How many segments it has.
@@ -46,7 +46,7 @@ pub enum PlacesFault {
     OutOfMemory,
 }
 
-/// What is told of a place without segments.
+/// The sums of a place without segments.
 const NO_SUMS: PlaceSums = PlaceSums {
     segments: 0,
     work: 0,
@@ -55,7 +55,7 @@ const NO_SUMS: PlaceSums = PlaceSums {
     slack: None,
 };
 
-/// What is told of a program with this text and this table, of the places behind it, and of the
+/// The report on a program with this text and this table, on the places behind it, and on the
 /// times of a run behind these, if there are any. The table is dropped once its graph is made.
 pub(crate) fn tell_places(
     alloc: Global,
@@ -96,7 +96,7 @@ fn places_refused(alloc: Global, fault: PlacesFault) -> Result<Report, AllocFaul
     }
 }
 
-/// What is told of the places of a graph's segments.
+/// The report on the places of a graph's segments.
 fn tell_sums(alloc: Global, graph: &Graph, places: &[u32]) -> Result<Report, AllocFault>
     requires { length places.now ≡ length graph.now.costs }
     ensures { IfOk result (λ report. TellsSums graph.now places.now report) }

@@ -1,4 +1,4 @@
-//! What is told of a legal run: its sums, its rows and its own path.
+//! The report on a legal run: its sums, its rows and its own path.
 ghost use Rattle.std.specs.Prelude.{◌≡◌, ◌<◌, ◌≤◌, IfOk, length};
 ghost use Rattle.dispatch_core.specs.RecordedGraph.{Precedes};
 ghost use Rattle.task_segments.specs.Schedule.{at};

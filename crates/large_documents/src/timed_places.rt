@@ -1,4 +1,4 @@
-//! What is told of the places of a program and the times of a run.
+//! The report on the places of a program and the times of a run.
 ghost use Rattle.std.specs.Prelude.{◌≡◌, ◌+◌, ◌<◌, ◌≤◌, ◌^◌, IfOk, length, sum};
 ghost use Rattle.csv_table.specs.Tables.{numbered_table};
 ghost use Rattle.dispatch_core.specs.RecordedGraph.{Precedes};
@@ -23,7 +23,7 @@ use time_accounts::region::Region;
 use time_accounts::times::Times;
 use time_text::RegionTimes;
 
-/// What is told of the places of a graph's segments and the times of a run behind a divider, before
+/// The report on the places of a graph's segments and the times of a run behind a divider, before
 /// which so many lines have ended.
 pub(crate) fn tell_timed(
     alloc: Global,
@@ -40,7 +40,7 @@ pub(crate) fn tell_timed(
     tell_read(alloc, graph, read, places)
 }
 
-/// What is told of the places and of the times that were read, or were not.
+/// The report on the places and on the times that were read, or were not.
 fn tell_read(
     alloc: Global,
     graph: &Graph,
@@ -57,7 +57,7 @@ fn tell_read(
     }
 }
 
-/// What is told of the places of a legal run's segments.
+/// The report on the places of a legal run's segments.
 fn tell_run_at(
     alloc: Global,
     graph: &Graph,

@@ -10,7 +10,7 @@ use Rattle.large_documents.specs.declared.change_list.ListFault.{ListFault}
 use Rattle.large_documents.specs.declared.change_list.ListFault.TheVariants.{OutOfMemory, Wrong}
 use Rattle.large_documents.proofs.listed.tell_listed.Goals as goal
 
--- a fault of the list is told
+-- a fault of the list is reported
 refuses : (program rest : List ℕ) (table : Table) (fault : ListFault) (report : Report)
     → IsListFault (costs_of table) (lines_of rest) fault
     → TellsFault program fault report
