@@ -69,6 +69,7 @@ one 600 examples.sh checks/agree/examples.sh
 one 600 documents.py checks/agree/documents.py
 one 900 one_command.py checks/programs/one_command.py
 one 300 exclusion.py checks/agree/exclusion.py
+one 300 relaxation.py checks/agree/relaxation.py
 one 600 reference.py checks/agree/reference.py
 one 1800 openmp_cases.sh checks/recorders/openmp_cases.sh
 one 900 record.sh checks/recorders/record.sh

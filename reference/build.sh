@@ -12,7 +12,7 @@ mkdir -p "$out"
 compile() { rustc -O -C strip=debuginfo --edition 2021 --out-dir "$out" "$@"; }
 with_reference=(--extern reference="$out/libreference.rlib")
 compile --crate-type rlib --crate-name reference "$src/lib.rs"
-for name in spanprof spanprof_large; do
+for name in spanprof spanprof_large spanprof_relaxation; do
     compile "${with_reference[@]}" "$src/bin/$name.rs"
 done
 compile "${with_reference[@]}" --crate-type cdylib --crate-type staticlib --crate-name spanprof \

@@ -18,6 +18,7 @@ from spanprof.version import commit_of
 TOOLS = os.path.dirname(os.path.abspath(__file__))
 SPANPROF = os.path.join(TOOLS, "..", "crates", "spanprof", "out", "spanprof")
 LARGE = os.path.join(TOOLS, "..", "crates", "spanprof_large", "out", "spanprof_large")
+RELAXATION = os.path.join(TOOLS, "..", "crates", "spanprof_relaxation", "out", "spanprof_relaxation")
 VERSION = "share/spanprof/VERSION"
 LIBRARY, SHARED_LIBRARY = os.path.join(TOOLS, "..", "out", "library"), "libspanprof.so"
 PACKAGING = os.path.join(TOOLS, "..", "packaging")
@@ -26,6 +27,7 @@ LIST = os.path.join("share", "spanprof", "installed")
 COMMANDS = ("spanprof-record", "spanprof-convert", "spanprof-report", "spanprof-path", "spanprof-whatif",
             "spanprof-predict", "spanprof-import", "spanprof-conformance")     # links to spanprof
 PROGRAM, LARGE_PROGRAM = "libexec/spanprof/spanprof", "libexec/spanprof/spanprof_large"
+RELAXATION_PROGRAM = "libexec/spanprof/spanprof_relaxation"
 EXECUTABLE = ("bin/", "libexec/", "lib/spanprof/convert_log", "lib/spanprof/calibrate")
 SHARED = ("*.py", "spanprof/**/*.py", "spanprof/report/template/*", "conformance/*.txt",
           "conformance/directed/*.tasks", "conformance/harness/*", "conformance/mutants/*", "conformance/perturb/*")
@@ -74,11 +76,13 @@ def with_checksum(program, path):
     return pairs if os.path.isfile(program + SUFFIX) else pairs[:1]
 
 
-def plan(spanprof=SPANPROF, large=LARGE, library=LIBRARY):
-    """Where each file goes: pairs of a file and its path below the prefix. spanprof_large and the library are installed
-    if they are built. What users call is a script; it calls the programs."""
+def plan(spanprof=SPANPROF, large=LARGE, library=LIBRARY, relaxation=RELAXATION):
+    """Where each file goes: pairs of a file and its path below the prefix. All but spanprof are installed if they are
+    built. What users call is a script; it calls the programs."""
     pairs = [(os.path.join(TOOLS, "bin", "spanprof"), "bin/spanprof"), *with_checksum(spanprof, PROGRAM)]
     pairs += of_library(library)
+    if os.path.isfile(relaxation):
+        pairs += with_checksum(relaxation, RELAXATION_PROGRAM)
     if os.path.isfile(large):
         pairs += [*with_checksum(large, LARGE_PROGRAM),
                   (os.path.join(TOOLS, "completion", "spanprof.bash"),

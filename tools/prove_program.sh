@@ -3,7 +3,8 @@
 # checksum next to it, PROGRAM.sha256. It is the gate over a copy that has the programs' crates and nothing else, every
 # proof from nothing.
 #
-#     tools/prove_program.sh [PROGRAM ..]   spanprof, if none is named, spanprof_large or spanprof_exclusion
+#     tools/prove_program.sh [PROGRAM ..]   spanprof, if none is named, or spanprof_large, spanprof_exclusion,
+#                                           spanprof_relaxation
 set -euo pipefail
 top=$(cd "$(dirname "$0")/.." && pwd)
 case ${1:-} in -h | --help) sed -n '2,/^set/{/^set/!s/^# \{0,1\}//p}' "$0"; exit ;; esac

@@ -46,6 +46,7 @@ sha256sum --status -c spanprof.sha256 spanprof_large.sha256 2> /dev/null || {
     claim="Of the programs in this package nothing is proved."
 }
 { echo "$logic"; sha256sum spanprof spanprof_large; } > "$doc/proofs"
+! sha256sum --status -c spanprof_relaxation.sha256 2> /dev/null || sha256sum spanprof_relaxation >> "$doc/proofs"
 cd "$top"
 
 # The newest version of glibc's functions that a file of the release calls.

@@ -1,7 +1,7 @@
 #!/usr/bin/env bash
 # Records programs before and after a change that was really made, by the processor's clock, and holds what
 # spanprof-whatif tells of the change against the rewritten program's own text: the greedy ends on 4 and on 16 threads
-# to a twentieth, and the shape. Build spanprof first.
+# to a twentieth, and the shape. Before that spanprof_relaxation judges changes of kept texts. Build them first.
 #
 #     checks/programs/whatif.sh [kept]      kept: of the recordings in examples/openmp/recorded alone, on a busy machine too
 # Variables: SPANPROF (crates/spanprof/out/spanprof), LLVM (the newest version that has compiler and runtime),
@@ -13,6 +13,7 @@ cd "$(dirname "$0")/../.."
 needs_spanprof
 python3 -B -m unittest discover -q -s checks/programs/whatif/tests -t checks/programs/whatif
 python3 -B checks/programs/whatif/rewrites.py kept
+python3 -B checks/programs/whatif/relaxations.py
 [ "${1:-}" != kept ] || exit 0
 
 needs_llvm

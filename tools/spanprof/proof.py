@@ -10,13 +10,18 @@ from spanprof.folders import shown_program
 NOT_VERIFIED = "computed by %s, not verified"
 
 
+def is_proved_by(words):
+    """Whether these words start a program that was proved, and nothing else."""
+    found = shutil.which(words[0]) if len(words) == 1 else None
+    return bool(found) and is_proved(os.path.realpath(found))
+
+
 @lru_cache(maxsize=None)
 def not_proved():
     """What is said, in place of `proved`, of what the program computes that the tools ask; empty of a proved one with
     nothing else. It is read once in a run."""
     words = client.program()
-    found = shutil.which(words[0]) if len(words) == 1 else None
-    return "" if found and is_proved(os.path.realpath(found)) else NOT_VERIFIED % " ".join(map(shown_program, words))
+    return "" if is_proved_by(words) else NOT_VERIFIED % " ".join(map(shown_program, words))
 
 
 def proved(claim):

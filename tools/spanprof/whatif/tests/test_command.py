@@ -1,12 +1,14 @@
 import json
 import os
 import unittest
+from unittest import mock
 
 from spanprof.remarks import in_words
 from spanprof.tests.in_folder import InFolder, answered
 from spanprof.tests.proofs import with_a_proved_program
 from spanprof.whatif import command
 from spanprof.whatif.tests.made_up import SORT
+from spanprof.whatif.relaxation import MODEL, PROVED
 
 setUpModule = with_a_proved_program
 
@@ -34,7 +36,8 @@ class Commands(InFolder):
     def setUp(self):
         super().setUp()
         self.text = self.write("mine.tasks", SORT)
-        self.variables = {"SPANPROF_LARGE": self.program("large", PROGRAM)}
+        self.variables = {"SPANPROF_LARGE": self.program("large", PROGRAM),
+                          "SPANPROF_RELAXATION": self.program("relaxation", "#!/bin/sh\necho accepted\n")}
 
     def told(self, *words):
         """The exit status, and what stands on standard output and standard error."""
@@ -46,7 +49,7 @@ changed: 1 wait dropped: taskwait at sort.c:10
 whether the program stays right without it is for you to judge: no text says what its tasks read and write
 in us                                text       changed text
 segments                                8                  8    +0.0 %
-work                                    5                  4   -20.0 %
+work                                    5                  5    +0.0 %
 span                                   60                 60    +0.0 %
 2 threads, least                       60                 60    +0.0 %
 2 threads, end                         65                 65    +0.0 %
@@ -70,7 +73,20 @@ proved of the text, and of the changed text: spanprof has read both
             '# recorded: {"program": "sort", "threads": 2, "clock": "cpu", "unit": "us"}\n'
             "# remark: a changed text, 1 wait dropped, taskgroup at sort.c:7: work and span too low or too high\n"
             "omptasks 1\nwork 4\ntask {  # sort.c:8\n"))
-        self.assertEqual(sorted(os.listdir(self.folder)), ["kept.tasks", "large", "mine.tasks"])
+        self.assertEqual(sorted(os.listdir(self.folder)), ["kept.tasks", "large", "mine.tasks", "relaxation"])
+
+    def test_whether_it_is_proved_to_wait_for_no_more(self):
+        self.assertNotIn(PROVED, self.told("--drop-wait", "taskwait")[1])
+        with mock.patch("spanprof.whatif.relaxation.is_proved_by", return_value=True):
+            self.assertIn("\n%s\nin us" % PROVED, self.told("--drop-wait", "taskwait")[1])
+            self.assertNotIn(PROVED, self.told("--factor", "task at sort.c:8=2")[1])
+            self.assertIn("\n%s\nin us" % MODEL, self.told("--drop-wait", "taskwait", "--cutoff", "1")[1])
+
+    def test_a_change_that_is_refused(self):
+        self.program("relaxation", "#!/bin/sh\necho error: NewPair 1 3\nexit 1\n")
+        self.assertEqual(self.told("--drop-wait", "taskwait"), (
+            1, "", "spanprof-whatif: the change is wrong, which is a fault of this tool: spanprof_relaxation: "
+            "error: NewPair 1 3\n"))
 
     def test_a_text_beyond_the_limits(self):
         self.text = self.write("mine.tasks", SORT + "task { # toolong\n}\n")
