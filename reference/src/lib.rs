@@ -27,6 +27,7 @@ pub mod program;
 pub mod read;
 pub mod refusal;
 mod relation;
+pub mod relaxation;
 mod replay;
 pub mod reports;
 mod run;
