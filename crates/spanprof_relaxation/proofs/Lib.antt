@@ -1,1 +1,3 @@
+mod Parts
 mod Texts
+mod Told

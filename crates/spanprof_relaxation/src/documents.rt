@@ -1,16 +1,15 @@
-//! What is told of a document of two programs.
-ghost use Rattle.std.specs.Prelude.{◌≡◌, ◌≤◌, [], IfOk, MatchResult, length};
+//! The report of a document of two programs.
+ghost use Rattle.std.specs.Prelude.{◌≡◌, ◌≤◌, [], IfOk, IfSome, MatchResult, length};
 ghost use Rattle.std.specs.Option.{option_copied};
 ghost use Rattle.large_text.specs.LargeTexts.{IsLargeFault};
 ghost use Rattle.large_text.specs.Measured.{IsTableOfText};
 ghost use Rattle.large_text.specs.declared.limits.TheConstants.{LARGEST_PIECE};
 ghost use Rattle.spanprof_relaxation.specs.Documents.{Answers, TellsNew, TellsRest, TellsTables};
 
-use crate::lines::{accepted, refused, refused_as, text_refusal};
+use crate::lines::{accepted, count_lines, refused, refused_as, text_refusal};
 use large_text::TextMeter;
 use large_text::fault::LargeFault;
-use large_text::limits::LARGEST_PIECE;
-use relaxations::{RelaxationFault, judge};
+use relaxations::judge;
 use spanprof_command::Report;
 use std::alloc::Global;
 use task_program::AllocFault;
@@ -26,12 +25,13 @@ pub(crate) fn answer_document(
     key: NameKey,
     document: &[u8],
 ) -> Result<Report, AllocFault>
+    requires { length document.now ≤ LARGEST_PIECE }
     ensures { IfOk result (λ report. Answers document.now report) }
 {
     let Document { program, rest } = split_document(document);
     match read_table(alloc, key, program)? {
-        Ok(old) => tell_rest(alloc, key, &old, rest),
-        Err(fault) => text_refusal(alloc, "line", fault),
+        Ok(table) => tell_rest(alloc, key, count_lines(program) + 1, &table, rest),
+        Err(fault) => text_refusal(alloc, 0, fault),
     }
 }
 
@@ -41,13 +41,10 @@ fn read_table(
     key: NameKey,
     text: &[u8],
 ) -> Result<Result<LargeTable, LargeFault>, AllocFault>
+    requires { length text.now ≤ LARGEST_PIECE }
     ensures { IfOk result (λ read.
         MatchResult read (IsTableOfText text.now) (IsLargeFault text.now)) }
 {
-    // No part of a document is longer than the document.
-    if text.len() > LARGEST_PIECE {
-        return Err(AllocFault);
-    }
     let mut meter = TextMeter::with_rows(alloc, key)?;
     meter.take(text)?;
     match meter.finish_table() {
@@ -63,17 +60,19 @@ fn read_table(
     }
 }
 
-/// What is told of what stands behind the program of this table.
+/// The report of what stands behind the program of this table and so many lines.
 fn tell_rest(
     alloc: Global,
     key: NameKey,
+    before: usize,
     old: &LargeTable,
     rest: Option<&[u8]>,
 ) -> Result<Report, AllocFault>
-    ensures { IfOk result (λ report. TellsRest old.now (option_copied rest.entry) report) }
+    requires { IfSome (option_copied rest) (λ text. length text ≤ LARGEST_PIECE) }
+    ensures { IfOk result (λ report. TellsRest before old.now (option_copied rest.entry) report) }
 {
     match rest {
-        Some(text) => tell_new(alloc, key, old, text),
+        Some(text) => tell_new(alloc, key, before, old, text),
         None => refused_as(alloc, "BadForm"),
     }
 }
@@ -81,14 +80,16 @@ fn tell_rest(
 fn tell_new(
     alloc: Global,
     key: NameKey,
+    before: usize,
     old: &LargeTable,
     text: &[u8],
 ) -> Result<Report, AllocFault>
-    ensures { IfOk result (λ report. TellsNew old.now text.now report) }
+    requires { length text.now ≤ LARGEST_PIECE }
+    ensures { IfOk result (λ report. TellsNew before old.now text.now report) }
 {
     match read_table(alloc, key, text)? {
         Ok(new) => tell_tables(alloc, old, &new),
-        Err(fault) => text_refusal(alloc, "new line", fault),
+        Err(fault) => text_refusal(alloc, before, fault),
     }
 }
 

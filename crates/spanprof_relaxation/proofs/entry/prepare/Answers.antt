@@ -1,4 +1,5 @@
-use Rattle.std.proofs.Common.{arith, inl, rules}
+use Rattle.std.proofs.Common.{arith, inl, inr, rules}
+use Rattle.std.proofs.lemmas.Result.{IfOk-weaker}
 use Rattle.spanprof_relaxation.proofs.entry.prepare.Goals as goal
 
 -- one byte more than a document may have
