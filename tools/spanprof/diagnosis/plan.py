@@ -85,9 +85,15 @@ def is_at_an_end(facts, name):
     return bool(place) and place.kind == SERIAL and (name == BEGINNING or place.last_end == "")
 
 
+def is_alone(seen, name):
+    """Whether nearly each of these waits stands right behind the only task that it waits for: none of these overlap."""
+    return 10 * seen.alone[name] >= 9 * seen.waits[name] > 0
+
+
 def likely(facts, seen, change):
     if change.kind == "drop-wait":
-        free = all(seen.ordered[one.word] or one.word in facts.needless for one in change.requests)
+        free = all(seen.ordered[one.word] or one.word in facts.needless or is_alone(seen, one.word)
+                   for one in change.requests)
         return ORDERED if free else LIKELY["drop-wait"]
     if change.kind == "in-for-inout":
         place = holder(facts, change.place)

@@ -238,6 +238,15 @@ def words_of_chunks(facts, name, place):
             "of_turns": min(10 ** len(str(A_CHUNK * turns // place.cost)), most)}
 
 
+def less_locking(facts, names, lock, less):
+    """Where all ordered code together is short, threads wait since a thread's iterations lie far apart in the order."""
+    if lock.kind != "ordered":
+        return less + ": a copy for each thread"
+    if 4 * lock.inside < facts.elapsed:
+        return "schedule(static, 1) for the loop of %s" % names.place(lock.place)
+    return less + ": compute before it"
+
+
 def words_of_lock(facts, names, name):
     """By what it is told, how often it was entered or in what it is, and what to do."""
     told = {"lock": names.place(name), "times": "", "less_locking": "do less in %s" % names.place(name)}
@@ -247,8 +256,7 @@ def words_of_lock(facts, names, name):
             return {"lock": "the lock inside {function}".format(**called), "times": "called at {at}".format(**called),
                     "less_locking": ONE_AT_A_TIME[lock.function] + " at {at}".format(**called)}
         if name in (lock.place, lock.kind):
-            less = "compute before it" if lock.kind == "ordered" else "a copy for each thread"
-            told.update(times=times_of(lock), less_locking="%s: %s" % (told["less_locking"], less))
+            told.update(times=times_of(lock), less_locking=less_locking(facts, names, lock, told["less_locking"]))
             break
     return told
 

@@ -9,6 +9,9 @@ from itertools import compress
 from spanprof.program_text import is_programs, is_share, is_shared_out
 from spanprof.marks import as_statements
 
+SHORT = 10      # so many times as much as the code between a task and the wait for it does the task cost
+
+
 
 @dataclass
 class Survey:
@@ -17,6 +20,7 @@ class Survey:
     tasks: Counter = field(default_factory=Counter)
     waits: Counter = field(default_factory=Counter)         # taskwaits and taskgroups
     ordered: Counter = field(default_factory=Counter)       # of these, those of tasks that depend items order too
+    alone: Counter = field(default_factory=Counter)         # taskwaits right behind the only task that they wait for
     dependent: Counter = field(default_factory=Counter)     # tasks with depend items, by place
     items: Counter = field(default_factory=Counter)         # depend items, by their name
     undeferred: Counter = field(default_factory=Counter)    # undeferred tasks, by place
@@ -59,12 +63,14 @@ class Kind:
 
 
 def walk(found, out):
-    """Depth, what stands between creations, and which waits are for tasks with depend items."""
+    """Depth, what stands between creations, and which waits are for tasks with depend items or for one task alone."""
     kinds, between = [Kind(one) for one in found.known], Counter()
     deepest, since = 0, None    # what the code cost since a task's end; None after another thing
     tasks, groups, depth, has_items = [], [], 0, False  # of each open task what was before it; whether one has items
+    made = cost = total = 0     # tasks since the last wait, the cost of the last one and all below it, and all so far
     for number in found.row:
         if number >= 0:
+            total += number
             if since is not None:
                 since += number
             continue
@@ -72,18 +78,21 @@ def walk(found, out):
         if kind.is_task:
             if since is not None and kind.is_programs:
                 between[since] += 1
-            tasks.append((has_items or kind.has_items, depth))
-            has_items, depth = False, depth + kind.is_level
+            tasks.append((has_items or kind.has_items, depth, made + kind.is_programs, total))
+            has_items, depth, made = False, depth + kind.is_level, 0
             if depth > deepest:
                 deepest = depth
         elif kind.is_end_of_task:
-            has_items, depth = tasks.pop()
-            since = 0
+            has_items, depth, made, cost = tasks.pop()
+            since, cost = 0, total - cost
             continue
         elif kind.is_group:
             groups.append(kind.name)
         else:
             out.ordered[kind.name if kind.is_wait else groups.pop()] += has_items
+            if kind.is_wait:
+                out.alone[kind.name] += made == 1 and since is not None and SHORT * since <= cost
+                made = 0
         since = None
     out.depth, out.between = deepest, between
 

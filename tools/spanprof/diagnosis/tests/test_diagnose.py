@@ -18,7 +18,7 @@ class Bench:
     """Greedy ends by the requests that are made; a change that is not there cannot be made."""
 
     def __init__(self, ends, ordered=()):
-        self.ends, self.seen = ends, SimpleNamespace(ordered=Counter(ordered))
+        self.ends, self.seen = ends, SimpleNamespace(ordered=Counter(ordered), alone=Counter(), waits=Counter())
 
     def candidates(self):
         return [Change(requests) for requests in self.ends if len(requests) == 1 and requests]
@@ -170,9 +170,12 @@ class Steps(unittest.TestCase):
         self.assertEqual(bound_of(run, 100 * MS, lost._replace(kind="lock")).after, 75 * MS)
 
     def test_a_wait_that_some_turns_reach_is_likely_needless(self):
-        change, seen = single("drop-wait", "taskwait at a.c:9"), SimpleNamespace(ordered={"taskwait at a.c:9": 0})
+        change = single("drop-wait", "taskwait at a.c:9")
+        seen = SimpleNamespace(ordered=Counter(), alone=Counter(), waits=Counter({"taskwait at a.c:9": 10}))
         self.assertEqual(likely(facts(), seen, change), 0.3)
         self.assertEqual(likely(facts(needless={"taskwait at a.c:9"}), seen, change), 0.9)
+        seen.alone["taskwait at a.c:9"] = 9
+        self.assertEqual(likely(facts(), seen, change), 0.9)
 
     def test_the_ends_of_a_program(self):
         begins = place(BEGINS, SERIAL)

@@ -14,8 +14,9 @@ from spanprof.diagnosis.names import Names, Suspect, block_end, items_in
 from spanprof.diagnosis.places import AFTER_REGION, OF_THREADS, OWN, SERIAL, SHARE, TASK, Place
 from spanprof.diagnosis.plan import Step
 from spanprof.diagnosis.schema import as_json
-from spanprof.diagnosis.sentences import (WIDTH, after_words, change_sentence, first_digits, joined, lost_sentence,
-                                          short_lines, shortened, speed_words, sum_lines, times_of, waits, who_asked)
+from spanprof.diagnosis.sentences import (WIDTH, after_words, change_sentence, first_digits, joined, less_locking,
+                                          lost_sentence, short_lines, shortened, speed_words, sum_lines, times_of, waits,
+                                          who_asked)
 from spanprof.diagnosis.tests.worked import MS, facts, place
 from spanprof.source_lines import Line
 
@@ -108,6 +109,14 @@ class Named(unittest.TestCase):
         self.assertEqual(Names(run, sources).at("image.c:2"), "image.c:5")
         run.is_of_gcc = False
         self.assertEqual(Names(run, sources).place("image.c:2"), "ordered at image.c:2")
+
+    def test_short_ordered_code_waits_for_its_turn(self):
+        lock = Held("image.c:8", "ordered", 64, 10 * MS, 300 * MS)
+        run = facts(locks=[lock])
+        self.assertEqual(less_locking(run, Names(run, None), lock, "do less"),
+                         "schedule(static, 1) for the loop of ordered at image.c:8")
+        lock.inside = 90 * MS
+        self.assertEqual(less_locking(run, Names(run, None), lock, "do less"), "do less: compute before it")
 
     def test_a_block_ends_where_it_closes(self):
         self.assertEqual(block_end(SOURCE, 13), 14)
