@@ -16,11 +16,6 @@ class Setting:
         return f"{self.shows}: `{' '.join(filter(None, told))}`" if any(told) else self.shows
 
 
-def barriers_of(pattern):
-    """The variables by which LLVM's runtime takes other barriers."""
-    return {f"KMP_{kind}_BARRIER_PATTERN": f"{pattern},{pattern}" for kind in ("PLAIN", "FORKJOIN", "REDUCTION")}
-
-
 SETTINGS = {
     "free": Setting("as the runtime is by itself"),
     "priorities": Setting("priorities count", {"OMP_MAX_TASK_PRIORITY": "9"}),
@@ -42,9 +37,6 @@ SETTINGS = {
                            {"OMP_CANCELLATION": "true", "CONFORMANCE_TEAM": "cancellable"}),
     "unthrottled": Setting("queues of ready tasks grow", {"KMP_ENABLE_TASK_THROTTLING": "0"}, families=("kmp",)),
     "unconstrained": Setting("threads take any task", {"KMP_TASK_STEALING_CONSTRAINT": "0"}, families=("kmp",)),
-    "trees": Setting("threads meet in a tree", barriers_of("tree"), families=("kmp",)),
-    "hierarchical": Setting("threads meet by a machine's levels", barriers_of("hierarchical"), families=("kmp",)),
-    "distributed": Setting("threads meet at flags of their own", barriers_of("dist"), families=("kmp",)),
 }
 
 
