@@ -12,7 +12,6 @@ from spanprof.marks import as_statements
 SHORT = 10      # so many times as much as the code between a task and the wait for it does the task cost
 
 
-
 @dataclass
 class Survey:
     """Counts by name."""

@@ -15,8 +15,8 @@ from spanprof.diagnosis.places import AFTER_REGION, OF_THREADS, OWN, SERIAL, SHA
 from spanprof.diagnosis.plan import Step
 from spanprof.diagnosis.schema import as_json
 from spanprof.diagnosis.sentences import (WIDTH, after_words, change_sentence, first_digits, joined, less_locking,
-                                          lost_sentence, short_lines, shortened, speed_words, sum_lines, times_of, waits,
-                                          who_asked)
+                                          lost_sentence, short_lines, shortened, speed_words, sum_lines, times_of,
+                                          waits, who_asked)
 from spanprof.diagnosis.tests.worked import MS, facts, place
 from spanprof.source_lines import Line
 
