@@ -94,11 +94,22 @@ def deferred(facts):
     return facts.tasks - sum(place.undeferred for place in facts.places.values())
 
 
+def made_tasks(facts):
+    """The places of the tasks that the program makes."""
+    return [place for place in facts.places.values() if place.tasks and place.kind not in (SHARE, OF_THREADS)]
+
+
 def average_task(facts):
-    """Nanoseconds of code in one of the tasks that the program makes."""
-    made = [place for place in facts.places.values() if place.tasks and place.kind not in (SHARE, OF_THREADS)]
+    """Nanoseconds of code in one of them."""
+    made = made_tasks(facts)
     tasks = sum(place.tasks for place in made)
     return sum(place.cost for place in made) // tasks if tasks else 0
+
+
+def finest_name(facts):
+    """The tasks of which there are most: what creating tasks costs goes by their number."""
+    most = max(made_tasks(facts), key=lambda place: place.tasks, default=heaviest(facts))
+    return most.name if most else ""
 
 
 def is_maker(place):
@@ -458,7 +469,7 @@ def calls_of_runtime(facts, name):
     times = [(facts.chunks.get(where(name), [0])[0], "small_chunks", name)]
     times += [(lock.times, "lock", lock_name(lock)) for lock in facts.locks]
     if place.tasks and place.kind != SHARE or place.is_creating:
-        times.append((facts.tasks, fine_kind(facts), heaviest_name(facts)))
+        times.append((facts.tasks, fine_kind(facts), finest_name(facts)))
     if place.kind == OF_THREADS and begins_often(facts, place):
         times.append((place.pieces, "small_regions", name))
     return times
@@ -517,7 +528,7 @@ def losses(facts):
         [Loss("recorder", "", facts.recorder), Loss("startup", "", facts.outside)]
     missing = missing_threads(facts)
     one_place = {**dict.fromkeys(("too_many_threads", "affinity"), crowded_region(facts)),
-                 **dict.fromkeys(FINE, heaviest_name(facts)),
+                 **dict.fromkeys(FINE, finest_name(facts)),
                  "too_few_threads": max(missing, key=missing.get, default=""),
                  "small_regions": most_often(facts, found)}
     known = {"undeferred": heaviest_name(facts)}      # without times too

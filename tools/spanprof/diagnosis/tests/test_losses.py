@@ -3,7 +3,8 @@ import unittest
 
 from spanprof.diagnosis.calls import Sampled
 from spanprof.diagnosis.facts import Region
-from spanprof.diagnosis.losses import Loss, by_place, code_on_one, divided, losses, missing_threads, system_time
+from spanprof.diagnosis.losses import (Loss, by_place, code_on_one, divided, finest_name, losses, missing_threads,
+                                       system_time)
 from spanprof.diagnosis.places import OF_THREADS, SERIAL, SHARE, TASK
 from spanprof.diagnosis.tests.worked import MS, facts, place
 
@@ -37,6 +38,10 @@ class Losses(unittest.TestCase):
         lost = {kind: sum(loss.time for loss in found if loss.kind == kind) for kind in ("too_few_threads",
                                                                                          "loop_schedule")}
         self.assertEqual(lost, {"too_few_threads": 180 * MS, "loop_schedule": 20 * MS})
+
+    def test_tasks_are_too_small_where_most_of_them_are_made(self):
+        large, small = place("task at a.c:1", cost=80 * MS, tasks=8), place("task at a.c:9", cost=9 * MS, tasks=9000)
+        self.assertEqual(finest_name(facts([large, small])), "task at a.c:9")
 
     def test_a_team_of_as_many_as_were_asked_for_lacks_none(self):
         team = [Region("a.c:2", 2, 90 * MS)]
