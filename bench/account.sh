@@ -8,7 +8,7 @@ set -euo pipefail
 . "$(dirname "$0")/common.sh"
 [ $# -gt 0 ] || set -- 10000 100000 1000000
 if [ -z "${LARGE:-}" ]; then
-    "$top/tools/prove_program.sh" spanprof_large > "$scratch/told" 2>&1 || { cat "$scratch/told" >&2; exit 1; }
+    "$top/tools/prove_program.sh" spanprof_large > "$scratch/output" 2>&1 || { cat "$scratch/output" >&2; exit 1; }
     LARGE=$top/crates/spanprof_large/out/spanprof_large
 fi
 build_reference

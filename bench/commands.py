@@ -30,8 +30,8 @@ def commands(name, segments):
 
 
 def segments_of(path):
-    told, _, _ = run([PLAIN, "span"], path)
-    return int(told[1].split()[1])
+    reported, _, _ = run([PLAIN, "span"], path)
+    return int(reported[1].split()[1])
 
 
 def certificate_of(path):
@@ -51,15 +51,15 @@ def called(words):
 def tell(name, words, path):
     asked = called(words)
     lead = "%-14s %-20s" % (name, asked)
-    (told, mine), (other, plain) = best_in_turns([[program, *words] for program in (PROGRAM, PLAIN)], path, 0)
-    if told is None:
+    (reported, mine), (other, plain) = best_in_turns([[program, *words] for program in (PROGRAM, PLAIN)], path, 0)
+    if reported is None:
         print(lead + " over %d s" % TIMEOUT, flush=True)
         return
     if other is None:
         print(lead + " %9.1f  plain: over %d s" % (mine, TIMEOUT), flush=True)
         return
     memory = [peak([program, *words], path) for program in (PROGRAM, PLAIN)]
-    verdict = "" if told == other else "  DIFFERENT"
+    verdict = "" if reported == other else "  DIFFERENT"
     print(lead + " %9.1f %9.1f %6.2f %8.1f %8.1f %6.2f%s" % (
         mine, plain, mine / plain, *memory, memory[0] / memory[1], verdict), flush=True)
 
@@ -130,10 +130,10 @@ def shares(words, path):
     with open(path, "rb") as text:
         subprocess.run(["perf", "record", "-q", "-F", "20000", "-o", data, PROGRAM, *words], stdin=text,
                        stdout=subprocess.DEVNULL, stderr=subprocess.DEVNULL, check=True)
-    told = subprocess.run(["perf", "report", "-i", data, "--stdio", "--no-children", "-F", "overhead,dso,sym"],
-                          capture_output=True, text=True, check=True)
+    reported = subprocess.run(["perf", "report", "-i", data, "--stdio", "--no-children", "-F", "overhead,dso,sym"],
+                              capture_output=True, text=True, check=True)
     found = dict.fromkeys([*STAGES, "memory", "kernel", "other"], 0.0)
-    for line in told.stdout.splitlines():
+    for line in reported.stdout.splitlines():
         fields = line.split(None, 3)
         if len(fields) < 4 or not fields[0].endswith("%"):
             continue

@@ -13,7 +13,7 @@ import large_texts
 import make_texts
 
 
-def told(main, words):
+def reported(main, words):
     """What is printed, what is said of an error, and the status."""
     printed, said, status = io.StringIO(), io.StringIO(), 0
     with contextlib.redirect_stdout(printed), contextlib.redirect_stderr(said):
@@ -32,7 +32,7 @@ class Words(unittest.TestCase):
 
     def test_help_makes_nothing(self):
         for script in (make_texts, large_texts):
-            printed, said, status = told(script.main, ["--help"])
+            printed, said, status = reported(script.main, ["--help"])
             self.assertIn("usage:", printed)
             self.assertIn("".join(script.__doc__.split()), "".join(printed.split()))
             self.assertEqual((said, status), ("", 0))
@@ -41,7 +41,7 @@ class Words(unittest.TestCase):
     def test_wrong_words_make_nothing(self):
         for script, wrong in ((make_texts, []), (make_texts, ["--texts"]), (make_texts, ["one", "two"]),
                               (large_texts, ["chain"]), (large_texts, ["ring", "3"]), (large_texts, ["chain", "-3"])):
-            printed, said, status = told(script.main, wrong)
+            printed, said, status = reported(script.main, wrong)
             self.assertIn("usage:", said)
             self.assertEqual((printed, status), ("", 2))
         self.assertEqual(os.listdir(self.folder), [])

@@ -16,8 +16,8 @@ def python(code):
 
 class Processes(unittest.TestCase):
     def test_what_is_printed_and_the_status_come_back(self):
-        told, busy, wall = run(python("print('told'); raise SystemExit(1)"), os.devnull)
-        self.assertEqual(told, (1, b"told\n"))
+        reported, busy, wall = run(python("print('told'); raise SystemExit(1)"), os.devnull)
+        self.assertEqual(reported, (1, b"told\n"))
         self.assertTrue(0 < busy and 0 < wall)
 
     def test_sleep_is_no_time_of_the_processor(self):
@@ -36,7 +36,7 @@ class Processes(unittest.TestCase):
 class Turns(unittest.TestCase):
     """Runs whose times stand in lists, the processor's and the wall's; a time of None is a run that is too slow."""
 
-    def told(self, times, column=0):
+    def reported(self, times, column=0):
         left, self.ran = {name: list(rows) for name, rows in times.items()}, []
 
         def fake(words, _path):
@@ -51,22 +51,22 @@ class Turns(unittest.TestCase):
 
     def test_the_least_of_each_and_in_turns(self):
         times = {"a": [(5, 9), (3, 8), (4, 7)], "b": [(6, 6), (7, 5), (8, 4)]}
-        self.assertEqual(self.told(times), [("A", 3), ("B", 6)])
+        self.assertEqual(self.reported(times), [("A", 3), ("B", 6)])
         self.assertEqual(self.ran, ["a", "b"] * 3)
-        self.assertEqual(self.told(times, 1), [("A", 7), ("B", 4)])
+        self.assertEqual(self.reported(times, 1), [("A", 7), ("B", 4)])
 
     def test_what_takes_long_runs_once(self):
-        self.assertEqual(self.told({"a": [(6000, 1)], "b": [(2, 1), (1, 1), (3, 1)]}), [("A", 6000), ("B", 1)])
+        self.assertEqual(self.reported({"a": [(6000, 1)], "b": [(2, 1), (1, 1), (3, 1)]}), [("A", 6000), ("B", 1)])
         self.assertEqual(self.ran, ["a", "b", "b", "b"])
 
     def test_what_is_too_slow_has_no_time(self):
-        (told, least), other = self.told({"a": [None], "b": [(2, 1), (1, 1), (3, 1)]})
-        self.assertEqual((told, least, other), (None, float("inf"), ("B", 1)))
+        (reported, least), other = self.reported({"a": [None], "b": [(2, 1), (1, 1), (3, 1)]})
+        self.assertEqual((reported, least, other), (None, float("inf"), ("B", 1)))
         self.assertEqual(self.ran, ["a", "b", "b", "b"])
 
     def test_one_run_that_is_too_slow_is_not_hidden_by_the_others(self):
-        (told, least), other = self.told({"a": [(5, 9), None, (3, 8)], "b": [(2, 1), (1, 1), (3, 1)]})
-        self.assertEqual((told, least, other), (None, float("inf"), ("B", 1)))
+        (reported, least), other = self.reported({"a": [(5, 9), None, (3, 8)], "b": [(2, 1), (1, 1), (3, 1)]})
+        self.assertEqual((reported, least, other), (None, float("inf"), ("B", 1)))
         self.assertEqual(self.ran, ["a", "b", "a", "b", "b"])
 
     def test_alone_it_is_an_error(self):

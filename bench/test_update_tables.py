@@ -36,8 +36,8 @@ class Rows(unittest.TestCase):
 
 class Tables(unittest.TestCase):
     def test_lines_before_the_head_are_left_out(self):
-        told = "1700 reports on 100 random programs: 0 different\n" + TABLE
-        self.assertEqual(table_of(told, "instructions"), TABLE.splitlines())
+        reported = "1700 reports on 100 random programs: 0 different\n" + TABLE
+        self.assertEqual(table_of(reported, "instructions"), TABLE.splitlines())
 
     def test_no_table(self):
         for printed in ("", TABLE.splitlines()[0] + "\n", TABLE + TABLE, "chain span 20.9 15.2 1.38\n"):

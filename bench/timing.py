@@ -36,32 +36,32 @@ def run(words, path):
 def peak(words, path):
     """The peak of memory in MiB."""
     with open(path, "rb") as text:
-        told = subprocess.run(["/usr/bin/time", "-f", "%M", *words], stdin=text, stdout=subprocess.DEVNULL,
-                              stderr=subprocess.PIPE, check=False)
-    return int(told.stderr.split()[-1]) / 1024
+        reported = subprocess.run(["/usr/bin/time", "-f", "%M", *words], stdin=text, stdout=subprocess.DEVNULL,
+                                  stderr=subprocess.PIPE, check=False)
+    return int(reported.stderr.split()[-1]) / 1024
 
 
 def best_in_turns(asked, path, column):
     """For each list of words what it printed and the least of its times, or nothing where a run took too long. They run
     in turns, so that a slow minute of the machine meets them all. Column 0 is the processor's time, 1 the wall's."""
-    told, least, going = [None] * len(asked), [float("inf")] * len(asked), set(range(len(asked)))
+    reported, least, going = [None] * len(asked), [float("inf")] * len(asked), set(range(len(asked)))
     for _ in range(RUNS):
         for number in sorted(going):
             try:
-                told[number], *times = run(asked[number], path)
+                reported[number], *times = run(asked[number], path)
             except TooSlow:
-                told[number], least[number] = None, float("inf")
+                reported[number], least[number] = None, float("inf")
                 going.remove(number)
                 continue
             least[number] = min(least[number], times[column])
             if least[number] >= LONG:
                 going.remove(number)
-    return list(zip(told, least))
+    return list(zip(reported, least))
 
 
 def best(words, path, column):
     """What the words printed, and the least of their times."""
-    told, least = best_in_turns([words], path, column)[0]
-    if told is None:
+    reported, least = best_in_turns([words], path, column)[0]
+    if reported is None:
         raise TooSlow
-    return told, least
+    return reported, least

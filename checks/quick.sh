@@ -29,12 +29,12 @@ trap 'rm -rf "$answers"' EXIT
 
 # answer NAME WORD..: runs the words, which have to end with status 0.
 answer() {
-    local name=$1 told
+    local name=$1 reported
     shift
-    if told=$("$@" 2>&1); then
-        case $told in 'skipped: '*) echo "skipped $name: ${told#skipped: }" ;; *) echo "ok      $name" ;; esac
+    if reported=$("$@" 2>&1); then
+        case $reported in 'skipped: '*) echo "skipped $name: ${reported#skipped: }" ;; *) echo "ok      $name" ;; esac
     else
-        printf 'FAILED  %s\n%s\n' "$name" "$told"
+        printf 'FAILED  %s\n%s\n' "$name" "$reported"
     fi
 }
 

@@ -105,11 +105,12 @@ def build(kit, name, archive, module):
     with tempfile.TemporaryDirectory() as scratch:
         toolchain = keeping(kit + "/toolchain", scratch, module) if module else kit + "/toolchain"
         jobs = min(MOST_JOBS, len(os.sched_getaffinity(0)))
-        told = run([kit + "/bin/rattle", "build", *words_of(TOP, kit, crates, name), "--jobs", str(jobs), "--toolchain",
-                    toolchain, "--backend", "llvm", "-o", archive], folder)
-    proved = re.findall(r"^logic=proved .*", told, re.M)
+        reported = run([kit + "/bin/rattle", "build", *words_of(TOP, kit, crates, name), "--jobs", str(jobs),
+                        "--toolchain",
+                        toolchain, "--backend", "llvm", "-o", archive], folder)
+    proved = re.findall(r"^logic=proved .*", reported, re.M)
     if not proved or (module and not os.path.isfile(module)):
-        raise NotBuilt("it is not proved, or its module was not kept:\n" + told[-4000:])
+        raise NotBuilt("it is not proved, or its module was not kept:\n" + reported[-4000:])
     return proved[-1]
 
 

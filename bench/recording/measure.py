@@ -83,9 +83,9 @@ def region_of(built, runtime, way, count, loops):
     with tempfile.TemporaryDirectory() as folder:
         out = os.path.join(folder, "out")
         words = [built.program("tasks-" + runtime), str(count), str(loops)]
-        told = numbers(words, environment(built.tool(way), way, out, variable))
+        reported = numbers(words, environment(built.tool(way), way, out, variable))
         log = os.path.join(out + ".spanprof", "log")
-        return told[1] / count / 1000, size_of(log) / count if os.path.exists(log) else 0
+        return reported[1] / count / 1000, size_of(log) / count if os.path.exists(log) else 0
 
 
 def calls_of(built, way):

@@ -20,9 +20,10 @@ class Measures(unittest.TestCase):
 
     def test_each_way_has_its_tool_and_clock(self):
         self.assertEqual([BUILT.tool(way) for way in WAYS], ["", "/built/nothing.so", "/r.so", "/r.so"])
-        told = [environment(BUILT.tool(way), way, "o") for way in WAYS]
-        self.assertEqual([one.get("OMP_TOOL_LIBRARIES") for one in told], [None, "/built/nothing.so", "/r.so", "/r.so"])
-        self.assertEqual([one.get("SPANPROF_CLOCK") for one in told], [None, None, None, "cpu"])
+        reported = [environment(BUILT.tool(way), way, "o") for way in WAYS]
+        self.assertEqual([one.get("OMP_TOOL_LIBRARIES") for one in reported],
+                         [None, "/built/nothing.so", "/r.so", "/r.so"])
+        self.assertEqual([one.get("SPANPROF_CLOCK") for one in reported], [None, None, None, "cpu"])
 
     def test_gccs_runtime_loads_no_tool(self):
         self.assertEqual(BUILT.ways_of("gcc-12"), [WAYS[0], WAYS[2]])

@@ -105,15 +105,16 @@ def compare(rng, program):
 def main():
     count = int(sys.argv[1]) if len(sys.argv) > 1 else 1000
     program = sys.argv[2] if len(sys.argv) > 2 else str(BUILT)
-    rng, told = random.Random(1), collections.Counter()
+    rng, reported = random.Random(1), collections.Counter()
     try:
         for _ in range(count):
-            told[compare(rng, program)] += 1
+            reported[compare(rng, program)] += 1
     except (OSError, Wrong) as wrong:
         print(wrong)
         return 1
-    print(f"{count} logs: {told['apart']} apart, {told['overlap']} with an overlap, {told['error:']} with a wrong line")
-    return 0 if min(told.values()) > 0 and len(told) == 3 else 1
+    print(f"{count} logs: {reported['apart']} apart, {reported['overlap']} with an overlap, "
+          f"{reported['error:']} with a wrong line")
+    return 0 if min(reported.values()) > 0 and len(reported) == 3 else 1
 
 
 if __name__ == "__main__":

@@ -48,8 +48,8 @@ def compare(large, file):
     """One program, whose text is in the file."""
     text = file.read_text()
     with open(file, "rb") as given:
-        told = subprocess.run(large + ["slack"], stdin=given, capture_output=True, text=True, check=True).stdout
-    costs, starts, chain = rows_of(told)
+        reported = subprocess.run(large + ["slack"], stdin=given, capture_output=True, text=True, check=True).stdout
+    costs, starts, chain = rows_of(reported)
     graph = whole_graph.read(text.splitlines())
     check_rows(graph, costs, starts, chain)
     answers = Answers(str(file))
@@ -102,10 +102,10 @@ def measure_large(name, made, folder):
     file = folder / "large.tasks"
     file.write_text(text)
     took, most = run([COMMAND, file], folder / "told")
-    told = (folder / "told").read_text()
+    reported = (folder / "told").read_text()
     wanted = "work %d, span %d, parallelism %.1f, " % (work, span, work / span)
-    if not told.startswith(wanted) or " of %d segments on" % count not in told:
-        raise Wrong("%s: %s, and not %s" % (name, told.split("\n")[0], wanted))
+    if not reported.startswith(wanted) or " of %d segments on" % count not in reported:
+        raise Wrong("%s: %s, and not %s" % (name, reported.split("\n")[0], wanted))
     print("%s: %s tasks, %.1f MB of text; %.2f s, and %d MB for its largest process (measured)" % (
         name, format(tasks, ","), len(text) / 1e6, took, most), flush=True)
 

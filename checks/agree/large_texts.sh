@@ -26,11 +26,11 @@ longest_last_line() { echo 'omptasks 3'; zeros "$line"; }
 longer_last_line() { echo 'omptasks 3'; zeros $((line + 1)); }
 
 try() { # TEXT STATUS WORDS: the program's words and its status of what this function writes
-    local told status=0 began=$SECONDS
+    local reported status=0 began=$SECONDS
     # the program need not read all of a text that is too long
-    told=$({ "$1" 2> /dev/null || true; } | "$large") || status=$?
-    echo "$1: $told, status $status, $((SECONDS - began)) s"
-    [ "$told" = "$3" ] && [ "$status" = "$2" ] || { echo "  wanted: $3, status $2"; wrong=1; }
+    reported=$({ "$1" 2> /dev/null || true; } | "$large") || status=$?
+    echo "$1: $reported, status $status, $((SECONDS - began)) s"
+    [ "$reported" = "$3" ] && [ "$status" = "$2" ] || { echo "  wanted: $3, status $2"; wrong=1; }
 }
 
 header='error: line 1: BadHeader' long='error: input too long'

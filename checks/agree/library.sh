@@ -46,9 +46,9 @@ cc "${flags[@]}" -fsanitize=address,undefined -fno-sanitize-recover=all -o "$fol
 python3 -B checks/agree/library/compare.py "$program" "$folder/ask" "$folder/ask_sanitized" || fail "it differs"
 python3 -B checks/agree/library/others.py "$folder/ask" "$folder/ask_sanitized" "$program" \
     "$(realpath -m "${SPANPROF_LARGE:-crates/spanprof_large/out/spanprof_large}")" || fail "the rest differs"
-python3 -B checks/hostile/refused_growths.py library "$folder/ask" > "$folder/told" ||
-    { fail "with allocations refused"; cat "$folder/told"; }
-tail -n 1 "$folder/told"
+python3 -B checks/hostile/refused_growths.py library "$folder/ask" > "$folder/output" ||
+    { fail "with allocations refused"; cat "$folder/output"; }
+tail -n 1 "$folder/output"
 (ulimit -s 256 && "$folder/ask" slack < examples/openmp/recorded/cholesky.tasks > /dev/null) || fail "with a stack of 256 KB"
 python3 -B checks/agree/library/documented.py "$library" "$folder" || fail "the page's examples"
 python3 -B checks/agree/library/wheel.py "$library" "$folder" || fail "the wheel"

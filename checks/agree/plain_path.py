@@ -74,9 +74,9 @@ def places_of(text):
     return names
 
 
-def rows_of(told):
+def rows_of(reported):
     """Costs, earliest starts, and the segments of the chain."""
-    rows = [{name: int(value) for name, value in row.items()} for row in csv.DictReader(told.splitlines())]
+    rows = [{name: int(value) for name, value in row.items()} for row in csv.DictReader(reported.splitlines())]
     if [row["segment"] for row in rows] != list(range(len(rows))):
         raise Wrong("the segments are not numbered from 0")
     return ([row["cost"] for row in rows], [row["start"] for row in rows],

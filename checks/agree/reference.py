@@ -116,11 +116,11 @@ def compare_text(small, large, text, seed):
     """Each command on a text; certificates, replays and lists of changes of it, right ones and others."""
     rng = random.Random(seed)
     for words in OF_SMALL:
-        told = small.compare(words, text)
+        reported = small.compare(words, text)
     for words in OF_LARGE:
         large.compare(words, text)
-    certificates = [told] if "\n---\n" in told else []
-    certificates += [random_programs.with_another_number(told, rng) for _ in range(3) if certificates]
+    certificates = [reported] if "\n---\n" in reported else []
+    certificates += [random_programs.with_another_number(reported, rng) for _ in range(3) if certificates]
     text = text.decode(errors="replace") if isinstance(text, bytes) else text
     segments = random_programs.segments_told(small.compare("span", text))
     replays = [draw_document(rng, text, min(segments, 2_000)) for _ in range(2)]

@@ -25,8 +25,8 @@ class Documents(unittest.TestCase):
                                                     ("spanprof span < worked.tasks | tail -1", "span 9\n")])
 
     def test_what_a_command_prints_now(self):
-        told = replaced(PAGE, "spanprof span < worked.tasks", "work 11\n", "work 12\n")
-        self.assertEqual(told, PAGE.replace("work 11", "work 12"))
+        reported = replaced(PAGE, "spanprof span < worked.tasks", "work 11\n", "work 12\n")
+        self.assertEqual(reported, PAGE.replace("work 11", "work 12"))
         self.assertEqual(replaced(PAGE, "spanprof show", "work 11\n", "work 12\n"), PAGE)
 
     def test_what_is_left_out(self):

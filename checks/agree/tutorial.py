@@ -80,9 +80,9 @@ def main():
     pairs, wrong = list(commands(os.path.join(folder, DOCUMENT))), 0
     ends = run_all(pairs, folder)
     for (command, expected), (printed, status) in zip(pairs, ends):
-        told = fault(expected, printed, status)
-        wrong += bool(told)
-        print("%s: %s\n%s" % (DOCUMENT, command, told) if told else "right: " + command)
+        reported = fault(expected, printed, status)
+        wrong += bool(reported)
+        print("%s: %s\n%s" % (DOCUMENT, command, reported) if reported else "right: " + command)
     if len(ends) != len(pairs) or left_behind(folder):
         wrong += 1
         print("%d of %d commands ended; git finds %s" % (len(ends), len(pairs), left_behind(folder) or "nothing"))

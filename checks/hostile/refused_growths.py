@@ -14,7 +14,7 @@ memory and ends with that status, or writes `error: out of memory` and ends with
 allocation refused, and passes. Anything else is a wrong answer, as are a crash, a run of more than 60 seconds, and a
 test or a command that meets no allocation. The start of a thread is an allocation too.
 
-With `gate` nothing is refused from outside. Of each test in which little memory is left it is told how many allocations
+With `gate` nothing is refused from outside. Of each test in which little memory is left it says how many allocations
 were the first that was refused, and which were not. A block that grows and is already long enough, which the C library
 never refuses, is told apart.
 
@@ -194,7 +194,7 @@ def listed(refuser, program):
 
 
 def places(refuser, program):
-    """Places: some that are told, and every kind of refusal."""
+    """Places: some that are reported, and every kind of refusal."""
     for text in (f"{WORKED}---\n0 1 0 0\n", WORKED, "omptasks 1\ntask {", f"{WORKED}---\n0 1 0 4\n",
                  f"{WORKED}---\n0 1 0\n", f"{WORKED}---\n0 1 0 0\n---\n{TIMES}\n",
                  f"{WORKED}---\n0 1 0 0\n---\ntimes 2 0 14\n"):

@@ -60,20 +60,20 @@ def names_of(name):
 
 def told_of(log, out, settings):
     variables = dict(os.environ, **settings)
-    told = convert(converter(print), log, out, variables)
+    reported = convert(converter(print), log, out, variables)
     if variables.get("SPANPROF_WHOLE") == "1" and os.path.exists(out + ".tasks"):
         others = segments.differing(out + ".tasks", out + ".segments")
         if others:
             raise Wrong("%s.segments has another %s than the text" % (out, ", ".join(others)))
-    return told
+    return reported
 
 
 def texts(name, settings=(), out=None):
     """Makes texts of all logs of a run, each with the name of its recording. What the converter says, and whether it
     failed."""
-    told = [one for each in names_of(name) for one in told_of(log_of(each), out or each, dict(settings))]
-    said = [in_words(one) for one in told]
-    return "".join(line + "\n" for line in said), has_failed(told)
+    reported = [one for each in names_of(name) for one in told_of(log_of(each), out or each, dict(settings))]
+    said = [in_words(one) for one in reported]
+    return "".join(line + "\n" for line in said), has_failed(reported)
 
 
 def made_texts(name, settings=(), out=None):

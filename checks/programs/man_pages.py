@@ -66,9 +66,9 @@ def options_of_help(name, words):
     return set(re.findall(r"(?m)(?<![\w-])--[a-z-]+", help_of(name, words).split("options:")[1]))
 
 
-def statuses_of_help(told):
+def statuses_of_help(reported):
     """Those beside 0 that it names in a sentence on the exit status."""
-    sentence = re.search(r"xit status ([^.]*)\.", " ".join(told.split()))
+    sentence = re.search(r"xit status ([^.]*)\.", " ".join(reported.split()))
     return set(STATUS.findall(sentence[1])) - {"0"} if sentence else set()
 
 
@@ -80,10 +80,10 @@ def options_of_page(page):
     return set(re.findall(r"(?m)(?<![\w-])--[a-z-]+", page.split("\nOPTIONS\n")[1].split("\nEXIT STATUS\n")[0]))
 
 
-def differences(what, page, told):
-    for word in sorted(told - page):
+def differences(what, page, reported):
+    for word in sorted(reported - page):
         yield "%s: the page lacks %s" % (what, word)
-    for word in sorted(page - told):
+    for word in sorted(page - reported):
         yield "%s: only the page has %s" % (what, word)
 
 
@@ -106,11 +106,11 @@ def faults():
         yield from ("%s.1: %s" % (name, line) for line in complaints.splitlines())
         if name == "spanprof":
             found = told_in_page(page)
-            for what, told in told_in_formats().items():
-                yield from differences("spanprof.1, " + what, found[what], told)
+            for what, reported in told_in_formats().items():
+                yield from differences("spanprof.1, " + what, found[what], reported)
         else:
-            told = set().union(*(options_of_help(name, words) for words in HELP[name]))
-            yield from differences(name + ".1", options_of_page(page), told)
+            reported = set().union(*(options_of_help(name, words) for words in HELP[name]))
+            yield from differences(name + ".1", options_of_page(page), reported)
             yield from differences(name + ".1, exit statuses", statuses_of_page(page), statuses_of_help(help_of(name)))
 
 

@@ -18,13 +18,13 @@ fail() { echo "  $1"; wrong=$((wrong + 1)); }
 
 # answers NAME: what each tool prints of the text; SPANPROF_LARGE says by which program.
 answers() {
-    local told=$folder/$1
+    local reported=$folder/$1
     {
         tools/spanprof-path $text
         tools/spanprof-whatif $text --drop-wait 'taskgroup at merge_sort.c:33'
         tools/spanprof-whatif $text --drop-wait 'taskgroup at merge_sort.c:33' --json
-        tools/spanprof-report $text -o "$told.html" --json
-    } > "$told" 2> "$told.said" || { fail "$1: a tool fails"; cat "$told.said"; }
+        tools/spanprof-report $text -o "$reported.html" --json
+    } > "$reported" 2> "$reported.said" || { fail "$1: a tool fails"; cat "$reported.said"; }
 }
 
 # has NAME WORDS, lacks NAME: of the tools' lines and the page alike.

@@ -42,17 +42,17 @@ runs() {
     echo "$2"
 }
 
-SPANPROF=/none tools/release.sh "$folder/none" 2> "$folder/told" && fail "a release without a program"
-grep -q '^release.sh: /none: no such program' "$folder/told" || fail "no word of the program"
-tools/release.sh "$folder/release" > "$folder/told" || { fail "no release"; cat "$folder/told"; }
+SPANPROF=/none tools/release.sh "$folder/none" 2> "$folder/output" && fail "a release without a program"
+grep -q '^release.sh: /none: no such program' "$folder/output" || fail "no word of the program"
+tools/release.sh "$folder/release" > "$folder/output" || { fail "no release"; cat "$folder/output"; }
 (cd "$folder/release" && sha256sum --quiet -c SHA256SUMS) || fail "the checksums"
 mkdir "$folder/unpacked"
 tar -xzf "$folder"/release/*.tar.gz -C "$folder/unpacked"
 runs "$(echo "$folder"/unpacked/*)" "the tarball"
 
-if python3 -m venv "$folder/python" > "$folder/told" 2>&1; then
-    "$folder/python/bin/pip" install --quiet --no-index --no-deps "$folder"/release/*.whl > "$folder/told" 2>&1 ||
-        { fail "pip install"; cat "$folder/told"; }
+if python3 -m venv "$folder/python" > "$folder/output" 2>&1; then
+    "$folder/python/bin/pip" install --quiet --no-index --no-deps "$folder"/release/*.whl > "$folder/output" 2>&1 ||
+        { fail "pip install"; cat "$folder/output"; }
     runs "$folder/python" "the wheel"
 fi
 
@@ -60,12 +60,12 @@ root=$folder/root
 mkdir -p "$root/var/lib/dpkg/info" "$root/var/lib/dpkg/updates"
 touch "$root/var/lib/dpkg/status"
 on_root() { $as_root dpkg --root="$root" --force-depends --log=/dev/null "$@"; }
-on_root -i "$folder"/release/*.deb > "$folder/told" 2>&1 || { fail "dpkg -i"; cat "$folder/told"; }
+on_root -i "$folder"/release/*.deb > "$folder/output" 2>&1 || { fail "dpkg -i"; cat "$folder/output"; }
 runs "$root/usr" "the package"
-dpkg --admindir="$root/var/lib/dpkg" -s spanprof > "$folder/told"
-grep -q "^Version: $version$" "$folder/told" || fail "dpkg -s"
-grep -q "^Depends: libc6 (>= 2\.[0-9]*)" "$folder/told" || fail "the package does not say which glibc it needs"
-on_root -r spanprof > "$folder/told" 2>&1 || { fail "dpkg -r"; cat "$folder/told"; }
+dpkg --admindir="$root/var/lib/dpkg" -s spanprof > "$folder/output"
+grep -q "^Version: $version$" "$folder/output" || fail "dpkg -s"
+grep -q "^Depends: libc6 (>= 2\.[0-9]*)" "$folder/output" || fail "the package does not say which glibc it needs"
+on_root -r spanprof > "$folder/output" 2>&1 || { fail "dpkg -r"; cat "$folder/output"; }
 left=$(find "$root" -path "$root/var" -prune -o ! -type d -print)
 [ -z "$left" ] || fail "dpkg -r leaves $left"
 echo "$wrong wrong"

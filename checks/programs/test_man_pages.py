@@ -36,9 +36,9 @@ class Pages(unittest.TestCase):
         self.assertEqual(options_of_page(page), {"--output", "--no-directed"})
 
     def test_exit_statuses(self):
-        told = "usage: a\n\nThe exit status is\nthe program's; 125 where nothing was, 126\nwhere none can. " \
+        reported = "usage: a\n\nThe exit status is\nthe program's; 125 where nothing was, 126\nwhere none can. " \
             "Up to 64 threads."
-        self.assertEqual(statuses_of_help(told), {"125", "126"})
+        self.assertEqual(statuses_of_help(reported), {"125", "126"})
         self.assertEqual(statuses_of_help("Exit status 1: a file is missing; 2: wrong words."), {"1", "2"})
         self.assertEqual(statuses_of_help("options: 3"), set())
         page = "\nEXIT STATUS\n  0 if all is there; 1 if spanprof(1) refuses a text.\n\nENVIRONMENT\n  7\n"

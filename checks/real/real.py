@@ -21,7 +21,7 @@ SECONDS = 240
 VARIES = re.compile(rb"time|second|\bsec\b|date|speedup|memory|\d:\d\d|\d s\b", re.I)
 RUNTIME = re.compile(r"threads? of ((?:gcc|LLVM) \d+)")
 OUTPUT = "standard output"
-NEVER = re.compile(r"account not told|clocks differ|Traceback|\bnan\b|(?<=\s)-\d")
+NEVER = re.compile(r"account not reported|clocks differ|Traceback|\bnan\b|(?<=\s)-\d")
 OF_BARRIERS = re.compile("after the barrier of")     # in the place of what code has behind it
 OF_TASKS = re.compile(r"\b(cutoff|fold|taskwait|grainsize|depend|(too few|uneven|small|longest) tasks)\b")
 NO_TASKS = re.compile(r"^tasks +0,", re.M)
@@ -95,24 +95,24 @@ def faults(plain, again, recorded):
 def forbidden(said):
     """Sentences that cannot be so."""
     first = "\n".join(said.split("\n")[:FIRST_LINES])
-    told = [(NEVER, said), (OF_BARRIERS, first)] + [(OF_TASKS, first)] * bool(NO_TASKS.search(said)) + \
+    reported = [(NEVER, said), (OF_BARRIERS, first)] + [(OF_TASKS, first)] * bool(NO_TASKS.search(said)) + \
         [(OF_GLUE, first)] * (INTERPRETER in said)
-    yield from ("it says '%s'" % found[0] for pattern, words in told for found in pattern.finditer(words))
+    yield from ("it says '%s'" % found[0] for pattern, words in reported for found in pattern.finditer(words))
     for threads, busy in re.findall(r"on (\d+) threads: ([\d.]+) of them busy", said):
         if float(busy) > int(threads):
             yield "%s of %s threads are busy" % (busy, threads)
 
 
-def account_faults(told):
-    account = told["account"]
+def account_faults(reported):
+    account = reported["account"]
     if not account:
-        yield "no account: %s" % told["no account"]
+        yield "no account: %s" % reported["no account"]
     elif sum(account["parts"].values()) != account["threads"] * account["elapsed"]:
         yield "the account does not add up"
 
 
-def diagnosis_faults(told):
-    causes, is_interpreted = told["diagnosis"], INTERPRETER in str(told["losses"])
+def diagnosis_faults(reported):
+    causes, is_interpreted = reported["diagnosis"], INTERPRETER in str(reported["losses"])
     if not causes:
         yield "no diagnosis"
     elif causes[0]["kind"] not in REASONS and not causes[0]["change"] and not is_interpreted:
@@ -120,13 +120,13 @@ def diagnosis_faults(told):
 
 
 def told_faults(said, path):
-    """Of what is told, in words and as JSON."""
+    """Of what is reported, in words and as JSON."""
     yield from forbidden(said)
     if os.path.exists(path):
         with open(path, encoding="utf-8") as file:
-            told = json.load(file)
-        yield from account_faults(told)
-        yield from diagnosis_faults(told)
+            reported = json.load(file)
+        yield from account_faults(reported)
+        yield from diagnosis_faults(reported)
 
 
 def try_program(words, recorder):
@@ -153,10 +153,10 @@ def main(listing, recorder, *wanted):
         if not shutil.which(words[0]):
             print("skipped: %s (package %s)" % (words[0], package))
             continue
-        found, told = try_program(words, recorder)
+        found, reported = try_program(words, recorder)
         tried += 1
         wrong += bool(found)
-        print("%s: %s%s" % (name, told, "".join("\n  " + fault for fault in found)), flush=True)
+        print("%s: %s%s" % (name, reported, "".join("\n  " + fault for fault in found)), flush=True)
     print("%d programs, %d wrong" % (tried, wrong))
     return 1 if wrong or not tried else 0
 

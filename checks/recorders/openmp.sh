@@ -20,7 +20,7 @@ export SPANPROF_PARTS=none SPANPROF_TIMES=1  # the counts by hand are of tasks a
 wrong=0
 fail() { # WHAT: tells it, with the last that the recorder said
     echo "  $1"
-    [ ! -e "$folder/told" ] || tail -2 "$folder/told" | sed 's/^/    /'
+    [ ! -e "$folder/output" ] || tail -2 "$folder/output" | sed 's/^/    /'
     wrong=$((wrong + 1))
 }
 
@@ -29,16 +29,16 @@ compile() { # SOURCE: to a program of the folder
 }
 record() { # NAME WORD ..: runs a program of the folder
     rm -rf "$folder"/out.* "$folder"/part.*
-    env "$loaded=$recorder" "$folder/$1" "${@:2}" > "$folder/printed" 2> "$folder/told" || fail "$* fails on $OMP_NUM_THREADS threads"
-    checks/llvm/texts.py "$folder/out" 2>> "$folder/told" || fail "$*: its log is not converted"
+    env "$loaded=$recorder" "$folder/$1" "${@:2}" > "$folder/printed" 2> "$folder/output" || fail "$* fails on $OMP_NUM_THREADS threads"
+    checks/llvm/texts.py "$folder/out" 2>> "$folder/output" || fail "$*: its log is not converted"
 }
 number() { # WORD: the number after it in what `span` prints
     "$program" span < "$folder/out.tasks" | sed -n "s/^$1 //p"
 }
 expect_whole() { # WHAT: the run has each segment's start and finish, and is legal
-    local told expected
-    told=$("$SPANPROF_LARGE" account < "$folder/out.timed" | head -1)
-    [ "$told" = "threads $OMP_NUM_THREADS" ] || fail "$1: $told"
+    local reported expected
+    reported=$("$SPANPROF_LARGE" account < "$folder/out.timed" | head -1)
+    [ "$reported" = "threads $OMP_NUM_THREADS" ] || fail "$1: $reported"
 }
 
 # Each program with its words, and by hand, for two threads or more: the tasks that it makes, and the waits and ends of
@@ -103,9 +103,9 @@ echo "a span by hand"
 # A large recording by spanprof-convert, which a person calls.
 OMP_NUM_THREADS=2
 record fibonacci 27 10
-tools/spanprof-convert --unit us "$folder/out.spanprof" 2>> "$folder/told" || fail "its text"
+tools/spanprof-convert --unit us "$folder/out.spanprof" 2>> "$folder/output" || fail "its text"
 place=$(sed -n '3s/.*,//p' "$folder/out.spanprof/regions")
-tools/spanprof-convert --region "$place" --out "$folder/part" "$folder/out.spanprof" 2>> "$folder/told" || fail "a region"
+tools/spanprof-convert --region "$place" --out "$folder/part" "$folder/out.spanprof" 2>> "$folder/output" || fail "a region"
 [ -e "$folder/part.timed" ] || fail "a region has no times"
 echo "spanprof-convert"
 

@@ -130,8 +130,8 @@ echo "the diagnosis"
 
 expect "a unit" 0 spanprof-record --all --out unit --clock cpu --unit 100 -- ./llvm
 expect_word "a unit" 'costs in 100 ns of processor time'
-expect "JSON" 0 spanprof-record --all --force --json told.json -- ./llvm
-grep -q '"text": "llvm.spanprof"' told.json || fail "no JSON"
+expect "JSON" 0 spanprof-record --all --force --json reported.json -- ./llvm
+grep -q '"text": "llvm.spanprof"' reported.json || fail "no JSON"
 printf '#!/bin/sh\nexec ./llvm\n' > script
 chmod +x script
 expect "a script" 0 spanprof-record --all -- ./script

@@ -37,7 +37,7 @@ for program in $programs; do
 done
 
 tells() { # WHAT WORDS OPTION ..: that the summary of a recording of `small` has
-    tools/spanprof-record --all --force --out "$folder/told" "${@:3}" -- "$folder/by_gcc" small 2> "$folder/said"
+    tools/spanprof-record --all --force --out "$folder/output" "${@:3}" -- "$folder/by_gcc" small 2> "$folder/said"
     grep -qF -- "$2" "$folder/said" || { echo "  $1: the summary lacks '$2'"; cat "$folder/said"; wrong=$((wrong + 1)); }
 }
 tells "a time breakdown" 'startup and shutdown of the program (measured); '

@@ -44,11 +44,11 @@ def list_rest(library, promises):
 
 def compare(library, promises):
     """Whether the page has the counts of the crates; tells where it has not."""
-    told = PAGE.read_text()
-    counted = with_lists(told, library, promises)
+    reported = PAGE.read_text()
+    counted = with_lists(reported, library, promises)
     sys.stdout.writelines(difflib.unified_diff(
-        told.splitlines(True), counted.splitlines(True), "docs/BELIEVE.md", "counted", n=0))
-    return told == counted
+        reported.splitlines(True), counted.splitlines(True), "docs/BELIEVE.md", "counted", n=0))
+    return reported == counted
 
 
 def main(words):

@@ -11,9 +11,9 @@ wrong=0 count=0
 
 # reads WORD..: the compiler takes these words, the last of which is the program.
 reads() {
-    local told
+    local reported
     count=$((count + 1))
-    told=$("$@" 2>&1) || { printf '  %s\n%s\n' "${*: -1}" "$told"; wrong=$((wrong + 1)); }
+    reported=$("$@" 2>&1) || { printf '  %s\n%s\n' "${*: -1}" "$reported"; wrong=$((wrong + 1)); }
 }
 
 syntax=("-fsyntax-only" "-Qunused-arguments" "-fopenmp" "${llvm_flags[@]}")

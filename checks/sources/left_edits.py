@@ -52,9 +52,9 @@ def edits_of(top):
 
 def main(top):
     edits = list(edits_of(top))
-    told = ["%s: %s" % (edit.relative_to(top), why) for edit, crate in edits for why in faults(crate, edit)]
-    print("\n".join([*told, "%d edits, %d faults" % (len(edits), len(told))]))
-    return 1 if told or not edits else 0
+    reported = ["%s: %s" % (edit.relative_to(top), why) for edit, crate in edits for why in faults(crate, edit)]
+    print("\n".join([*reported, "%d edits, %d faults" % (len(edits), len(reported))]))
+    return 1 if reported or not edits else 0
 
 
 if __name__ == "__main__":

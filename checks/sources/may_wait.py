@@ -23,9 +23,9 @@ def listed(crates_txt, crate):
     return None
 
 
-def printed(told):
+def printed(reported):
     """The number in the line with the check's verdict: 0 where it has none. None where the crate is not proved."""
-    verdicts = [line for line in told.splitlines() if line.startswith("logic=proved ")]
+    verdicts = [line for line in reported.splitlines() if line.startswith("logic=proved ")]
     if not verdicts:
         return None
     counts = re.findall(r"\bmay-wait=(\d+)", verdicts[-1])
@@ -55,8 +55,8 @@ def fault(crate, wanted, found):
 def main(crates):
     crates_txt = (ROOT / "crates.txt").read_text()
     faults = [fault(crate, listed(crates_txt, crate), printed(checked(crate))) for crate in crates]
-    for told in filter(None, faults):
-        print(told)
+    for reported in filter(None, faults):
+        print(reported)
     if any(faults):
         return 1
     print(f"crates.txt and the check agree on {', '.join(crates)}")

@@ -98,8 +98,8 @@ def faults(what, places, files, words, least):
 
 
 def paths_of(top):
-    told = subprocess.run(["git", "ls-files", "-co", "--exclude-standard"], cwd=top, capture_output=True, text=True)
-    return told.stdout.split("\n")
+    reported = subprocess.run(["git", "ls-files", "-co", "--exclude-standard"], cwd=top, capture_output=True, text=True)
+    return reported.stdout.split("\n")
 
 
 def files_of(top):

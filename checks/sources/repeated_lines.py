@@ -78,19 +78,19 @@ def read_files(ending):
 
 def judged(ending, count, of, bound):
     """A line on the files of this ending, and whether their bound is kept and near."""
-    told = "%d of %d lines of *%s are repeated; the bound is %d of 10,000" % (count, of, ending, bound)
+    reported = "%d of %d lines of *%s are repeated; the bound is %d of 10,000" % (count, of, ending, bound)
     share = 10_000 * count / of
     if share > bound:
-        return told + ": say once what you have written twice (checks/sources/repeated_lines.py --list)", False
+        return reported + ": say once what you have written twice (checks/sources/repeated_lines.py --list)", False
     if share < bound - SLACK:
-        return told + ": lower it in checks/sources/repeated_lines.py", False
-    return told, True
+        return reported + ": lower it in checks/sources/repeated_lines.py", False
+    return reported, True
 
 
 def print_runs(files, most):
     for length, one, other in longest_runs(files)[:most]:
-        told = ["%s:%d" % (name, files[name][place][0]) for name, place in (one, other)]
-        print("%4d lines  %s  %s" % (length, *told))
+        reported = ["%s:%d" % (name, files[name][place][0]) for name, place in (one, other)]
+        print("%4d lines  %s  %s" % (length, *reported))
 
 
 def main(words):
@@ -101,8 +101,8 @@ def main(words):
     kept = True
     for ending, bound in BOUNDS.items():
         files = read_files(ending)
-        told, fits = judged(ending, len(repeated(files)), sum(map(len, files.values())), bound)
-        print(told)
+        reported, fits = judged(ending, len(repeated(files)), sum(map(len, files.values())), bound)
+        print(reported)
         kept = kept and fits
     return 0 if kept else 1
 

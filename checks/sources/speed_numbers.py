@@ -44,7 +44,7 @@ def untold(readme, table):
     """A line for each pair that has a place in the README and numbers in the table, and not in the README."""
     for text, command, both in pairs(readme):
         if both == [UNTOLD, UNTOLD] and (text, command) in table:
-            yield "%s %s: not told, and %s and %s were measured" % (text, command, *table[text, command])
+            yield "%s %s: not reported, and %s and %s were measured" % (text, command, *table[text, command])
 
 
 def measured(bench):
@@ -77,15 +77,15 @@ def rounded(tenths):
     return int(whole) + (int(tenth) >= 5)
 
 
-def differences(told, table):
+def differences(reported, table):
     """A line for each number that is told otherwise than it was measured."""
-    for (text, command), numbers in told.items():
+    for (text, command), numbers in reported.items():
         if (text, command) not in table:
             yield "%s %s: not in the table" % (text, command)
             continue
         for who, number, was in zip(("spanprof", "plain"), numbers, table[text, command]):
             if number != rounded(was):
-                yield "%s %s, %s: %d is told, and %s was measured" % (text, command, who, number, was)
+                yield "%s %s, %s: %d is reported, and %s was measured" % (text, command, who, number, was)
 
 
 def timed(bench):
@@ -109,7 +109,7 @@ def range_differences(readme, rows, table):
         return
     took = sorted((table[row] for row in rows), key=decimal.Decimal)
     if found.groups() != (nearest_tenth(took[0]), nearest_tenth(took[-1])):
-        yield "%s to %s times is told, and %s to %s was measured" % (*found.groups(), took[0], took[-1])
+        yield "%s to %s times is reported, and %s to %s was measured" % (*found.groups(), took[0], took[-1])
 
 
 def main():
@@ -117,13 +117,13 @@ def main():
     if sys.argv[1:] == ["--write"]:
         readme = written(readme, measured(bench))
         (TOP / "README.md").write_text(readme, encoding="utf-8")
-    told = quoted(readme)
-    wrong = [*differences(told, measured(bench)), *untold(readme, measured(bench)),
-             *range_differences(readme, told, timed(bench))]
+    reported = quoted(readme)
+    wrong = [*differences(reported, measured(bench)), *untold(readme, measured(bench)),
+             *range_differences(readme, reported, timed(bench))]
     for line in wrong:
         print(line)
-    print("%d texts and commands and a range compared: %d wrong" % (len(told), len(wrong)))
-    sys.exit(bool(wrong) or not told)
+    print("%d texts and commands and a range compared: %d wrong" % (len(reported), len(wrong)))
+    sys.exit(bool(wrong) or not reported)
 
 
 if __name__ == "__main__":

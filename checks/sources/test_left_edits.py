@@ -22,8 +22,8 @@ class LeftEdits(unittest.TestCase):
         return list(faults(self.top / "crates/one", edit))
 
     def test_each_change_has_its_file(self):
-        told = list(changes(EDIT + "old: c\nnew:\n"))
-        self.assertEqual(told, [("src/lib.rt", "a < b", "a <= b"), ("src/lib.rt", "c", "")])
+        reported = list(changes(EDIT + "old: c\nnew:\n"))
+        self.assertEqual(reported, [("src/lib.rt", "a < b", "a <= b"), ("src/lib.rt", "c", "")])
 
     def test_an_edit_that_applies(self):
         self.assertEqual(self.faults_of(EDIT), [])
@@ -31,13 +31,13 @@ class LeftEdits(unittest.TestCase):
 
     def test_an_old_text_that_is_gone_or_there_twice(self):
         for old in ("a > b", "fn "):
-            told = self.faults_of(EDIT.replace("a < b", old))
-            self.assertEqual(told, ["an old text is not in src/lib.rt exactly once: " + old])
+            reported = self.faults_of(EDIT.replace("a < b", old))
+            self.assertEqual(reported, ["an old text is not in src/lib.rt exactly once: " + old])
             self.assertEqual(main(self.top), 1)
 
     def test_changes_one_after_another(self):
-        told = self.faults_of(EDIT + "old: a <= b\nnew: b >= a\n")
-        self.assertEqual(told, [])
+        reported = self.faults_of(EDIT + "old: a <= b\nnew: b >= a\n")
+        self.assertEqual(reported, [])
 
     def test_an_edit_of_nothing(self):
         self.assertEqual(self.faults_of("a remark\n"), ["it changes nothing"])

@@ -45,15 +45,15 @@ class Runs(unittest.TestCase):
     def test_a_run_is_told_whole_and_longest_first(self):
         longer = ROW + ["one more"]
         other = ["other %d" % number for number in range(WINDOW)]
-        told = longest_runs(files(one=longer + other, two=longer, three=other))
-        self.assertEqual(told, [(WINDOW + 1, ("one", 0), ("two", 0)), (WINDOW, ("one", WINDOW + 1), ("three", 0))])
+        reported = longest_runs(files(one=longer + other, two=longer, three=other))
+        self.assertEqual(reported, [(WINDOW + 1, ("one", 0), ("two", 0)), (WINDOW, ("one", WINDOW + 1), ("three", 0))])
 
 
 class Judged(unittest.TestCase):
     def test_more_than_the_bound_is_refused(self):
-        told, kept = judged(".rt", 11, 1000, 100)
+        reported, kept = judged(".rt", 11, 1000, 100)
         self.assertFalse(kept)
-        self.assertIn("--list", told)
+        self.assertIn("--list", reported)
 
     def test_a_bound_far_above_has_to_be_lowered(self):
         self.assertFalse(judged(".rt", 0, 1000, SLACK + 1)[1])

@@ -22,7 +22,7 @@ took 0.9 to 1.7 times as long as it.
 
 | Text | `span` | plain |
 |---|---|---|
-| not told (`other`) | 1 | 2 |
+| not reported (`other`) | 1 | 2 |
 """
 TABLE = """\
 ## Instructions
@@ -63,8 +63,8 @@ class Numbers(unittest.TestCase):
         wrong = measured(TABLE)
         wrong["fan", "span"], wrong["fan", "curve --upto 64"] = ("75.6", "45.0"), ("609.0", "443.4")
         self.assertEqual(list(differences(quoted(README), wrong)), [
-            "fan span, spanprof: 75 is told, and 75.6 was measured",
-            "fan curve --upto 64, plain: 444 is told, and 443.4 was measured"])
+            "fan span, spanprof: 75 is reported, and 75.6 was measured",
+            "fan curve --upto 64, plain: 444 is reported, and 443.4 was measured"])
 
 
 class Written(unittest.TestCase):
@@ -87,7 +87,7 @@ class Places(unittest.TestCase):
 
     def test_numbers_that_have_a_place(self):
         self.assertEqual(list(untold(self.PLACE, measured(TABLE))),
-                         ["fan span: not told, and 75.0 and 45.0 were measured"])
+                         ["fan span: not reported, and 75.0 and 45.0 were measured"])
         self.assertEqual(list(untold(self.PLACE, {})), [])
         self.assertEqual(list(untold(README, measured(TABLE))), [])
 
@@ -110,14 +110,14 @@ class Times(unittest.TestCase):
             ("fan", "span"): "0.94", ("fan", "curve --upto 64"): "1.03"})
 
     def test_the_nearest_tenth(self):
-        told = [nearest_tenth(hundredths) for hundredths in ("0.94", "0.95", "1.65", "10.04")]
-        self.assertEqual(told, ["0.9", "1.0", "1.7", "10.0"])
+        reported = [nearest_tenth(hundredths) for hundredths in ("0.94", "0.95", "1.65", "10.04")]
+        self.assertEqual(reported, ["0.9", "1.0", "1.7", "10.0"])
 
     def test_the_range_of_the_rows_that_are_told(self):
         self.assertEqual(self.range_of(README), [])
         for other in ("0.8 to 1.7", "0.9 to 1.6", "1.0 to 9.0"):
             self.assertEqual(self.range_of(README.replace("0.9 to 1.7", other)),
-                             [other + " times is told, and 0.94 to 1.65 was measured"])
+                             [other + " times is reported, and 0.94 to 1.65 was measured"])
 
     def test_the_greatest_number_is_not_the_last_word(self):
         slow = TABLE.replace("   1.03 ", "  10.20 ")

@@ -25,10 +25,10 @@ explore() {
     rm -f pan* ./*.trail
     spin "${@/#/-D}" -a "$model" > made
     cc -O2 -DCOLLAPSE -DNOFAIR "$build" -o pan pan.c
-    ./pan $search -m1000000 -w26 -n > told
-    if grep -q 'search depth too small\|out of memory' told; then cat told; exit 1; fi
-    errors=$(sed -n 's/.*errors: //p' told)
-    stored=$(awk '/states, stored/ { print $1 }' told)
+    ./pan $search -m1000000 -w26 -n > output
+    if grep -q 'search depth too small\|out of memory' output; then cat output; exit 1; fi
+    errors=$(sed -n 's/.*errors: //p' output)
+    stored=$(awk '/states, stored/ { print $1 }' output)
 }
 
 has_none() {

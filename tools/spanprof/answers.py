@@ -156,7 +156,7 @@ class Answers:
 
     @cached_property
     def curve(self):
-        """Of each number of threads, from 1 on, the numbers of its row. Of a long text `end` is told on some alone."""
+        """Of each number of threads, from 1 on, the numbers of its row. Of a long text `end` is there on some alone."""
         if self.is_long:
             return self.bounds()
         enough = 2 * max(self.threads, self.work // max(self.span, 1))

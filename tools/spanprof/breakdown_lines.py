@@ -3,7 +3,7 @@ from spanprof.durations import lasting
 from spanprof.proof import proved
 
 MOST_PLACES = 2
-LEAST = 0.0005      # of the threads' time, from which on a part is told
+LEAST = 0.0005      # of the threads' time, from which on a part is reported
 
 
 def proved_sums():
@@ -22,8 +22,8 @@ def blocked_words(found, share):
     off = "preempted or in the recorder" if found.by_processor else "preempted"
     parts = [(found.blocked.preempted, off), (found.blocked.asleep, "asleep"),
              (found.blocked.at_locks, "waiting for locks")]
-    told = ["%s %s" % (share(part), name) for part, name in parts if part >= LEAST * found.whole and part]
-    return "; %s blocked in it: %s" % (share(found.blocked.all), ", ".join(told)) if told else ""
+    reported = ["%s %s" % (share(part), name) for part, name in parts if part >= LEAST * found.whole and part]
+    return "; %s blocked in it: %s" % (share(found.blocked.all), ", ".join(reported)) if reported else ""
 
 
 def breakdown_lines(found):

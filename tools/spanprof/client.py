@@ -109,10 +109,10 @@ def pieces(words, text):
 
 def columns(words, text, wanted):
     """Of a table of whole numbers the columns of these names, as arrays; a cell without a number is -1."""
-    told = pieces(words, text)
-    heads = next(told).decode(errors="replace").rstrip("\n").split(",")
+    reported = pieces(words, text)
+    heads = next(reported).decode(errors="replace").rstrip("\n").split(",")
     out = [array("q") for _ in wanted]
-    for piece in told:
+    for piece in reported:
         cells = piece.replace(b",\n", b",-1\n").replace(b"\n", b",").split(b",")
         if not set(wanted) <= set(heads) or len(cells) != len(heads) * piece.count(b"\n") + 1:
             raise Fault("spanprof %s: rows of another form" % words[0])
@@ -166,9 +166,9 @@ def rows(table):
 
 def predecessors(text):
     """The kept ones of each segment, as `graph` prints them."""
-    told = pieces(["graph"], text)
-    next(told)
-    return [[int(p) for p in line.rpartition(b",")[2].split()] for piece in told for line in piece.splitlines()]
+    reported = pieces(["graph"], text)
+    next(reported)
+    return [[int(p) for p in line.rpartition(b",")[2].split()] for piece in reported for line in piece.splitlines()]
 
 
 def read(path):

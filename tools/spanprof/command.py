@@ -136,7 +136,7 @@ def open_closed_streams():
 
 
 def answer_all(answer, words):
-    """Answers, and prints all of it: here a device without room is still told."""
+    """Answers, and prints all of it: here a device without room is still reported."""
     try:
         answer(*words)
     except SystemExit:  # after --help, or wrong words

@@ -39,19 +39,19 @@ def recorder_library(tell):
 
 
 def convert(program, log, out, variables):
-    """What is told of one log, whose texts are OUT.tasks and so on."""
+    """What is reported of one log, whose texts are OUT.tasks and so on."""
     rest = {name: value for name, value in variables.items() if name not in LOADERS}
     try:
         process = subprocess.Popen([program, log, out], env=rest, stdout=subprocess.PIPE, text=True,
                                    errors="surrogateescape")
     except OSError as wrong:
         raise Fault("%s: %s" % (program, wrong.strerror)) from wrong
-    told = [json.loads(line) for line in output_of(process, log).splitlines() if line.strip().endswith("}")]
+    reported = [json.loads(line) for line in output_of(process, log).splitlines() if line.strip().endswith("}")]
     status = process.returncode
-    if status and not has_failed(told):
+    if status and not has_failed(reported):
         why = "ended with status %d" % status if status > 0 else "died: " + DIED.get(-status, "signal %d" % -status)
-        told.append({"message": "fault", "log": log, "what": "its converter " + why})
-    return told
+        reported.append({"message": "fault", "log": log, "what": "its converter " + why})
+    return reported
 
 
 def output_of(process, log):
@@ -79,17 +79,17 @@ def at_the_end(process, meanwhile):
             meanwhile()
 
 
-def has_failed(told):
-    return any(one["message"] in FAILED for one in told)
+def has_failed(reported):
+    return any(one["message"] in FAILED for one in reported)
 
 
-def in_place(told, new, folder):
+def in_place(reported, new, folder):
     """The same with the files where they are in the end."""
     def moved(value):
         ending = value[len(os.path.join(new, STEM)):] if str(value).startswith(os.path.join(new, STEM)) else None
         return value if ending is None else os.path.join(folder, FILES.get(ending, ""))
     return [{name: moved(value) if name in ("file", "times", "name") else value for name, value in one.items()}
-            for one in told]
+            for one in reported]
 
 
 def move_in(new, folder):
@@ -106,10 +106,11 @@ def convert_into(program, log, folder, variables):
     """Writes the text of the whole program into a recording's folder. Where that fails nothing is changed there."""
     new = tempfile.mkdtemp(prefix=".new-", dir=folder)
     try:
-        told = convert(program, log, os.path.join(new, STEM), dict(variables, SPANPROF_WHOLE="1", SPANPROF_TIMES="1"))
-        if not has_failed(told):
+        reported = convert(program, log, os.path.join(new, STEM),
+                           dict(variables, SPANPROF_WHOLE="1", SPANPROF_TIMES="1"))
+        if not has_failed(reported):
             move_in(new, folder)
-        return in_place(told, new, folder)
+        return in_place(reported, new, folder)
     finally:
         shutil.rmtree(new, ignore_errors=True)
 

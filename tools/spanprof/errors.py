@@ -8,7 +8,7 @@ DAMAGE = (ValueError, KeyError, TypeError, IndexError, AttributeError, OverflowE
 
 
 class Fault(Exception):
-    """Why a command cannot do what it was asked; its words are all that is told."""
+    """Why a command cannot do what it was asked; its words are all that is reported."""
 
     def __init__(self, words, status=OWN_FAULT):
         super().__init__(words)

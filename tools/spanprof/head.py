@@ -36,14 +36,14 @@ class Lock(str):
     """Words on a lock of OpenMP, or on several together. `waiting` is how long threads waited, in the text's unit."""
     def __new__(cls, name, times, inside, waiting, unit=""):
         size = nanoseconds_of(unit)
-        told = [lasting(time * size) if size else "%d" % time for time in (inside, waiting)]
+        reported = [lasting(time * size) if size else "%d" % time for time in (inside, waiting)]
         out = super().__new__(cls, "%s: %s time%s, %s inside, %s waiting" % (
-            name, grouped(times), "s" * (times != 1), *told))
-        out.name, out.waiting, out.told = name, waiting, (name, times, inside, waiting, unit)
+            name, grouped(times), "s" * (times != 1), *reported))
+        out.name, out.waiting, out.reported = name, waiting, (name, times, inside, waiting, unit)
         return out
 
     def __getnewargs__(self):
-        return self.told    # of a copy
+        return self.reported    # of a copy
 
 
 @dataclass
@@ -120,35 +120,36 @@ def head_of(path):
     return read_head(head_text(path))
 
 
-def number(told):
+def number(reported):
     """A count, or a time in the text's unit."""
-    if isinstance(told, bool) or not isinstance(told, int) or not 0 <= told < 2 ** 63:
+    if isinstance(reported, bool) or not isinstance(reported, int) or not 0 <= reported < 2 ** 63:
         raise TypeError("no number")
-    return told
+    return reported
 
 
-def words(told):
-    if not isinstance(told, str):
+def words(reported):
+    if not isinstance(reported, str):
         raise TypeError("no words")
-    return told
+    return reported
 
 
-def truth(told):
-    if not isinstance(told, bool):
+def truth(reported):
+    if not isinstance(reported, bool):
         raise TypeError("neither true nor false")
-    return told
+    return reported
 
 
-def read_recorded(head, told):
-    threads = number(told["threads"]) if told.get("threads") else head.threads
-    texts = {name: words(told.get(name, getattr(head, name))) for name in ("program", "date", "clock", "unit")}
+def read_recorded(head, reported):
+    threads = number(reported["threads"]) if reported.get("threads") else head.threads
+    texts = {name: words(reported.get(name, getattr(head, name))) for name in ("program", "date", "clock", "unit")}
     head.threads = threads
     for name, value in texts.items():
         setattr(head, name, value)
 
 
-def read_region(head, told):
-    head.region, head.number = words(told.get("at", "")), "%d of %d" % (number(told["number"]), number(told["of"]))
+def read_region(head, reported):
+    head.region, head.number = words(reported.get("at", "")), "%d of %d" % (number(reported["number"]),
+                                                                            number(reported["of"]))
 
 
 def shared_out(loops, sections):
@@ -159,54 +160,54 @@ def shared_out(loops, sections):
     return " and ".join(counts), " and ".join(names)
 
 
-def read_whole(head, told):
+def read_whole(head, reported):
     """Also in words: how loops are written, which on other threads would be cut otherwise."""
-    whole, pieces = counted(number(told["regions"]), "region"), number(told.get("pieces", 0))
+    whole, pieces = counted(number(reported["regions"]), "region"), number(reported.get("pieces", 0))
     if pieces:
-        counts, head.pieces_of = shared_out(number(told["loops"]), number(told.get("sections", 0)))
+        counts, head.pieces_of = shared_out(number(reported["loops"]), number(reported.get("sections", 0)))
         whole += ", %s in %s; a chunk of k turns is k equal pieces" % (counts, counted(pieces, "piece"))
-    if "together below" in told:
-        whole += ", together where they are shorter than %d ns" % number(told["together below"])
+    if "together below" in reported:
+        whole += ", together where they are shorter than %d ns" % number(reported["together below"])
     head.whole, head.pieces = whole, pieces
 
 
-def read_coverage(head, told):
+def read_coverage(head, reported):
     head.covered, head.thread_time, head.covers_at_most = \
-        number(told["text"]), number(told["program"]), truth(told.get("at most", False))
+        number(reported["text"]), number(reported["program"]), truth(reported.get("at most", False))
 
 
-def read_divided(head, told):
-    if words(told["what"]) == "code":
-        head.beside, head.parts = number(told["beside"]), number(told.get("parts", 0))
+def read_divided(head, reported):
+    if words(reported["what"]) == "code":
+        head.beside, head.parts = number(reported["beside"]), number(reported.get("parts", 0))
     else:
-        head.divided.append("%s, %s" % (told["what"], occurrences(told)))
+        head.divided.append("%s, %s" % (reported["what"], occurrences(reported)))
 
 
-def read_chunks(head, told):
+def read_chunks(head, reported):
     """Places may have several lines."""
-    chunks, turns = head.chunks.get(words(told["at"]), (0, 0))
-    head.chunks[told["at"]] = [chunks + number(told["times"]), turns + number(told["turns"])]
+    chunks, turns = head.chunks.get(words(reported["at"]), (0, 0))
+    head.chunks[reported["at"]] = [chunks + number(reported["times"]), turns + number(reported["turns"])]
 
 
-def read_few_turns(head, told):
-    head.few_turns[words(told["at"])] = [number(told["turns"]), number(told["threads"])]
+def read_few_turns(head, reported):
+    head.few_turns[words(reported["at"])] = [number(reported["turns"]), number(reported["threads"])]
 
 
-def read_place(head, told):
-    function = "in " + words(told["in"]) + "".join(", inlined into %s at %s" % (words(one["in"]), words(one["at"]))
-                                                   for one in told.get("inlined", []))
-    head.functions.setdefault(words(told["at"]), function)
+def read_place(head, reported):
+    function = "in " + words(reported["in"]) + "".join(", inlined into %s at %s" % (words(one["in"]), words(one["at"]))
+                                                       for one in reported.get("inlined", []))
+    head.functions.setdefault(words(reported["at"]), function)
 
 
-def read_source(head, told):
-    head.sources[words(told["file"])] = words(told["path"])
+def read_source(head, reported):
+    head.sources[words(reported["file"])] = words(reported["path"])
 
 
-def read_lock(head, told):
+def read_lock(head, reported):
     """One, or several others together."""
-    name = "%d others together" % number(told["others"]) if "others" in told else \
-        words(told["kind"]) + (" at " + words(told["at"]) if "at" in told else "")
-    head.locks.append(Lock(name, *(number(told[part]) for part in ("times", "inside", "waiting")), head.unit))
+    name = "%d others together" % number(reported["others"]) if "others" in reported else \
+        words(reported["kind"]) + (" at " + words(reported["at"]) if "at" in reported else "")
+    head.locks.append(Lock(name, *(number(reported[part]) for part in ("times", "inside", "waiting")), head.unit))
 
 
 def part_of_program(head):
@@ -214,8 +215,8 @@ def part_of_program(head):
     return "the whole program" if head.whole else "region at %s" % head.region if head.region else ""
 
 
-def difference(told):
-    return {name: number(told[name]) for name in ("affected", "work", "by", "times")}
+def difference(reported):
+    return {name: number(reported[name]) for name in ("affected", "work", "by", "times")}
 
 
 LINES = {
@@ -227,19 +228,19 @@ FIELDS = {
     "clock reading": ("clock_reading", number), "untimed": ("untimed", number), "elapsed": ("elapsed", number),
     "most held lock": ("most_held", number), "clocks differ": ("clocks_differ", difference),
     "slept": ("slept", difference), "taken off": ("taken_off", difference),
-    "preempted": ("preempted", lambda told: {number(segment): number(off) for segment, off in told}),
-    "not covered": ("not_covered", lambda told: {words(name): number(value) for name, value in told.items()})}
+    "preempted": ("preempted", lambda reported: {number(segment): number(off) for segment, off in reported}),
+    "not covered": ("not_covered", lambda reported: {words(name): number(value) for name, value in reported.items()})}
 
 
-def take(head, name, told):
+def take(head, name, reported):
     """What the line of a name tells."""
     if name in FIELDS:
         field_name, read = FIELDS[name]
-        setattr(head, field_name, read(told))
+        setattr(head, field_name, read(reported))
     elif name in DIVISION:
-        head.division[name] = number(told)
+        head.division[name] = number(reported)
     else:
-        LINES[name](head, told)
+        LINES[name](head, reported)
 
 
 def read_line(head, line):

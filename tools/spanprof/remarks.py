@@ -68,22 +68,24 @@ def effect_of(work, span):
     return ", ".join("%s %s" % (number, DIRECTIONS[moved]) for number, moved in numbers if moved)
 
 
-def occurrences(told):
+def occurrences(reported):
     """`3 times at file.c:10`."""
-    times = "%d time%s" % (told["times"], "s" * (told["times"] != 1))
-    return times + (" at " + told["at"] if "at" in told else ", first at " + told["first"] if "first" in told else "")
+    times = "%d time%s" % (reported["times"], "s" * (reported["times"] != 1))
+    if "at" in reported:
+        return times + " at " + reported["at"]
+    return times + (", first at " + reported["first"] if "first" in reported else "")
 
 
-def remark_of(told):
+def remark_of(reported):
     """Of an object of JSON."""
-    what, more = WORDS.get(told["remark"], (told["remark"] + "", ""))
-    work, span = told.get("work", ""), told.get("span", "")
+    what, more = WORDS.get(reported["remark"], (reported["remark"] + "", ""))
+    work, span = reported.get("work", ""), reported.get("span", "")
     if not {work, span} <= {"", *DIRECTIONS}:
         raise ValueError("no direction")
-    effect = ", ".join(filter(None, (effect_of(work, span), told.get("more", more))))
-    out = Remark(told.get("words", what) + (", " + occurrences(told) if "times" in told else "")
+    effect = ", ".join(filter(None, (effect_of(work, span), reported.get("more", more))))
+    out = Remark(reported.get("words", what) + (", " + occurrences(reported) if "times" in reported else "")
                  + (": " + effect if effect else ""))
-    out.name, out.work, out.span = told["remark"], work, span
+    out.name, out.work, out.span = reported["remark"], work, span
     return out
 
 

@@ -51,11 +51,11 @@ def read_into(code, path, kind_of):
     with reading(path), open(path, "rb") as file:
         data = file.read()
         at = data.rindex(b"\n", 0, -1)
-        told = json.loads(data[at:].decode("utf-8", "replace"))
-        code.of, code.task, costs = columns_in(memoryview(data)[:at], told["segments"])
-        code.cost = widened(costs, told["long"])
-        for is_root, *words in told["kinds"]:
+        reported = json.loads(data[at:].decode("utf-8", "replace"))
+        code.of, code.task, costs = columns_in(memoryview(data)[:at], reported["segments"])
+        code.cost = widened(costs, reported["long"])
+        for is_root, *words in reported["kinds"]:
             code.add(kind_of(is_root, *(word.strip() for word in words)))
-        code.own, code.groups = (array("I", told["own"][first::2]) for first in (0, 1))
-        code.clauses = [(kind, words.replace(" ", ""), *numbers) for kind, words, *numbers in told["clauses"]]
+        code.own, code.groups = (array("I", reported["own"][first::2]) for first in (0, 1))
+        code.clauses = [(kind, words.replace(" ", ""), *numbers) for kind, words, *numbers in reported["clauses"]]
     return code

@@ -42,7 +42,7 @@ def converted(out):
     return time.monotonic() - began, said
 
 
-def told(program, path):
+def reported(program, path):
     """The numbers that a program tells of a text, by their names."""
     with open(path, encoding="utf-8") as text:
         done = subprocess.run(program, stdin=text, capture_output=True, text=True, check=False)
@@ -72,7 +72,7 @@ def try_whole(words, out, fewest):
     if not os.path.exists(path):
         raise Wrong("nothing is written: " + said + news)
     began = time.monotonic()
-    numbers = told(LARGE, path)
+    numbers = reported(LARGE, path)
     measured = time.monotonic() - began
     compare(path, numbers)
     if numbers["tasks"] < fewest:

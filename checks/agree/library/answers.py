@@ -63,12 +63,12 @@ def account(module, document, rows, any_size):
     text, _, times = document.partition(b"\n---\ntimes ")
     (count, first, last), *lines = [[int(word) for word in line.split()] for line in times.splitlines()]
     _, threads, begins, ends = zip(*sorted(lines))
-    told = module.Program(text + b"\n", any_size=any_size).account(threads, begins, ends, count, first, last)
+    reported = module.Program(text + b"\n", any_size=any_size).account(threads, begins, ends, count, first, last)
     if rows:
         return table("segment,thread,ready,begin,end", zip(range(len(lines)), threads, (max(first, int(ready)) for ready
-                                                           in told.ready), begins, ends))
+                                                           in reported.ready), begins, ends))
     return ("threads %d\nelapsed %d\nbusy %d\ndelayed %d\nstarved %d\noutside %d\n"
-            % ((count, last - first) + told[:4]))
+            % ((count, last - first) + reported[:4]))
 
 
 def of_text(module, words, text, any_size):

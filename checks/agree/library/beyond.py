@@ -9,9 +9,9 @@ REFUSED = (["greedy", "--threads", "0"], ["curve", "--upto", "1025"])
 SMALL = 100_000
 
 
-def plainly(told):
+def plainly(reported):
     """An answer of spanprof_large without its number of tasks."""
-    return re.sub(r"^tasks \d+\n", "", told)
+    return re.sub(r"^tasks \d+\n", "", reported)
 
 
 def beyond_limits():

@@ -57,7 +57,7 @@ def refusals():
         except spanprof.Refused as refused:
             kinds.append(refused.kind)
     if kinds != ["CostCount", "CostsTooLarge", "CostsTooLarge"]:
-        print("WRONG: other costs are told as %s" % kinds)
+        print("WRONG: other costs are reported as %s" % kinds)
         return 1
     late = [int(start) + 1 for start in program.starts()]
     legal = [program.is_legal(starts) for starts in (program.starts(), late, [0] * program.segments, [], late + [9])]
@@ -69,13 +69,13 @@ def refusals():
 
 def side_by_side():
     """Many threads call at once, and are answered as one is. Tells how many answers were wrong."""
-    def told(text):
+    def reported(text):
         program = spanprof.parse(text)
         return answers.slack(program), answers.greedy(program, 3, spanprof.NO_THREAD)
 
     some = [text for name, text in texts.examples() if len(text) < 200_000] * 3
     with ThreadPoolExecutor(8) as pool:
-        wrong = sum(one != other for one, other in zip(pool.map(told, some), map(told, some)))
+        wrong = sum(one != other for one, other in zip(pool.map(reported, some), map(reported, some)))
     print("%d texts on 8 threads, %d wrong" % (len(some), wrong), flush=True)
     return wrong
 

@@ -50,9 +50,9 @@ def certificates(comparison, program, large, dice):
 
 def timed(program, text, threads):
     """A greedy schedule as a timed document, by rows of a segment, its thread, its begin and its end."""
-    told = answers.of_program([program, "greedy", "--threads", str(threads)], text)[1].splitlines()[1:]
+    reported = answers.of_program([program, "greedy", "--threads", str(threads)], text)[1].splitlines()[1:]
     rows = [[int(word or 0) for word in (s, thread, start, end)]
-            for s, start, end, thread in (line.split(",") for line in told)]
+            for s, start, end, thread in (line.split(",") for line in reported)]
     return rows, max((row[3] for row in rows), default=0)
 
 

@@ -40,9 +40,9 @@ def gain_of(change):
     return 100 * (1 - change["to_ms"] / change["from_ms"])
 
 
-def answer_of(told):
+def answer_of(reported):
     """Of what `spanprof-record --json` writes. A diagnosis without a cause says that nothing is to be gained."""
-    causes = told.get("diagnosis") or [{"kind": "efficient"}]
+    causes = reported.get("diagnosis") or [{"kind": "efficient"}]
     first = causes[0]
     place = first.get("place") or {}
     return Answer(first["kind"], os.path.basename(place.get("file") or ""), numbers_of(place.get("lines")),

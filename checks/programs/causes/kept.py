@@ -72,8 +72,8 @@ def of_source(folder, name):
 
 def row(folder, path):
     one = of_source(os.path.basename(folder), os.path.splitext(os.path.basename(path))[0])
-    told = told_again(path, one).json()
-    answer, change = answer_of(told), (told["diagnosis"] or [{}])[0].get("change") or {"what": "-"}
+    reported = told_again(path, one).json()
+    answer, change = answer_of(reported), (reported["diagnosis"] or [{}])[0].get("change") or {"what": "-"}
     is_right = answer.kind == one.kind and is_there(one, answer)
     place = "%s:%s" % (answer.file, "-".join(map(str, answer.lines))) if answer.file else "-"
     gain = "%.1f %%" % answer.gain if answer.gain is not None else "-"

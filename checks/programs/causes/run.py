@@ -56,10 +56,10 @@ def judge(program, folder):
     times = measured(folder, program.name)
     if not times.is_same:
         sys.exit("%s: the repaired program writes something else" % program.name)
-    told = told_again(os.path.join(folder, program.name + ".spanprof"), program)
-    answer = answer_of(told.json())
+    reported = told_again(os.path.join(folder, program.name + ".spanprof"), program)
+    answer = answer_of(reported.json())
     verdict = judged(program, answer, times.gain, times.is_quiet)
-    return row(program, answer, times, verdict), told.lines(), verdict.is_right
+    return row(program, answer, times, verdict), reported.lines(), verdict.is_right
 
 
 def measure_all(chosen, options, folder):
@@ -88,10 +88,10 @@ def judge_all(chosen, options, folder):
     """How many are wrong."""
     wrong, first_lines = 0, []
     for program in chosen:
-        told, lines, is_right = judge(program, folder)
-        print(told, flush=True)
+        reported, lines, is_right = judge(program, folder)
+        print(reported, flush=True)
         wrong += not is_right
-        first_lines += [told, *("      " + line for line in lines), ""]
+        first_lines += [reported, *("      " + line for line in lines), ""]
     if options.lines:
         with open(options.lines, "w", encoding="utf-8") as file:
             file.write("\n".join(first_lines))

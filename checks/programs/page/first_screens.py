@@ -28,8 +28,8 @@ def sentences(said):
 def missing(page, said):
     screen = SCREEN.search(page)
     shown = unescape(re.sub("<[^>]*>", "", screen[1])) if screen else ""
-    told = sentences(said)
-    return [words for words in told if words not in shown] if told else ["no cause"]
+    reported = sentences(said)
+    return [words for words in reported if words not in shown] if reported else ["no cause"]
 
 
 def read(folder, name):

@@ -6,10 +6,10 @@ SQUARES = "document.querySelectorAll('.chart .true').length"
 
 
 def what_was_measured_is_told(page, text):
-    told = os.path.join(text, "scale.json")
-    if not os.path.exists(told):
+    reported = os.path.join(text, "scale.json")
+    if not os.path.exists(reported):
         return
-    with open(told, encoding="utf-8") as file:
+    with open(reported, encoding="utf-8") as file:
         rows = json.load(file)["threads"]
     squares = page.evaluate(SQUARES)
     if squares != len(rows):

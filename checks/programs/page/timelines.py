@@ -70,9 +70,9 @@ def fingers_are_told(page):
     })()""")
     page.touch("touchStart", [{"x": number["x"], "y": number["y"], "id": 0}])
     page.touch("touchEnd", [])
-    told = page.evaluate("(t => t ? t.textContent : '')(document.querySelector('.tip.shown'))")
-    if told != number["title"]:
-        yield "a tap on a number tells %r, and not %r" % (told, number["title"])
+    reported = page.evaluate("(t => t ? t.textContent : '')(document.querySelector('.tip.shown'))")
+    if reported != number["title"]:
+        yield "a tap on a number tells %r, and not %r" % (reported, number["title"])
 
 
 def fingers_zoom(page):

@@ -9,7 +9,7 @@ from programs import PROGRAMS, TUTORIAL
 
 
 class Made(NamedTuple):
-    """`changes` are pairs of an option and its word. A grain is told as a part of the largest piece of code there."""
+    """`changes` are pairs of an option and its word. A grain is given as a part of the largest piece of code there."""
     name: str
     changes: Tuple[Tuple[str, str], ...]
 

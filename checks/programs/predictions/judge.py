@@ -23,7 +23,7 @@ COVERED = 0.9
 SETS = {"23 programs": HERE, "14 later ones": LATER}
 
 
-def told(case, by_threads, program, turn, machine, true):
+def reported(case, by_threads, program, turn, machine, true):
     """Of lists of recordings by threads."""
     one = estimate({threads: by_threads[threads] for threads in case.of}, machine, case.threads)
     return of_estimate(one, program, turn, case, true, min(len(by_threads[threads]) for threads in case.of))
@@ -35,7 +35,7 @@ def judge(words):
     by_turn = dict(sorted(recordings(texts_of).items()))
     several = {turn: {threads: [one] for threads, one in found.items()} for turn, found in by_turn.items()}
     all_of = {threads: [found[threads] for found in by_turn.values()] for threads in next(iter(by_turn.values()))}
-    return [told(case, found, program, turn, machine, true[program, case.threads])
+    return [reported(case, found, program, turn, machine, true[program, case.threads])
             for case in CASES for turn, found in {**several, 0: all_of}.items()]
 
 

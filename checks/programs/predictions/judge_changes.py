@@ -87,9 +87,9 @@ def changed(made, one):
 def judged(name, found, times, machine, runtime, case):
     """By each recording, and by all of them together."""
     true, several = statistics.median(times), {turn: [one] for turn, one in enumerate(found, 1)}
-    told = [of_estimate(estimate({THREADS: of}, machine, THREADS, runtime), name, turn, case, true, len(of))
-            for turn, of in {**several, 0: found}.items()]
-    return Row(name, true, [one for one in told if one.turn], told[-1], times)
+    reported = [of_estimate(estimate({THREADS: of}, machine, THREADS, runtime), name, turn, case, true, len(of))
+                for turn, of in {**several, 0: found}.items()]
+    return Row(name, true, [one for one in reported if one.turn], reported[-1], times)
 
 
 def of_changes(found, true, machine):
@@ -115,7 +115,7 @@ def line(what, several, case):
 
 
 def lines(what, rows_of, case):
-    """By single recordings; and by all of each program, which are the three that took the least of eight: that is told,
+    """By single recordings; and by all of each program, which are the three that took the least of eight: it is given,
     and has no goal."""
     yield line(what + ", one recording", [one for row in rows_of for one in row.judged], case)
     yield True, line(what + ", all recordings", [row.by_all for row in rows_of], case)[1]
@@ -130,11 +130,11 @@ def width_lines(several):
 
 
 def table(pairs):
-    def told(row):
+    def reported(row):
         return "%8.3f (%7.3f to %7.3f)  %s" % (row.true / 1e6, min(row.times) / 1e6, max(row.times) / 1e6,
                                                " ".join("%+6.1f" % (100 * one.error) for one in row.judged))
     for first, second in pairs:
-        yield "%-11s %s | %s" % (first.name, told(first), told(second))
+        yield "%-11s %s | %s" % (first.name, reported(first), reported(second))
 
 
 def main(words):
@@ -143,12 +143,12 @@ def main(words):
     if words == ["--table"]:
         print("\n".join([*table(pairs), *table(of_gnu)]))
     before, after, gnu = [first for first, _ in pairs], [second for _, second in pairs], [first for first, _ in of_gnu]
-    told = [*lines("before the changes", before, BEFORE), *lines("changed", after, AFTER),
-            *width_lines([one for row in after for one in (*row.judged, row.by_all)]),
-            *lines("with gcc's runtime", gnu, BEFORE)]
-    for is_met, words_of in told:
+    reported = [*lines("before the changes", before, BEFORE), *lines("changed", after, AFTER),
+                *width_lines([one for row in after for one in (*row.judged, row.by_all)]),
+                *lines("with gcc's runtime", gnu, BEFORE)]
+    for is_met, words_of in reported:
         print("%s  %s" % ("ok    " if is_met else "FAILED", words_of))
-    return 0 if all(is_met for is_met, _ in told) else 1
+    return 0 if all(is_met for is_met, _ in reported) else 1
 
 
 if __name__ == "__main__":

@@ -216,8 +216,8 @@ def judge(folder):
     found = judge_all(several)
     for together in (1, TOGETHER):
         print("\n".join(table(several, [(kind, found[kind, together]) for kind in KINDS])))
-    told = [line(kind, predictions, together) for (kind, together), predictions in found.items()]
-    print("\n".join(words for words, _ in told))
+    reported = [line(kind, predictions, together) for (kind, together), predictions in found.items()]
+    print("\n".join(words for words, _ in reported))
     if measured.watched:
         print("%s; the times are those of %d turns" % (verdict(list(measured.watched.values())), len(measured.turns)))
-    return 0 if all(is_met for _, is_met in told) else 1
+    return 0 if all(is_met for _, is_met in reported) else 1

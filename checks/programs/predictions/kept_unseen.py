@@ -48,13 +48,13 @@ def recordings_of(folder, turns):
 
 def keep(found, out):
     """The texts, and a row of each."""
-    told = []
+    reported = []
     with tarfile.open(out / "recordings.tar.xz", "w:xz", preset=9) as kept:
         for (program, threads, turn), path in found.items():
             kept.add(path, path.name)
             one = read_recording(path)
-            told.append([program, threads, turn, one.outside, one.dispatch, " ".join(map(str, one.arrivals))])
-    write(out / "outside.csv", ["program", "threads", "round", "outside", "dispatch", "arrivals"], told)
+            reported.append([program, threads, turn, one.outside, one.dispatch, " ".join(map(str, one.arrivals))])
+    write(out / "outside.csv", ["program", "threads", "round", "outside", "dispatch", "arrivals"], reported)
 
 
 def main(words):

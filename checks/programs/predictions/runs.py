@@ -36,14 +36,14 @@ def variables(threads, **more):
 
 def region_time(folder, program, threads):
     """Nanoseconds of the longest region of one run, and how often a thread had to give way to another program."""
-    told = folder / "region_time"
+    reported = folder / "region_time"
     process = subprocess.Popen([str(program)], stdout=subprocess.DEVNULL, env=variables(
-        threads, LD_PRELOAD=str(folder / "region_clock.so"), REGION_TIME=str(told), OMP_TOOL="disabled"))
+        threads, LD_PRELOAD=str(folder / "region_clock.so"), REGION_TIME=str(reported), OMP_TOOL="disabled"))
     _, status, used = os.wait4(process.pid, 0)
     process.returncode = status
     if status:
         sys.exit("%s: status %d" % (program, status))
-    return int(told.read_text()), used.ru_nivcsw
+    return int(reported.read_text()), used.ru_nivcsw
 
 
 def record(folder, program, out, threads):

@@ -41,11 +41,11 @@ class Ends(NamedTuple):
             self.was, self.predicted, self.rewritten, 100 * self.error, by_gain)
 
 
-def ends(told, own, threads):
+def ends(reported, own, threads):
     """Of the text, of the changed text, and of the rewritten program's."""
-    key, all_three = str(threads), (told["text"], told["changed text"], own)
+    key, all_three = str(threads), (reported["text"], reported["changed text"], own)
     return Ends(threads, *(numbers["threads"][key]["end"] for numbers in all_three),
-                own["work"] / told["changed text"]["work"])
+                own["work"] / reported["changed text"]["work"])
 
 
 def work(statements):

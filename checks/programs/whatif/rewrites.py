@@ -69,7 +69,7 @@ def words_of(rewrite, text):
         yield from ("--" + option, word)
 
 
-def told(rewrite, text, threads, changed):
+def reported(rewrite, text, threads, changed):
     """What spanprof-whatif tells of the changed text, which it leaves in a file."""
     words = [WHATIF, text, *words_of(rewrite, text), "--threads", str(threads), "--json", "-o", changed]
     return json.loads(output(words))
@@ -87,7 +87,7 @@ def faults(rewrite, text, rewritten):
     with tempfile.TemporaryDirectory() as folder:
         changed = os.path.join(folder, "changed.tasks")
         for threads in THREADS:
-            both = told(rewrite, text, threads, changed)
+            both = reported(rewrite, text, threads, changed)
             found = ends(both, own(rewritten, threads), threads)
             row.append("%d threads %s" % (threads, found))
             out += [found.fault] if found.fault else []

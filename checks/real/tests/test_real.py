@@ -60,14 +60,14 @@ class RealTest(unittest.TestCase):
         self.assertEqual(list(account_faults({"account": None, "no account": "why"})), ["no account: why"])
 
     def test_a_change_or_a_reason(self):
-        def told(losses=(), *causes):
+        def reported(losses=(), *causes):
             return list(diagnosis_faults({"diagnosis": list(causes), "losses": list(losses)}))
         without = {"kind": "serial", "change": None, "what": "main runs on one thread"}
-        self.assertEqual(told((), {"kind": "machine", "change": None}), [])
-        self.assertEqual(told((), {"kind": "serial", "change": {"what": "divide"}}), [])
-        self.assertEqual(told((), without), ["no change for 'main runs on one thread'"])
-        self.assertEqual(told([{"kind": "serial", "place": "the interpreter (R)"}], without), [])
-        self.assertEqual(told(), ["no diagnosis"])
+        self.assertEqual(reported((), {"kind": "machine", "change": None}), [])
+        self.assertEqual(reported((), {"kind": "serial", "change": {"what": "divide"}}), [])
+        self.assertEqual(reported((), without), ["no change for 'main runs on one thread'"])
+        self.assertEqual(reported([{"kind": "serial", "place": "the interpreter (R)"}], without), [])
+        self.assertEqual(reported(), ["no diagnosis"])
 
 
 if __name__ == "__main__":

@@ -47,13 +47,13 @@ def convert(converter, log, way):
     done = subprocess.run([converter, log, log + ".out"], env=dict(os.environ, SPANPROF_LINES="0", **CHECKED, **way),
                           capture_output=True, preexec_fn=limit, check=False)
     try:
-        told = [json.loads(line) for line in done.stdout.decode("utf-8", "surrogateescape").splitlines()]
+        reported = [json.loads(line) for line in done.stdout.decode("utf-8", "surrogateescape").splitlines()]
     except ValueError as wrong:
         raise Wrong("what it tells is no JSON: %s" % done.stdout[-300:]) from wrong
     if done.returncode not in (0, 1) or done.stderr or \
-            (done.returncode == 1) != any(one["message"] == "fault" for one in told):
+            (done.returncode == 1) != any(one["message"] == "fault" for one in reported):
         raise Wrong("status %d of %s, and no fault: %s" % (done.returncode, way, done.stderr.decode(errors="replace")))
-    return told
+    return reported
 
 
 def check_times(folder):
@@ -66,10 +66,10 @@ def check_times(folder):
                 raise Wrong("%s has a time below zero: %s" % (name, found.group().decode()))
 
 
-def judge(folder, told):
+def judge(folder, reported):
     """Raises where spanprof refuses a text, or a time is none."""
     check_times(folder)
-    for one in told:
+    for one in reported:
         try:
             if one["message"] == "text" and ".large." not in one["file"]:
                 client.read(os.path.join(folder, one["file"]))
@@ -81,9 +81,9 @@ def try_log(converter, log, folder):
     """How many of the ways it was refused."""
     refused = 0
     for way in WAYS:
-        told = convert(converter, log, way)
-        refused += any(one["message"] == "fault" for one in told)
-        judge(folder, told)
+        reported = convert(converter, log, way)
+        refused += any(one["message"] == "fault" for one in reported)
+        judge(folder, reported)
     return refused
 
 

@@ -48,10 +48,10 @@ def damaged(text, chance):
 def own_checksum(folder, name):
     """That of the damaged file, or nothing else of it would be read."""
     with open(os.path.join(folder, META), encoding="utf-8") as file:
-        told = json.load(file)
-    told["files"][name] = checksum(os.path.join(folder, name))
+        reported = json.load(file)
+    reported["files"][name] = checksum(os.path.join(folder, name))
     with open(os.path.join(folder, META), "w", encoding="utf-8") as file:
-        json.dump(told, file)
+        json.dump(reported, file)
 
 
 def damage(folder, chance):

@@ -57,7 +57,7 @@ def judge(said, some, whole, is_over):
     if NOT_BEGUN in said and not is_over:
         return 0
     if not is_over and "the log ends " not in said:
-        raise Wrong("it is not told where the log ends: " + said)
+        raise Wrong("it is not reported where the log ends: " + said)
     if some is None and "no parallel region with tasks" not in said:
         raise Wrong("there is no text: " + said)
     if not is_prefix(some or [], whole) or (is_over and some != whole):

@@ -51,8 +51,8 @@ def numbers_of(files):
     """Work, span and more of the texts, as spanprof tells them."""
     out = numbers_of_head(files.get("out.tasks", ""))
     if "out.tasks" in files:
-        told = dict(line.split() for line in judged(SPAN, files["out.tasks"]).stdout.split("\n") if line)
-        out.update({what: int(number) for what, number in told.items()})
+        reported = dict(line.split() for line in judged(SPAN, files["out.tasks"]).stdout.split("\n") if line)
+        out.update({what: int(number) for what, number in reported.items()})
         out["tasks"] = count_tasks(files["out.tasks"])
         out["parallelism"] = out["work"] / max(out["span"], 1)
     return out
@@ -140,7 +140,7 @@ def why_left_out(wanted, version):
 
 
 def judge(source, version):
-    """What is wrong with a case, after its name is told."""
+    """What is wrong with a case, after its name is reported."""
     wanted = read_wants(source)
     name = os.path.basename(source)[:-2]
     why = why_left_out(wanted, version)

@@ -38,11 +38,11 @@ def kinds(items):
 
 def node_difference(wanted, found, names):
     if wanted.kind != found.kind or wanted.undeferred != found.undeferred or not is_at(wanted, found):
-        return "%s where %s must stand" % (found.told(), wanted.told())
+        return "%s where %s must stand" % (found.reported(), wanted.reported())
     if kinds(wanted.depend) != kinds(found.depend):
-        return "%s has the items %s, and not %s" % (wanted.told(), found.depend, wanted.depend)
+        return "%s has the items %s, and not %s" % (wanted.reported(), found.depend, wanted.depend)
     names.add(wanted.depend, found.depend)
-    return body_difference(wanted.body, found.body, names, "in the " + wanted.told())
+    return body_difference(wanted.body, found.body, names, "in the " + wanted.reported())
 
 
 def body_difference(wanted, found, names, where):
@@ -55,7 +55,7 @@ def body_difference(wanted, found, names, where):
             return difference
     if len(first) != len(second):
         longer, fault = (first, "missing") if len(first) > len(second) else (second, "too many")
-        return "%s: a %s is %s" % (where, longer[min(len(first), len(second))].told(), fault)
+        return "%s: a %s is %s" % (where, longer[min(len(first), len(second))].reported(), fault)
     for place, (least, cost) in enumerate(zip(costs(wanted), costs(found))):
         if cost + names.reading < least and names.costs_are_known:
             return "%s: %d ns before step %d where the program spends %d" % (where, cost, place, least)
@@ -63,7 +63,7 @@ def body_difference(wanted, found, names, where):
 
 
 def is_at(wanted, found):
-    """Whether the line is the one that must be told."""
+    """Whether the line is the one that must be reported."""
     return found.line == wanted.line or (wanted.is_hidden and not found.line)
 
 
@@ -93,7 +93,7 @@ def thread_difference(phase, body, names, times):
     """One thread's body is that of the pieces that it executed; counts these in `times`."""
     order = executed(phase, nodes(body), 0, times)
     if order is None:
-        return "a thread's code is not made of parts of the region: " + ", ".join(n.told() for n in nodes(body))
+        return "a thread's code is not made of parts of the region: " + ", ".join(n.reported() for n in nodes(body))
     for i in order:
         times[i].append(id(body))
     wanted = [step for i in order for step in phase[i].body]
@@ -130,7 +130,7 @@ def difference(shape, recorded):
         return "%d phases with tasks, and not %d" % (len(found), len(wanted))
     names = Names(not recorded.says(COST_LOST), recorded.reading)
     for phase, bodies in zip(wanted, found):
-        told = phase_difference(phase, bodies, names)
-        if told:
-            return told
+        reported = phase_difference(phase, bodies, names)
+        if reported:
+            return reported
     return names.difference()

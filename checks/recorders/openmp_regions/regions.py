@@ -75,8 +75,8 @@ def kept_folder(folder, drawn):
     return os.path.join(folder, "seed_%d" % drawn.seed)
 
 
-def report(tools, drawn, verdict, told, folder, has_to_shrink):
-    print("seed %d %s: %s" % (drawn.seed, verdict, told), flush=True)
+def report(tools, drawn, verdict, reported, folder, has_to_shrink):
+    print("seed %d %s: %s" % (drawn.seed, verdict, reported), flush=True)
     if verdict not in FAULTS:
         return
     kept = kept_folder(folder, drawn)
@@ -84,7 +84,7 @@ def report(tools, drawn, verdict, told, folder, has_to_shrink):
     if has_to_shrink:
         small = smallest(tools, drawn, verdict)
         with open(os.path.join(kept, "smaller.c"), "w", encoding="utf-8") as file:
-            file.write("// %s\n" % told.replace("\n", " ") + write_c(small.statements))
+            file.write("// %s\n" % reported.replace("\n", " ") + write_c(small.statements))
 
 
 def main():
@@ -97,10 +97,10 @@ def main():
     with ThreadPoolExecutor(chosen.jobs) as pool:
         drawn = [draw(seed, always) for seed in seeds]
         judged = pool.map(lambda one: judge_drawn(tools, one, 1, kept_folder(folder, one)), drawn)
-        for i, (one, (verdict, told)) in enumerate(zip(drawn, judged)):
+        for i, (one, (verdict, reported)) in enumerate(zip(drawn, judged)):
             counts[verdict] += 1
             if verdict != "right":
-                report(tools, one, verdict, told, folder, chosen.keep and not chosen.no_shrinking)
+                report(tools, one, verdict, reported, folder, chosen.keep and not chosen.no_shrinking)
             if sys.stdout.isatty():
                 print("\r%d of %d" % (i + 1, chosen.count), end="", flush=True)
     print("%d random programs: %d wrong, %d refused by spanprof, %d that the runtime fails on, %d not compiled" % (

@@ -15,7 +15,7 @@ class Node:
     is_hidden: bool = False  # the runtime may not tell its line
     is_part: bool = False  # the code of one of the region's threads
 
-    def told(self):
+    def reported(self):
         words = self.kind + " if(0)" * self.undeferred
         return "%s of line %d" % (words, self.line) if self.line else words
 

@@ -43,9 +43,9 @@ def texts_difference(shapes, texts):
     for name, text in sorted(found.items()):
         if text.line not in shapes:
             return "%s is of no region with tasks" % name
-        told = difference(shapes[text.line][0], text)
-        if told:
-            return "%s: %s" % (name, told)
+        reported = difference(shapes[text.line][0], text)
+        if reported:
+            return "%s: %s" % (name, reported)
     return ""
 
 
@@ -85,15 +85,15 @@ def judge_run(tools, drawn, threads, program, folder):
         run_again = functools.partial(toolchain.run, tools, drawn, threads, program, folder, False)
         return judge_fault(fault, run, run_again, expected_works)
     shapes = shapes_of(drawn, threads)
-    told = texts_difference(shapes, run.texts) or costs_difference(drawn, shapes, run.texts, run.nanoseconds)
-    if told:
-        return "wrong", told
+    reported = texts_difference(shapes, run.texts) or costs_difference(drawn, shapes, run.texts, run.nanoseconds)
+    if reported:
+        return "wrong", reported
     for name in sorted(run.texts):
-        told = toolchain.account(folder, name)
-        if told:
-            return "refused", "%s.timed: %s" % (name, told)
-    told = toolchain.account_of_whole(folder)
-    return ("refused", "the whole program's times: " + told) if told else ("right", "")
+        reported = toolchain.account(folder, name)
+        if reported:
+            return "refused", "%s.timed: %s" % (name, reported)
+    reported = toolchain.account_of_whole(folder)
+    return ("refused", "the whole program's times: " + reported) if reported else ("right", "")
 
 
 def judge(tools, drawn, folder, runs=1):
@@ -103,8 +103,8 @@ def judge(tools, drawn, folder, runs=1):
         file.write(write_c(drawn.statements))
     toolchain.build(tools, drawn.compiler, source, program)
     for threads in drawn.threads * runs:
-        verdict, told = judge_run(tools, drawn, threads, program, folder)
+        verdict, reported = judge_run(tools, drawn, threads, program, folder)
         if verdict != "right":
             return verdict, "%s%s on %d threads: %s" % (
-                drawn.compiler, " on its own runtime" if drawn.is_on_gcc() else "", threads, told)
+                drawn.compiler, " on its own runtime" if drawn.is_on_gcc() else "", threads, reported)
     return "right", ""

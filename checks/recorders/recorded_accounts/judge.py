@@ -40,12 +40,12 @@ def judge(program, name, clock, folder, is_quiet):
     for _ in range(TRIES if is_quiet else 1):
         if wrong:
             print("again %s %s: %s" % (name, clock, "; ".join(wrong)), flush=True)
-        told = recorded(program, name, clock, folder)
-        wrong = faults(name, told, is_quiet)
+        reported = recorded(program, name, clock, folder)
+        wrong = faults(name, reported, is_quiet)
         if not wrong:
             break
     print("%-5s %-9s %-4s %s" % ("WRONG" if wrong else "ok", name, clock,
-                                 in_words(told["account"]) if told["account"] else ""), flush=True)
+                                 in_words(reported["account"]) if reported["account"] else ""), flush=True)
     for fault in wrong:
         print("      " + fault, flush=True)
     return bool(wrong)

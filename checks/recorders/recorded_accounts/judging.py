@@ -55,9 +55,9 @@ def causes(name, account):
             yield "%s %s, and not %s" % (kind, first, place)
 
 
-def faults(name, told, is_quiet):
+def faults(name, reported, is_quiet):
     """What is wrong with what `spanprof-record --json` tells of a program; on a quiet machine with its shares too."""
-    account = told["account"]
+    account = reported["account"]
     if not account:
-        return ["no account: %s" % told["no account"]]
+        return ["no account: %s" % reported["no account"]]
     return [*sums(account), *sure_parts(name, account), *(causes(name, account) if is_quiet else ())]

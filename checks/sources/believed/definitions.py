@@ -25,7 +25,7 @@ class Definition:
 
 
 def words_of(text):
-    """The words of a text of definitions, strings and comments aside; a path is told by its first part too."""
+    """The words of a text of definitions, strings and comments aside; a path is reported by its first part too."""
     bare = re.sub(r"(--|//).*", "", re.sub(r'"[^"\n]*"', "", text))
     found = set()
     for word in WORD.findall(bare):

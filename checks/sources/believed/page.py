@@ -16,8 +16,8 @@ def items(definitions):
     for module in dict.fromkeys(definition.module for definition in definitions):
         crate, _, name = module.split(".")
         crates.setdefault(crate, []).append(f"`{name}`")
-    told = "; ".join(f"`{crate}`: {', '.join(files)}" for crate, files in crates.items())
-    lines = textwrap.wrap(f"- {told}", COLUMNS, subsequent_indent="  ", break_on_hyphens=False) if crates else []
+    reported = "; ".join(f"`{crate}`: {', '.join(files)}" for crate, files in crates.items())
+    lines = textwrap.wrap(f"- {reported}", COLUMNS, subsequent_indent="  ", break_on_hyphens=False) if crates else []
     return "".join(f"{line}\n" for line in lines) + ("\n" if lines else "")
 
 

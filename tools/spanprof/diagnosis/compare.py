@@ -13,7 +13,7 @@ from spanprof.durations import lasting
 
 ONE_RUN = 0.05      # of the time, that two runs of one program may differ
 MOST_PLACES = 2
-LEAST = 0.02        # of the time before, from which on a place is told
+LEAST = 0.02        # of the time before, from which on a place is reported
 HEAD = re.compile(r" at [^\s:]+:\d+.*$")
 
 
@@ -32,7 +32,7 @@ class Place:
 
 @dataclass
 class Compared:
-    """Of two that were told; times are in nanoseconds."""
+    """Of two that were reported; times are in nanoseconds."""
     before: object
     after: object
     spread: float
@@ -99,7 +99,7 @@ def is_slower(found, percent):
 
 
 def compared(before, after):
-    """Of two recordings whose diagnoses are told."""
+    """Of two recordings whose diagnoses are reported."""
     facts, others = before.found.facts, after.found.facts
     return Compared(before, after, max(spread_of(facts), spread_of(others)), places_of(facts, others))
 
@@ -116,31 +116,32 @@ def verdict(found):
 
 def place_line(found, place):
     """With its name in the version that has it."""
-    told = found.after if place.after else found.before
-    name = told.names.place(place.after or place.before)
+    reported = found.after if place.after else found.before
+    name = reported.names.place(place.after or place.before)
     missing = "" if place.before and place.after else ", new" if place.after else ", gone"
     return "%s%s: %s -> %s of the run" % (name, missing, lasting(place.was), lasting(place.now))
 
 
 def predicted_line(found):
     """What was predicted of the first change; empty where there was none."""
-    told, plan = found.before, found.before.found.plan
+    reported, plan = found.before, found.before.found.plan
     if not plan:
         return ""
-    return "%s for: %s" % (lasting(plan[0].after), change_sentence(told.found.facts, told.names, plan[0]))
+    return "%s for: %s" % (lasting(plan[0].after), change_sentence(reported.found.facts, reported.names, plan[0]))
 
 
 def lines(found):
     """At most six."""
     last = found.after.found
     places = [place for place in found.places if abs(place.less) >= LEAST * found.was][:MOST_PLACES]
-    told = [(found.after.found.facts.program or "program", verdict(found))]
-    told += [("where" * (i == 0), place_line(found, place)) for i, place in enumerate(places)]
-    told += [("predicted", predicted_line(found))] * bool(predicted_line(found))
-    told += [("now", "lost %.0f %%: %s" % (100 * last.facts.lost_share(loss), lost_sentence(
+    reported = [(found.after.found.facts.program or "program", verdict(found))]
+    reported += [("where" * (i == 0), place_line(found, place)) for i, place in enumerate(places)]
+    reported += [("predicted", predicted_line(found))] * bool(predicted_line(found))
+    reported += [("now", "lost %.0f %%: %s" % (100 * last.facts.lost_share(loss), lost_sentence(
         last.facts, found.after.names, loss))) for loss in last.causes[:1]]
-    width = max(LABEL, *(len(label) + 2 for label, _ in told[1:]))
-    return [shortened("%s: %s" % told[0], WIDTH)] + [shortened("%-*s%s" % (width, *one), WIDTH) for one in told[1:]]
+    width = max(LABEL, *(len(label) + 2 for label, _ in reported[1:]))
+    return [shortened("%s: %s" % reported[0], WIDTH)] + [shortened("%-*s%s" % (width, *one),
+                                                                   WIDTH) for one in reported[1:]]
 
 
 def place_json(place):

@@ -1,4 +1,4 @@
-"""From the facts of a run to what is told of it: the causes, the plan, and the times."""
+"""From the facts of a run to what is reported of it: the causes, the plan, and the times."""
 from dataclasses import dataclass, field
 from typing import List
 
@@ -49,7 +49,7 @@ def matching(step, found):
 
 
 def taken_by_others(facts, found):
-    """The loss to other programs, where it is much: what the program lost itself is told of the rest."""
+    """The loss to other programs, where it is much: what the program lost itself is reported of the rest."""
     machine = sum(loss.time for loss in found if loss.kind == "machine")
     return machine if facts.share(machine) >= BUSY else 0
 
@@ -87,16 +87,16 @@ def causes_of(facts, found, steps, code):
     named = [with_alike(loss, found) for loss in found if loss.kind in BY_KIND and loss.kind != "machine"]
     largest = [loss for loss in named if loss.time >= least_of(facts, found, loss.kind)]
     lost = code < EFFICIENT * ran and not facts.taken
-    told = with_interpreter(facts, found, [loss for loss in largest if not is_interpreter(loss.place)][:lost])
-    if told:
-        return told[:1] + [loss for loss in told[1:2] if facts.own_share(loss.time) >= SECOND]
+    reported = with_interpreter(facts, found, [loss for loss in largest if not is_interpreter(loss.place)][:lost])
+    if reported:
+        return reported[:1] + [loss for loss in reported[1:2] if facts.own_share(loss.time) >= SECOND]
     is_machine = facts.share(facts.taken) >= BY_KIND["machine"].least
     machine, rest = [Loss("machine", "", facts.taken)] * is_machine, Loss("efficient", "", ran - code)
     return machine + [rest] * (not is_machine or code >= EFFICIENT * ran)
 
 
 def diagnose(facts, bench=None):
-    """`bench` tries changes of the text; without it only bounds are told. Of a run on one thread no cause is named: it
+    """`bench` tries changes of the text; without it there are only bounds. Of a run on one thread no cause is named: it
     says nothing of more threads."""
     found = losses(facts)
     code, facts.taken = code_on_one(facts, found), taken_by_others(facts, found)

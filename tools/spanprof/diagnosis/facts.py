@@ -161,7 +161,7 @@ class Facts:
         return time / self.own_time if self.own_time else 0.0
 
     def lost_share(self, loss):
-        """What the program lost itself is told of the time that others left it."""
+        """What the program lost itself is reported of the time that others left it."""
         return self.share(loss.time) if loss.kind == "machine" else self.own_share(loss.time)
 
 

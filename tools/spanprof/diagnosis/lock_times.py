@@ -28,7 +28,7 @@ def of_lines(lines):
 def of_head(head):
     """Of the text's own lines, in its unit."""
     for lock in head.locks:
-        name, times, inside, waiting, _ = lock.told
+        name, times, inside, waiting, _ = lock.reported
         kind, _, place = name.partition(" at ")
         yield Held(place, kind, times, inside * (head.nanoseconds or 1), waiting * (head.nanoseconds or 1))
 

@@ -21,7 +21,7 @@ ORDERED = re.compile(r"\bordered\b")
 OF_TURNS = re.compile(r"\s*#\s*pragma\s+omp\s+ordered\b")
 MUCH_CODE = 0.2         # of all code, from which on a place is looked at
 MUCH_SHARED = 0.1       # of the samples of code
-HOT = 0.8               # of the samples of code, that the lines have which are told of it
+HOT = 0.8               # of the samples of code, that the lines have which are reported of it
 NO_CALLS = ("if", "for", "while", "switch", "return", "sizeof")
 KINDS = ("in", "out", "inout", "inoutset", "mutexinoutset", "depobj")
 WRITES = {"out": "inout"}       # as the recorder writes it
@@ -297,13 +297,13 @@ class Names:
 
     def other(self, name):
         """A wait, a lock or a region."""
-        lock, told = self.lock(name), self.spelt(name)
+        lock, reported = self.lock(name), self.spelt(name)
         if name.startswith(ALLOCATION):
             function, at = self.function_at(name), name[len(ALLOCATION):]
             return "%s (%s)" % (function, at) if function else at
         if lock:
-            return "%s%s" % (lock.kind, " at " + told if lock.place else "")
-        return told if not name.startswith(("taskwait", "taskgroup", "barrier")) else "the " + told
+            return "%s%s" % (lock.kind, " at " + reported if lock.place else "")
+        return reported if not name.startswith(("taskwait", "taskgroup", "barrier")) else "the " + reported
 
     def item(self, place, item):
         """Of a place's tasks, such as `inout: tab[0]`, where the source tells it. gcc's code has the items of a task in

@@ -1,4 +1,4 @@
-"""What is told of a run on a terminal: at most eight lines of at most 100 columns."""
+"""What is reported of a run on a terminal: at most eight lines of at most 100 columns."""
 import re
 from collections import Counter
 
@@ -23,8 +23,8 @@ LABEL = 6
 NO_FASTER = 1.1
 MOST_SHARED = 2
 A_CHUNK = 50000        # nanoseconds that one lasts which is worth taking
-LEAST_TOLD = 0.005     # of the threads' time, from which on a part of it is told
-MUCH_STOLEN = 0.02     # of the processors' time, from which on that of the machine's host is told
+LEAST_TOLD = 0.005     # of the threads' time, from which on a part of it is reported
+MUCH_STOLEN = 0.02     # of the processors' time, from which on that of the machine's host is reported
 TRIED = {
     "in-for-inout": "depend(in: {item}) at {at} if only read, or a copy for each",
     "read-only": "depend({item}) at {at} if only read",
@@ -79,9 +79,9 @@ def words_of_memory(facts, names, place):
 def joined(lines):
     """Those of one file by their numbers: `sort.c:11, 12 and 15`."""
     of_file = {line.file: ["%d" % one.number for one in sorted(lines) if one.file == line.file] for line in lines}
-    told = ("%s:%s" % (file, " and ".join(filter(None, (", ".join(numbers[:-1]), numbers[-1]))))
-            for file, numbers in of_file.items())
-    return " and ".join(told)
+    reported = ("%s:%s" % (file, " and ".join(filter(None, (", ".join(numbers[:-1]), numbers[-1]))))
+                for file, numbers in of_file.items())
+    return " and ".join(reported)
 
 
 def words_of_schedule(names, name, place):
@@ -248,17 +248,18 @@ def less_locking(facts, names, lock, less):
 
 
 def words_of_lock(facts, names, name):
-    """By what it is told, how often it was entered or in what it is, and what to do."""
-    told = {"lock": names.place(name), "times": "", "less_locking": "do less in %s" % names.place(name)}
+    """By what it is reported, how often it was entered or in what it is, and what to do."""
+    reported = {"lock": names.place(name), "times": "", "less_locking": "do less in %s" % names.place(name)}
     for lock in facts.locks:
         if lock.function and lock.place == name:
             called = {"function": lock.function, "at": names.at(name)}
             return {"lock": "the lock inside {function}".format(**called), "times": "called at {at}".format(**called),
                     "less_locking": ONE_AT_A_TIME[lock.function] + " at {at}".format(**called)}
         if name in (lock.place, lock.kind):
-            told.update(times=times_of(lock), less_locking=less_locking(facts, names, lock, told["less_locking"]))
+            reported.update(times=times_of(lock),
+                            less_locking=less_locking(facts, names, lock, reported["less_locking"]))
             break
-    return told
+    return reported
 
 
 def words_of_suspect(facts, names):
@@ -383,9 +384,9 @@ def speed_words(facts):
     if not one:
         return ""
     times = one / max(facts.seen, 1)
-    told = "no faster" if 1 / NO_FASTER < times < NO_FASTER else "%.1f times as fast" % times if times > 1 else \
+    reported = "no faster" if 1 / NO_FASTER < times < NO_FASTER else "%.1f times as fast" % times if times > 1 else \
         "%.1f times slower" % (1 / times)
-    return ", %s on one: %s" % (lasting(one), told)
+    return ", %s on one: %s" % (lasting(one), reported)
 
 
 def words_of_threads(facts):
@@ -463,9 +464,9 @@ def sure_words(found):
 def sure_lines(found, names, more):
     """How much of it is known, and where the rest is."""
     rest = unsure(found, names)
-    told = "%-*s%s" % (LABEL, "sure", ", ".join(sure_words(found)))
+    reported = "%-*s%s" % (LABEL, "sure", ", ".join(sure_words(found)))
     return [shortened(line, WIDTH) for line in filter(None, [
-        told, "%-*s%s" % (LABEL, "", "not known: " + rest) if rest else "",
+        reported, "%-*s%s" % (LABEL, "", "not known: " + rest) if rest else "",
         "%-*s%s" % (LABEL, "more", more) if more else ""])]
 
 

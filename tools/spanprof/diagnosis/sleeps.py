@@ -5,8 +5,8 @@ from collections import Counter
 from spanprof.diagnosis.calls import OF_SYSTEM, caller_of, is_of_program
 from spanprof.diagnosis.directives import COMMENT, code_of
 
-MOST = 0.8      # of a place's sleep, from which on one call is told as all of it
-LEAST = 0.1     # from which on a call is told beside another
+MOST = 0.8      # of a place's sleep, from which on one call is reported as all of it
+LEAST = 0.1     # from which on a call is reported beside another
 MOST_LINES = 2
 OF_LIBRARY = re.compile("^(__)?libc_")      # before the name of a function, where the C library has it twice
 FOR_PROGRAMS = ("system", "wait", "waitpid", "wait4", "waitid", "pclose")
@@ -36,21 +36,21 @@ def sooner(facts, name):
     return "the longest first" if is_of_programs(facts, name) else "use more threads"
 
 
-def words_of_sleep(facts, name, told):
+def words_of_sleep(facts, name, reported):
     """Such as `in read, called by load`, or of MPI for other ranks; two calls with their shares. What it may be where
     no sample tells."""
     sampled = by_call(facts.calls.slept.get(name, {}))
     found = [(call, share) for call, share in sampled[:2] if share >= LEAST and call[0]]
     if not found:
         return "for files, a network or other locks"
-    named = [function + (", called by " + caller if caller not in told else "") for (function, caller), _ in found]
+    named = [function + (", called by " + caller if caller not in reported else "") for (function, caller), _ in found]
     if len(found) == 1 or found[0][1] >= MOST:
         return "in " + named[0] + (" for a program that it started" if is_of_programs(facts, name) else "")
     return "in " + " and ".join("%s (%.0f %%)" % (one, 100 * share) for one, (_, share) in zip(named, found))
 
 
 def sleeper(names, name):
-    """What waits: a place's code; or where that is told by a function that it ran, and that slept little, the one that
+    """What waits: a place's code; or where that is known by a function that it ran, and that slept little, the one that
     slept."""
     place, slept = names.facts.places.get(name), names.facts.calls.slept.get(name, {})
     ran = place and names.ran(place)

@@ -50,8 +50,8 @@ def meaning(name, words, text, line, ask):
         return ["spanprof: standard output cannot be written"]
     words = words or ["span"]
     is_long = line == "error: input too long"
-    told = "%s: %s" % (name, TOO_LONG) if is_long else explained(name, words, text, line, ask, KINDS)
-    lines = told.split("\n")
+    reported = "%s: %s" % (name, TOO_LONG) if is_long else explained(name, words, text, line, ask, KINDS)
+    lines = reported.split("\n")
     if is_long or line.rpartition(" ")[2] in LIMITS:
         lines.append(of_size(name, words))
-    return [told for told in lines if told]
+    return [reported for reported in lines if reported]

@@ -40,12 +40,12 @@ def dot_lines(path):
 def answer(options):
     options.text = text_of(options.text)
     check_files(options.text, options.output, "graph")
-    told = dot_lines(options.text) if options.dot else table_lines(options.text)
+    reported = dot_lines(options.text) if options.dot else table_lines(options.text)
     if not options.output:
-        print(*told, sep="\n")
+        print(*reported, sep="\n")
         return
     with writing(options.output) as out:
-        print(*told, sep="\n", file=out)
+        print(*reported, sep="\n", file=out)
 
 
 def main(words):

@@ -81,8 +81,8 @@ def thread_of(event) -> Tuple:
 
 def name_of(event):
     """With what clang tells besides, such as a file or a function."""
-    told = event.get("args")
-    detail = told.get("detail", "") if isinstance(told, dict) else ""
+    reported = event.get("args")
+    detail = reported.get("detail", "") if isinstance(reported, dict) else ""
     return " ".join(filter(None, [str(event.get("name") or "a slice"), str(detail)]))
 
 
@@ -124,8 +124,8 @@ def trace_in(path, process=None):
     for event in events_in(path, text_of(path)):
         if process is not None and str(event.get("pid")) != process:
             continue
-        told = event.get("args")
-        is_sum = isinstance(told, dict) and "avg ms" in told    # of others, as clang adds it to a trace
+        reported = event.get("args")
+        is_sum = isinstance(reported, dict) and "avg ms" in reported    # of others, as clang adds it to a trace
         if event.get("ph") in ("X", "B", "E") and not is_sum:
             take_slice(trace, event, open_ones)
         elif event.get("ph") in FLOWS:

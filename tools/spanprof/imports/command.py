@@ -83,12 +83,12 @@ def answer(chosen):
     if more and (form == "starpu" or (form == "ninja") != bool(chosen.graph) or chosen.graph and chosen.process):
         raise Fault("%s: a graph is for a log of ninja, and --process for a trace" % chosen.file)
     out = chosen.out or name_of(chosen.file)
-    told = read(form, chosen.file, more)
-    why = write(chosen.file, out, told, chosen.force)
-    for note in told.notes + ["without the times of the run: " + why] * bool(why):
+    reported = read(form, chosen.file, more)
+    why = write(chosen.file, out, reported, chosen.force)
+    for note in reported.notes + ["without the times of the run: " + why] * bool(why):
         CONSOLE.say(note)
     answers = Answers(os.path.join(out + ENDING, TEXT))
-    print(first_line(os.path.basename(out), sum(task.begin is not None for task in told.tasks), answers),
+    print(first_line(os.path.basename(out), sum(task.begin is not None for task in reported.tasks), answers),
           curve_line(answers), path_line(answers), "more: spanprof report %s" % (out + ENDING), sep="\n")
 
 

@@ -15,10 +15,10 @@ from spanprof.recording import ENDING, TEXT, TIMES
 from spanprof.record.work import PART
 
 
-def fill(folder, path, name, told):
+def fill(folder, path, name, reported):
     """Writes what the file at `path` tells; answers why there are no times."""
-    tasks = in_order(told.tasks)
-    run, why = (None, told.no_times) if told.no_times else run_of(tasks)
+    tasks = in_order(reported.tasks)
+    run, why = (None, reported.no_times) if reported.no_times else run_of(tasks)
     unit = unit_of(tasks)
     numbers = (run.threads, run.elapsed) if run else ()
     written = datetime.fromtimestamp(os.stat(path).st_mtime, timezone.utc).strftime("%Y-%m-%dT%H:%M:%SZ")
@@ -27,14 +27,14 @@ def fill(folder, path, name, told):
     for file, its_lines in files.items():
         with naming(folder), open(os.path.join(folder, file), "w", encoding="utf-8", errors="replace") as out:
             out.writelines(its_lines)
-    facts = {"imported": told.tool or "a trace", "runtime": {"name": told.tool} if told.tool else None}
+    facts = {"imported": reported.tool or "a trace", "runtime": {"name": reported.tool} if reported.tool else None}
     write_meta(folder, {**facts, **({"elapsed_ns": run.elapsed, "threads": {"most": run.threads}} if run else {})})
     return why
 
 
-def write(path, out, told, is_forced=False):
+def write(path, out, reported, is_forced=False):
     """The recording NAME.spanprof for the NAME `out`, whole or not at all; answers why there are no times."""
-    if all(task.begin is None for task in told.tasks):
+    if all(task.begin is None for task in reported.tasks):
         raise Fault("%s: no task in it has times" % path)
     check_folder(out)
     final = out + ENDING
@@ -45,7 +45,7 @@ def write(path, out, told, is_forced=False):
     with naming(part):
         os.mkdir(part)
     try:
-        why = fill(part, path, os.path.basename(out), told)
+        why = fill(part, path, os.path.basename(out), reported)
         if os.path.exists(final):
             shutil.rmtree(final)
         os.rename(part, final)

@@ -27,10 +27,10 @@ def statements(tasks, size):
 def head(program, region, date, unit, threads=None, elapsed=None):
     """Threads and elapsed time are those of a run whose times are known."""
     recorded = {"program": program, "date": date, "threads": threads, "clock": "wall", "unit": unit}
-    told = [("recorded", {name: value for name, value in recorded.items() if value is not None}),
-            ("region", {"at": region, "number": 1, "of": 1})]
-    told += [("elapsed", elapsed // NANOSECONDS[unit])] if elapsed is not None else []
-    return ["# %s: %s\n" % (name, json.dumps(value)) for name, value in told]
+    reported = [("recorded", {name: value for name, value in recorded.items() if value is not None}),
+                ("region", {"at": region, "number": 1, "of": 1})]
+    reported += [("elapsed", elapsed // NANOSECONDS[unit])] if elapsed is not None else []
+    return ["# %s: %s\n" % (name, json.dumps(value)) for name, value in reported]
 
 
 def body(tasks, unit):

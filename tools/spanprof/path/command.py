@@ -36,8 +36,8 @@ def show(options, numbers, found):
     if options.csv:
         write_csv(found, sys.stdout)
         return
-    told = said(head_text(options.text)) + [title(numbers, found), proved(VERDICT)]
-    print(*told, *lines(found, numbers["work"], numbers["span"]), sep="\n")
+    reported = said(head_text(options.text)) + [title(numbers, found), proved(VERDICT)]
+    print(*reported, *lines(found, numbers["work"], numbers["span"]), sep="\n")
 
 
 def answer(options):

@@ -56,8 +56,8 @@ def answer(chosen):
         one = found[-1][0]
         with writing(chosen.output) as file:
             file.write(burdened_text(one.base.text, one.costs, remark(one)))
-    told = recordings[max(recordings)], machine, found
-    print(json.dumps(as_json(*told), indent=2) if chosen.json else "\n".join(lines(*told)))
+    reported = recordings[max(recordings)], machine, found
+    print(json.dumps(as_json(*reported), indent=2) if chosen.json else "\n".join(lines(*reported)))
 
 
 def main(words):

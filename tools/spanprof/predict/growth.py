@@ -9,7 +9,7 @@ from math import log2
 from spanprof.predict.matching import matched
 
 SHARE = 0.75    # fitted to the programs of checks/programs/predictions: from 0.05 to 2.3 of what the last one added
-LEAST = 0.01    # of the work: what a place with less has grown by is not told from its spread
+LEAST = 0.01    # of the work: what a place with less has grown by is not reported from its spread
 
 
 def doublings(fewer, more, threads):

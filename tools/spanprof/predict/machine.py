@@ -55,12 +55,12 @@ def as_json(machine):
         str(threads): {name: vars(one) for name, one in costs.items()} for threads, costs in machine.threads.items()}}
 
 
-def from_json(told):
-    if told.get("spanprof machine") != 1:
+def from_json(reported):
+    if reported.get("spanprof machine") != 1:
         raise ValueError("`spanprof machine` is not 1 in it")
     threads = {int(number): {name: Measured(**one) for name, one in costs.items()}
-               for number, costs in told["threads"].items()}
-    about = {name: told[name] for name in ("date", "processor", "runtime") if name in told}
+               for number, costs in reported["threads"].items()}
+    about = {name: reported[name] for name in ("date", "processor", "runtime") if name in reported}
     return Machine({number: threads[number] for number in sorted(threads)}, about)
 
 

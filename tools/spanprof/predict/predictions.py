@@ -66,7 +66,7 @@ def of_both(path, change, threads):
 
 
 def changed_told(path, change, threads):
-    """The same in a line and as JSON, or why no time is told; none as above."""
+    """The same in a line and as JSON, or why no time is reported; none as above."""
     try:
         both = of_both(path, change, threads)
     except Fault as why:

@@ -10,7 +10,7 @@ MODEL = "predicted: by a model of LLVM's scheduling, not proved; its intervals h
     "programs that nothing was fitted to, on 4 threads, and by five recordings in five of six"
 OF_GNU = "predicted: by a model of gcc's scheduling, not proved; tried on fourteen programs on 4 threads of it; " \
     "the intervals are those of LLVM's model"
-UNMATCHED = 0.05    # of the work, from which on it is told
+UNMATCHED = 0.05    # of the work, from which on it is reported
 PREEMPTED = 0.01    # likewise
 
 

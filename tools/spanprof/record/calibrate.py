@@ -56,8 +56,8 @@ def unrecorded(program, preload, threads, seconds):
     for number in range(PROCESSES):
         if number and time.monotonic() > until:
             break
-        told = run([program, str(threads)], without_recorder(os.environ, preload, threads))
-        for name, taken in samples_of(told).items():
+        reported = run([program, str(threads)], without_recorder(os.environ, preload, threads))
+        for name, taken in samples_of(reported).items():
             found[name] += taken
     return found
 
@@ -104,9 +104,9 @@ def processor():
 
 def table_lines(machine):
     for threads, costs in machine.threads.items():
-        told = ", ".join("%s %d (%d median, %d most)" % (name, one.least, one.median, one.most)
-                         for name, one in costs.items())
-        yield "on %d thread%s, in ns: %s" % (threads, "" if threads == 1 else "s", told)
+        reported = ", ".join("%s %d (%d median, %d most)" % (name, one.least, one.median, one.most)
+                             for name, one in costs.items())
+        yield "on %d thread%s, in ns: %s" % (threads, "" if threads == 1 else "s", reported)
 
 
 def calibrate(options):

@@ -85,11 +85,11 @@ def variables(chosen, folder):
     return dict(os.environ, **({"SPANPROF_UNIT": unit_asked} if unit_asked else {}))
 
 
-def tell_all(told, made="", name=""):
+def tell_all(reported, made="", name=""):
     """Ends with a fault where something could not be done. Files are named as they are in the end."""
-    for one in told:
+    for one in reported:
         CONSOLE.say(in_words(one).replace(made, name) if made else in_words(one))
-    if has_failed(told):
+    if has_failed(reported):
         raise Fault("nothing is written; --out names a recording elsewhere")
 
 
@@ -111,22 +111,22 @@ def target(chosen, log):
 def write_recording(chosen, program, log):
     folder = target(chosen, log)
     facts = {**old_meta(chosen.recording), "unit": variables(chosen, chosen.recording).get("SPANPROF_UNIT", "ns")}
-    told = convert_into(program, log, folder, variables(chosen, chosen.recording))
-    if has_failed(told) and folder != chosen.recording.rstrip(os.sep):
+    reported = convert_into(program, log, folder, variables(chosen, chosen.recording))
+    if has_failed(reported) and folder != chosen.recording.rstrip(os.sep):
         shutil.rmtree(folder)
-    if not has_failed(told):
+    if not has_failed(reported):
         if os.path.exists(os.path.join(folder, META)):
             os.remove(os.path.join(folder, META))
         write_meta(folder, {name: value for name, value in facts.items() if name != "files"})
-    tell_all(told)
+    tell_all(reported)
 
 
 def part_text(chosen, program, log, out, name):
     """The text of a region, or of the program in another unit."""
     asked = variables(chosen, chosen.recording)
     asked = of_region(asked, chosen.region) if chosen.region else dict(asked, SPANPROF_WHOLE="1")
-    told = convert(program, log, out, asked)
-    tell_all([one for one in told if one["message"] != "text"], out, name)
+    reported = convert(program, log, out, asked)
+    tell_all([one for one in reported if one["message"] != "text"], out, name)
     text = made_text(out)
     if not text and chosen.region:
         raise no_region(open_recording(chosen.recording), chosen.region)

@@ -56,7 +56,7 @@ class Counters:
 def words_of(counted):
     """A line of what was counted; nothing without it."""
     instructions, cycles, misses = map(counted.get, ("instructions", "cycles", "cache_misses"))
-    told = ["%.2f instructions per cycle" % (instructions / cycles)] if instructions and cycles else []
+    reported = ["%.2f instructions per cycle" % (instructions / cycles)] if instructions and cycles else []
     if instructions and misses is not None:
-        told.append("%.1f cache misses per 1,000 instructions" % (1000 * misses / instructions))
-    return [", ".join(told) + " (measured)"] * bool(told)
+        reported.append("%.1f cache misses per 1,000 instructions" % (1000 * misses / instructions))
+    return [", ".join(reported) + " (measured)"] * bool(reported)

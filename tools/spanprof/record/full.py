@@ -34,7 +34,7 @@ def cost_on_one(session):
 
 def full_facts(session, folder, times=None):
     """Of the recording in a folder, with the names of recording.json; `times` are those of unrecorded runs, where they
-    were made. Where a run fails that is told, and there are none."""
+    were made. Where a run fails that is reported, and there are none."""
     facts = old_meta(folder)
     threads = facts.get("threads") or {}
     most = threads.get("most") or threads.get("asked") or facts.get("processors") or 1

@@ -1,4 +1,4 @@
-"""What the converter of logs tells, in words: each thing is a dictionary of a line of JSON, and `told` names it."""
+"""The messages of the converter of logs, each a dictionary of a line of JSON, as sentences."""
 import os
 from dataclasses import dataclass
 
@@ -18,49 +18,49 @@ def milliseconds(nanoseconds):
     return "%.1f ms" % (nanoseconds / 1e6)
 
 
-def text(told):
+def text(line):
     """With the timed document, where it was asked for."""
-    times = " and " + told["times"] if "times" in told else \
-        "; no times, " + NO_TIMES[told["no times"]] if "no times" in told else ""
+    times = " and " + line["times"] if "times" in line else \
+        "; no times, " + NO_TIMES[line["no times"]] if "no times" in line else ""
     return "%s%s: %d tasks, %d segments, work %d %s" % (
-        told["file"], times, told["tasks"], told["segments"], told["work"], told["unit"])
+        line["file"], times, line["tasks"], line["segments"], line["work"], line["unit"])
 
 
-def too_large(told):
+def too_large(line):
     out = "%s is not written: it has %d %s, and %d is the most" % (
-        told["file"], told["has"], LIMITS[told["what"]], told["takes"])
-    return out + ("; " + WAYS[told["what"]] if told["what"] in WAYS else "")
+        line["file"], line["has"], LIMITS[line["what"]], line["takes"])
+    return out + ("; " + WAYS[line["what"]] if line["what"] in WAYS else "")
 
 
-def killed(told):
-    where = "inside a region" if told["inside"] else "outside of regions"
+def killed(line):
+    where = "inside a region" if line["inside"] else "outside of regions"
     return ("the log ends %s after recording began, %s: the program was killed before its runtime shut down, or "
-            "went on without it" % (milliseconds(told["recorded"]), where))
+            "went on without it" % (milliseconds(line["recorded"]), where))
 
 
 WORDS = {
     "text": text,
-    "remark": lambda told: "%s: %s" % (told["name"], remark_of(told["remark"])),
+    "remark": lambda line: "%s: %s" % (line["name"], remark_of(line["remark"])),
     "too large": too_large,
-    "outside": lambda told: "task outside of a parallel region, not recorded, " + occurrences(told),
-    "no tasks": lambda told: "no parallel region with tasks" +
-                             (", and the program ended inside a region" if told["inside"] else ""),
-    "unwritten": lambda told: "%s cannot be written%s" % (told["file"], ": " + told["why"] if "why" in told else ""),
+    "outside": lambda line: "task outside of a parallel region, not recorded, " + occurrences(line),
+    "no tasks": lambda line: "no parallel region with tasks" +
+                             (", and the program ended inside a region" if line["inside"] else ""),
+    "unwritten": lambda line: "%s cannot be written%s" % (line["file"], ": " + line["why"] if "why" in line else ""),
     "killed": killed,
-    "running": lambda told: "the program still runs: the log is that of its first %s" % milliseconds(told["recorded"]),
-    "stopped": lambda told: "%s %s after recording began, and what followed is not recorded" % (
-        STOPPED[told["why"]], milliseconds(told["recorded"])),
-    "fault": lambda told: "%s cannot be converted: %s" % (told.get("log", "the log"), told["what"]),
+    "running": lambda line: "the program still runs: the log is that of its first %s" % milliseconds(line["recorded"]),
+    "stopped": lambda line: "%s %s after recording began, and what followed is not recorded" % (
+        STOPPED[line["why"]], milliseconds(line["recorded"])),
+    "fault": lambda line: "%s cannot be converted: %s" % (line.get("log", "the log"), line["what"]),
 }
 
 
-def in_words(told):
-    return WORDS[told["message"]](told)
+def in_words(line):
+    return WORDS[line["message"]](line)
 
 
 @dataclass
 class Messages:
-    """What was told of all logs of a run; `loaded` is whether the runtime has loaded the recorder at all."""
+    """What was reported of all logs of a run; `loaded` is whether the runtime has loaded the recorder at all."""
     loaded: bool
     things: list
 

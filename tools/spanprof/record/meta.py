@@ -29,31 +29,31 @@ def of_text(text):
 
 def merged(old, new):
     """Numbers of threads come from two sides."""
-    told = [{name: value for name, value in (one.get("threads") or {}).items() if value is not None}
-            for one in (old, new)]
-    threads = {**told[0], **told[1]}
+    reported = [{name: value for name, value in (one.get("threads") or {}).items() if value is not None}
+                for one in (old, new)]
+    threads = {**reported[0], **reported[1]}
     return {**old, **{name: value for name, value in new.items() if value is not None}, "threads": threads}
 
 
 def write_meta(folder, facts):
     """Written last: with it the folder is whole. `facts` are those of the run."""
-    told = {"schema": SCHEMA, **facts}
+    reported = {"schema": SCHEMA, **facts}
     if os.path.exists(os.path.join(folder, TEXT)):
-        told = merged(told, of_text(os.path.join(folder, TEXT)))
-    told["runtime"] = next(iter(runtimes_of(os.path.join(folder, LOG))), None) or told.get("runtime")
-    told["files"] = {name: checksum(os.path.join(folder, name)) for name in files_in(folder)}
+        reported = merged(reported, of_text(os.path.join(folder, TEXT)))
+    reported["runtime"] = next(iter(runtimes_of(os.path.join(folder, LOG))), None) or reported.get("runtime")
+    reported["files"] = {name: checksum(os.path.join(folder, name)) for name in files_in(folder)}
     path = os.path.join(folder, META)
     with writing(path) as file:
-        json.dump(told, file, indent=1)
+        json.dump(reported, file, indent=1)
         file.write("\n")
-    return told
+    return reported
 
 
 def old_meta(folder):
     """What an earlier recording.json of the folder tells of its run; nothing where it is not whole."""
     try:
         with open(os.path.join(folder, META), encoding="utf-8") as file:
-            told = json.load(file)
+            reported = json.load(file)
     except (OSError, *DAMAGE):
         return {}
-    return told if isinstance(told, dict) else {}
+    return reported if isinstance(reported, dict) else {}

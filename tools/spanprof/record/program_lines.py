@@ -2,8 +2,8 @@
 from spanprof.durations import lasting
 
 MOST_TOLD = 3
-LEAST = 0.01    # of the program's time, from which on a place is told
-UNLIKE = 2      # times the median, from which on the longest is told
+LEAST = 0.01    # of the program's time, from which on a place is reported
+UNLIKE = 2      # times the median, from which on the longest is reported
 
 
 def place_words(place):
@@ -18,8 +18,8 @@ def program_line(program):
     """How the program's time divides, the greatest part first."""
     parts = [(program.outside, "outside of regions")] + \
         [(place.outermost, "in " + place_words(place)) for place in program.places]
-    told = sorted((part for part in parts if part[0] >= LEAST * program.elapsed), key=lambda part: -part[0])
-    words = ["%.1f %% %s" % (100 * part / program.elapsed, where) for part, where in told[:MOST_TOLD]]
+    reported = sorted((part for part in parts if part[0] >= LEAST * program.elapsed), key=lambda part: -part[0])
+    words = ["%.1f %% %s" % (100 * part / program.elapsed, where) for part, where in reported[:MOST_TOLD]]
     inside = max((place for place in program.places if place.is_inside), key=lambda place: place.total("code"),
                  default=None)
     if inside:

@@ -13,7 +13,7 @@ from spanprof.recording import TEXT
 
 
 def one_of_runs(session, number):
-    """How one run ended, its folders, and what is told of them. It has a folder of its own."""
+    """How one run ended, its folders, and what is reported of them. It has a folder of its own."""
     stem = os.path.join(session.work.part, "run%d" % number, os.path.basename(session.work.stem))
     os.mkdir(os.path.dirname(stem))
     rewind()
@@ -23,8 +23,8 @@ def one_of_runs(session, number):
 
 
 def numbers_of(text, elapsed):
-    told, unit = client.measured(text), head_of(text).nanoseconds or 1
-    return {"elapsed_ns": elapsed, "work_ns": told["work"] * unit, "span_ns": told["span"] * unit}
+    reported, unit = client.measured(text), head_of(text).nanoseconds or 1
+    return {"elapsed_ns": elapsed, "work_ns": reported["work"] * unit, "span_ns": reported["span"] * unit}
 
 
 def middle(numbers):

@@ -25,7 +25,7 @@ from spanprof.recording import ENDING, LOG, META, TEXT, open_recording
 
 @dataclass
 class Recorded:
-    """How the program ended, its recordings with a text, and what is told."""
+    """How the program ended, its recordings with a text, and what is reported."""
     status: int
     found: List[str] = field(default_factory=list)
     said: Messages = None
@@ -131,13 +131,13 @@ class Session:
                 "arguments": self.options.command}
 
     def write(self, folder, out, ended):
-        """The texts of a log in its folder, and what is told of them."""
+        """The texts of a log in its folder, and what is reported of them."""
         tell("converting the log of " + os.path.basename(folder))
-        told = convert_into(self.converter, os.path.join(folder, LOG), folder, self.variables(out))
+        reported = convert_into(self.converter, os.path.join(folder, LOG), folder, self.variables(out))
         self.note_once(note_of(os.path.join(folder, LOG)))
-        if not has_failed(told):
+        if not has_failed(reported):
             write_meta(folder, self.facts_of(ended, out, folder))
-        return told
+        return reported
 
     def write_all(self, folders, out, ended):
         return Messages(bool(folders), [one for folder in folders for one in self.write(folder, out, ended)])

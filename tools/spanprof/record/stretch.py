@@ -98,7 +98,7 @@ def write(path, lines):
 
 
 def write_part(recording, folder, begin, end):
-    """The files of the part between two moments in nanoseconds; what is told of locks is of the whole run."""
+    """The files of the part between two moments in nanoseconds; what is reported of locks is of the whole run."""
     with reading(recording.times):
         (threads, *_), (_, *columns) = times_in(recording.times)
     times = list(zip(*columns))     # of each segment worker, begin and end

@@ -14,7 +14,7 @@ from spanprof.record.counters import words_of
 from spanprof.record.ranks import is_child
 from spanprof.record.summary import named, other_region, summary
 from spanprof.record.summary_json import run_json, summary_json, write_json
-from spanprof.record.waits import told as told_of_waits, waited_for, waits_of
+from spanprof.record.waits import reported as told_of_waits, waited_for, waits_of
 from spanprof.recording import open_recording
 from spanprof.regions import program_of
 from spanprof.time_breakdown import recorded_breakdown
@@ -87,7 +87,7 @@ def print_measured(session, pairs, news, scale, is_cut):
 
 
 def print_summaries(session, recorded, scale=None):
-    """Of the program and its ranks; children are told of as recordings that are there."""
+    """Of the program and its ranks; children are reported of as recordings that are there."""
     found = [open_recording(folder) for folder in recorded.found if not is_child(folder)]
     pairs = [(one, answered(one)) for one in found]
     remarks = {remark for _, answers in pairs for remark in answers.head.remarks}

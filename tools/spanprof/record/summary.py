@@ -111,33 +111,33 @@ def told_threads(answers):
     return THREADS
 
 
-def at_most_line(answers, told):
+def at_most_line(answers, reported):
     """By `least`, and by the lock that was held the longest, which is measured and no part of what is proved."""
     head = answers.head
-    gains = ", ".join("%d: %s" % (p, rounded_up(answers.work, least_end(answers, p))) for p in told)
+    gains = ", ".join("%d: %s" % (p, rounded_up(answers.work, least_end(answers, p))) for p in reported)
     if gain_may_be_more(head):
         why = "(of the recorded text; %s)" % (OTHERWISE % "more")
-    elif any(lock_binds(answers, p) for p in told):
+    elif any(lock_binds(answers, p) for p in reported):
         why = "(measured: by the time inside the lock held longest)"
     else:
         why = proved_of_text(head)
     return "speedup at most %s %s" % (gains, why)
 
 
-def at_least_line(answers, told):
-    gains = ", ".join("%d: %s" % (p, rounded_down(answers.work, answers.curve[p]["bound"])) for p in told)
+def at_least_line(answers, reported):
+    gains = ", ".join("%d: %s" % (p, rounded_down(answers.work, answers.curve[p]["bound"])) for p in reported)
     return "speedup at least %s for a greedy schedule; tied tasks can do worse %s" % (
         gains, proved_of_text(answers.head))
 
 
 def threads_lines(answers):
     """What so many threads can give."""
-    told = told_threads(answers)
-    if not told:
+    reported = told_threads(answers)
+    if not reported:
         return [why_not_of_more_threads(answers.head)]
     others = [why_not_of_more_threads(answers.head)] if is_divided(answers.head) else []
-    lower = [] if gain_may_be_less(answers.head) else [at_least_line(answers, told)]
-    return [at_most_line(answers, told)] + lower + others
+    lower = [] if gain_may_be_less(answers.head) else [at_least_line(answers, reported)]
+    return [at_most_line(answers, reported)] + lower + others
 
 
 def lock_lines(answers, least):
@@ -153,11 +153,11 @@ def lock_lines(answers, least):
 
 def clock_lines(head):
     """Which part of the work was not on a processor all the time, or slept, by one clock beside the other."""
-    told = head.clocks_differ
-    if not told:
+    reported = head.clocks_differ
+    if not reported:
         return []
     return ["wall and processor time differ by more than 5 %% in %s %% of the work, by %s in all (measured)" % (
-        tenths(told["affected"], told["work"]), costs(told["by"], head))]
+        tenths(reported["affected"], reported["work"]), costs(reported["by"], head))]
 
 
 def place_lines(answers):

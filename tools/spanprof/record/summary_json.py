@@ -19,7 +19,7 @@ def summary_json(diagnosis, whole, scale):
     return {**(diagnosis or {}), **whole, "scale": scale_json(scale) if scale else None}
 
 
-def write_json(path, told):
+def write_json(path, reported):
     with writing(path, errors="replace") as file:
-        json.dump(told, file, indent=2)
+        json.dump(reported, file, indent=2)
         file.write("\n")

@@ -81,7 +81,7 @@ def write(path, text):
 
 
 def write_the_rest(chosen, progress):
-    """What was asked for; what was written is told."""
+    """What was asked for; what was written is reported."""
     if chosen.json:
         print(json.dumps(output_of(open_recording(chosen.program), chosen.source or ()).json(), indent=2))
     view = View(chosen.program, chosen.threads, chosen.source, progress) if chosen.output or chosen.trace else None
@@ -108,8 +108,8 @@ def check(chosen):
 
 def compare(chosen):
     """Prints what two recordings differ in; the process ends where the second is slower than it may be."""
-    told = [output_of(open_recording(path), chosen.source or ()) for path in (chosen.program, chosen.after)]
-    found = compared(*told)
+    reported = [output_of(open_recording(path), chosen.source or ()) for path in (chosen.program, chosen.after)]
+    found = compared(*reported)
     print(json.dumps(comparison_json(found), indent=2) if chosen.json else "\n".join(comparison_lines(found)))
     if is_slower(found, chosen.fail_above):
         sys.exit(SLOWER)

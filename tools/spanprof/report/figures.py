@@ -23,12 +23,12 @@ def percent(part, whole):
 
 
 def rounded_down(above, below):
-    """A quotient that is never told greater than it is."""
+    """A quotient that is never reported greater than it is."""
     return "%d.%02d" % divmod(100 * above // below, 100) if below else "1.00"
 
 
 def rounded_up(above, below):
-    """A quotient that is never told less than it is."""
+    """A quotient that is never reported less than it is."""
     return "%d.%02d" % divmod(-(-100 * above // below), 100) if below else "1.00"
 
 
@@ -51,8 +51,8 @@ class Figures:
     def data(self, words, value, source, kind, rounded=None, exact="", scale=1):
         """`exact` is the number in full, and `scale` what it is divided by where it is seen."""
         carried = value if isinstance(value, int) else "%.6g" % value
-        told = "%s (%s)" % (label(kind), source)
-        return tag("data", words, value=carried, title="%s: %s" % (exact, told) if exact else told,
+        reported = "%s (%s)" % (label(kind), source)
+        return tag("data", words, value=carried, title="%s: %s" % (exact, reported) if exact else reported,
                    data_from=source, data_rounded=rounded,
                    data_scale=None if scale == 1 else "%.12g" % scale, class_=kind)
 
@@ -78,7 +78,7 @@ class Figures:
         """A quotient that is always reached, rounded down."""
         return self.data(rounded_down(above, below), above / below if below else 1.0, source, kind, "down")
 
-    def told(self, name, words, sources, **attributes):
+    def reported(self, name, words, sources, **attributes):
         """An element, as of a picture, whose words have one number for each of the sources, in this order."""
         return tag(name, words, data_from="; ".join(sources), **attributes)
 

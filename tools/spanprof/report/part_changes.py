@@ -17,11 +17,11 @@ def command(name, threads, requests):
 
 def change_cell(view, number, step):
     """In words, and the command; a bound has none."""
-    told, name = view.diagnosis, "change-%d" % number
-    words = tag("span", change_sentence(told.found.facts, told.names, step), class_="place")
+    reported, name = view.diagnosis, "change-%d" % number
+    words = tag("span", change_sentence(reported.found.facts, reported.names, step), class_="place")
     if not step.change:
         return tag("span", words, class_="where change")
-    line = command(view.name, told.found.facts.threads, step.change.requests)
+    line = command(view.name, reported.found.facts.threads, step.change.requests)
     return tag("span", words, tag("code", line, id=name, title=line),
                tag("button", "copy", type="button", data_copy=name), class_="where change")
 

@@ -33,11 +33,11 @@ def times(found):
                one_time(lasting(found.best), "at best%s: all threads busy all the time" % how), class_="times")
 
 
-def parts(told):
+def parts(reported):
     """Of the bar: words, a share and a class. Losses in one function are one part."""
-    found, lost = told.found, {}
+    found, lost = reported.found, {}
     for loss in found.losses:
-        words = loss_name(told.names, loss).partition(" (")[0]
+        words = loss_name(reported.names, loss).partition(" (")[0]
         lost[words] = lost.get(words, 0) + found.facts.share(loss.time)
     large = [pair for pair in sorted(lost.items(), key=lambda pair: -pair[1]) if pair[1] >= LEAST][:MOST_PARTS]
     out = [("in code", found.facts.share(found.code_on_one), "of-code")] + \
@@ -51,22 +51,22 @@ def has_room(words, share):
     return len(words) <= 2 * LETTERS * share and max(map(len, words.split())) + 2 <= LETTERS * share
 
 
-def part_bar(told):
+def part_bar(reported):
     """What has no room for its words in the bar has them below it; on a phone the bar stands upright, and has all."""
     pieces, below = [], []
-    for words, share, class_ in parts(told):
+    for words, share, class_ in parts(reported):
         inside, seen = has_room(words + " 99 %", share), "%.0f %%" % (100 * share)
         pieces.append(tag("i", tag("span", words, " "), tag("b", seen), style="flex:%d" % max(1, 1000 * share),
                           title="%s: %.1f %%" % (words, 100 * share),
                           class_=class_ + " thin" * (not inside) + " thinnest" * (share < LEAST_SEEN)))
         below += [] if inside else [tag("span", tag("i", class_="key " + class_), "%s %s" % (words, seen))]
-    spoken = ", ".join("%s %.0f %%" % (words, 100 * share) for words, share, _ in parts(told))
+    spoken = ", ".join("%s %.0f %%" % (words, 100 * share) for words, share, _ in parts(reported))
     return [tag("div", *pieces, class_="went", role="img", aria_label=spoken),
             tag("p", *below, class_="legend of-went") if below else ""]
 
 
-def source_diff(told, step):
-    out, put = diff(told.names, step)
+def source_diff(reported, step):
+    out, put = diff(reported.names, step)
     lines = [tag("span", "- " + line, class_="out") for line in out] + \
         [tag("span", "+ " + line, class_="in") for line in put]
     return tag("pre", join(lines), class_="diff") if lines else ""
@@ -78,30 +78,31 @@ def gain(step):
                class_="gain")
 
 
-def then(told):
+def then(reported):
     rows = [tag("li", tag("span", "or in its place: " * step.is_instead,
-                          change_sentence(told.found.facts, told.names, step)), " ", gain(step))
-            for step in told.found.plan[1:]]
+                          change_sentence(reported.found.facts, reported.names, step)), " ", gain(step))
+            for step in reported.found.plan[1:]]
     return [tag("h3", "Then, on top of it"), tag("ol", *rows)] if rows else []
 
 
-def sure(told, warnings=0):
-    rest = unsure(told.found, told.names)
-    words = ", ".join(sure_words(told.found)) + (". Not known: %s." % rest if rest else ".")
+def sure(reported, warnings=0):
+    rest = unsure(reported.found, reported.names)
+    words = ", ".join(sure_words(reported.found)) + (". Not known: %s." % rest if rest else ".")
     link = [" ", tag("a", several(warnings, "warning"), href="#numbers"), "."] if warnings else []
     return tag("p", words, *link, class_="sure")
 
 
-def first_screen(told, warnings=0):
+def first_screen(reported, warnings=0):
     """Numbers are in words of the diagnosis: tables below have those that are worked out again."""
-    found = told.found
+    found = reported.found
     title = tag("h3", "Where the time of the %s went" % several(found.facts.threads, "thread"))
     lost = [tag("p", tag("b", "%.0f %%" % (100 * found.facts.lost_share(loss))), " lost: ",
-                lost_sentence(found.facts, told.names, loss), ".", class_="lost") for loss in found.causes]
-    first = [tag("div", tag("h3", "First"), tag("p", change_sentence(found.facts, told.names, step), " ", gain(step)),
-                 source_diff(told, step), class_="first") for step in found.plan[:1]]
-    return tag("div", headline(found), *lost, times(found), title, *part_bar(told), *first, *then(told),
-               sure(told, warnings), class_="diagnosis given")
+                lost_sentence(found.facts, reported.names, loss), ".", class_="lost") for loss in found.causes]
+    first = [tag("div", tag("h3", "First"),
+                 tag("p", change_sentence(found.facts, reported.names, step), " ", gain(step)),
+                 source_diff(reported, step), class_="first") for step in found.plan[:1]]
+    return tag("div", headline(found), *lost, times(found), title, *part_bar(reported), *first, *then(reported),
+               sure(reported, warnings), class_="diagnosis given")
 
 
 def without_run(view):
@@ -117,6 +118,6 @@ def without_run(view):
 
 
 def first_part(view):
-    told, head = view.diagnosis, view.answers.head
-    screen = first_screen(told, len(head.remarks) + len(head.locks)) if told else without_run(view)
+    reported, head = view.diagnosis, view.answers.head
+    screen = first_screen(reported, len(head.remarks) + len(head.locks)) if reported else without_run(view)
     return tag("section", screen, id="summary")

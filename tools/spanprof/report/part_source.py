@@ -5,7 +5,7 @@ from spanprof.report.markup import breakable, join, note, section, tag
 
 MOST_FILES, MOST_LINES, AROUND = 6, 800, 3
 DARKEST = 0.45      # so that words on it can be read
-LEAST = 0.05        # per cent, which are told as 0.1
+LEAST = 0.05        # per cent, which are reported as 0.1
 
 
 def of_files(view):

@@ -35,7 +35,7 @@ def digits_of(value, way=None):
 
 
 def rounded(value, digits, way):
-    """As the page's tests round: to the nearest, or so that a bound is never told better than it is."""
+    """As the page's tests round: to the nearest, or so that a bound is never reported better than it is."""
     if not way:
         return value
     near = round(value * 10 ** digits, 6)   # a quotient in binary is not quite itself

@@ -27,6 +27,6 @@ def recording(folder, name="mine", schema=1, facts=(), **files):
         write(os.path.join(path, file), text)
     write(os.path.join(path, "log", "head"), "")
     sums = {file: hashlib.sha256(text.encode()).hexdigest() for file, text in words.items()}
-    told = {"schema": schema, "unit": "us", "files": sums, **dict(facts)}
-    write(os.path.join(path, "recording.json"), json.dumps(told))
+    reported = {"schema": schema, "unit": "us", "files": sums, **dict(facts)}
+    write(os.path.join(path, "recording.json"), json.dumps(reported))
     return path

@@ -10,10 +10,10 @@ MS = 10 ** 6
 setUpModule = with_a_proved_program
 
 
-def account(**told):
+def account(**reported):
     """4 x 68 ms: a task of 128 ms ran beside others that were ready, and then alone."""
     made = TimeBreakdown(**dict(dict(threads=4, elapsed=68 * MS, busy=128 * MS, delayed=112 * MS, starved=24 * MS,
-                                     outside=8 * MS), **told))
+                                     outside=8 * MS), **reported))
     made.idle = ({"task at a.c:3": 84 * MS, "task at a.c:5": 28 * MS}, {"the beginning": 24 * MS})
     return made
 
@@ -60,10 +60,10 @@ class Words(unittest.TestCase):
                          ["0 ns", "7 ns", "999 ns", "1.23 us", "68.0 ms", "123 ms", "1.50 s", "12.3 s"])
 
     def test_json(self):
-        told = json.loads(json.dumps(as_json(account(blocked=Blocked(1, 2, 3)))))
-        self.assertEqual(sum(told["parts"].values()), told["threads"] * told["elapsed"])
-        self.assertEqual((told["parts"]["asleep"], told["parts"]["code"]), (2, 128 * MS - 6))
-        self.assertEqual(sum(told["delayed beside"].values()), told["parts"]["delayed"])
+        reported = json.loads(json.dumps(as_json(account(blocked=Blocked(1, 2, 3)))))
+        self.assertEqual(sum(reported["parts"].values()), reported["threads"] * reported["elapsed"])
+        self.assertEqual((reported["parts"]["asleep"], reported["parts"]["code"]), (2, 128 * MS - 6))
+        self.assertEqual(sum(reported["delayed beside"].values()), reported["parts"]["delayed"])
 
 
 if __name__ == "__main__":

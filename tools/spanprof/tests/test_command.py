@@ -43,9 +43,9 @@ class Ends(unittest.TestCase):
             print("usage: mine")
             raise SystemExit(0)
         with full() as out, mock.patch("sys.stdout", out), mock.patch("signal.signal"), \
-                self.assertRaises(SystemExit) as ended, contextlib.redirect_stderr(io.StringIO()) as told:
+                self.assertRaises(SystemExit) as ended, contextlib.redirect_stderr(io.StringIO()) as reported:
             end_with(Console("mine"), help_and_end)
-        self.assertEqual((ended.exception.code, told.getvalue()),
+        self.assertEqual((ended.exception.code, reported.getvalue()),
                          (1, "mine: standard output: No space left on device\n"))
 
     def test_standard_error_without_room_or_closed_changes_no_status(self):

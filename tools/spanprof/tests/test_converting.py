@@ -20,8 +20,8 @@ class Converters(InFolder):
         return converting.convert(self.converter(words), "a/log", "b", dict(os.environ, **dict(variables)))
 
     def test_what_it_tells(self):
-        told = self.convert("echo \"{\\\"message\\\": \\\"$1 $2 ${LD_PRELOAD-none}\\\"}\"", {"LD_PRELOAD": "/x.so"})
-        self.assertEqual(told, [{"message": "a/log b none"}])
+        reported = self.convert("echo \"{\\\"message\\\": \\\"$1 $2 ${LD_PRELOAD-none}\\\"}\"", {"LD_PRELOAD": "/x.so"})
+        self.assertEqual(reported, [{"message": "a/log b none"}])
 
     def test_why_it_failed(self):
         for words, what in (("exit 3", "its converter ended with status 3"),
@@ -43,22 +43,22 @@ class Converters(InFolder):
 
     def test_texts_come_into_the_folder(self):
         folder = recording(self.folder)
-        told = self.into(folder, 'echo new > $2.tasks; echo off > $2.off\n'
-                                 'echo "{\\"message\\": \\"text\\", \\"file\\": \\"$2.tasks\\"}"')
-        self.assertEqual(told, [{"message": "text", "file": os.path.join(folder, "program.tasks")}])
+        reported = self.into(folder, 'echo new > $2.tasks; echo off > $2.off\n'
+                                     'echo "{\\"message\\": \\"text\\", \\"file\\": \\"$2.tasks\\"}"')
+        self.assertEqual(reported, [{"message": "text", "file": os.path.join(folder, "program.tasks")}])
         self.assertEqual(sorted(os.listdir(folder)), ["log", "off", "program.tasks", "recording.json"])
 
     def test_one_that_dies_changes_nothing(self):
         folder = recording(self.folder)
         before = sorted(os.listdir(folder))
-        told = self.into(folder, "echo half > $2.tasks; kill -9 $$")
-        self.assertTrue(converting.has_failed(told))
+        reported = self.into(folder, "echo half > $2.tasks; kill -9 $$")
+        self.assertTrue(converting.has_failed(reported))
         self.assertEqual(sorted(os.listdir(folder)), before)
         self.assertTrue(open_recording(folder).text)
 
     def test_a_line_that_is_cut(self):
-        told = self.convert("printf '{\"message\": \"te'; kill -9 $$")
-        self.assertEqual([one["message"] for one in told], ["fault"])
+        reported = self.convert("printf '{\"message\": \"te'; kill -9 $$")
+        self.assertEqual([one["message"] for one in reported], ["fault"])
 
 
 class Regions(InFolder):

@@ -37,21 +37,21 @@ class Written:
     def under(self, costs, count):
         return list(costs[:count.value]) or self.own
 
-    def spanprof_measure(self, text, _bytes, any_size, costs, count, told, place):
+    def spanprof_measure(self, text, _bytes, any_size, costs, count, reported, place):
         number = self.answers(text, any_size, costs, count, place)
         if number == 0:
             work = sum(self.under(costs, count))
-            fill(told, segments=len(self.own), work=work, span=work)
+            fill(reported, segments=len(self.own), work=work, span=work)
         return number
 
     def spanprof_segments(self, _text, _bytes, _any, tasks, _many, costs, _also, _place):
         tasks[:], costs[:] = [0, 1, 0, 0], self.own
         return 0
 
-    def spanprof_analyse(self, _text, _bytes, _any, costs, count, starts, _s, slacks, _l, path, _p, told, _place):
+    def spanprof_analyse(self, _text, _bytes, _any, costs, count, starts, _s, slacks, _l, path, _p, reported, _place):
         under = self.under(costs, count)
         starts[:], slacks[:], path[:] = [sum(under[:s]) for s in range(4)], [0] * 4, [0, 1, 2, 3]
-        fill(told, work=sum(under), span=sum(under), path_length=3)
+        fill(reported, work=sum(under), span=sum(under), path_length=3)
         return 0
 
     def spanprof_greedy(self, _text, _bytes, _any, costs, count, threads, starts, _s, on, _o, end, _place):
@@ -67,24 +67,24 @@ class Written:
         legal._obj.value = list(starts[:many.value]) == [0, 1, 2, 3]
         return 0
 
-    def spanprof_bounds(self, work, span, threads, told):
-        fill(told, least=max(span.value, work.value // threads.value), greatest=work.value)
+    def spanprof_bounds(self, work, span, threads, reported):
+        fill(reported, least=max(span.value, work.value // threads.value), greatest=work.value)
         return 0
 
     def spanprof_account(self, _text, _bytes, _any, count, first, last, threads, _t, begins, _b, ends, _e, ready, many,
-                         told, place):
+                         reported, place):
         if threads[3] == 9:
             place._obj.segment, place._obj.other = 3, 2
             return 23
-        fill(told, busy=count.value, delayed=first.value, starved=last.value, outside=begins[1] + ends[1])
+        fill(reported, busy=count.value, delayed=first.value, starved=last.value, outside=begins[1] + ends[1])
         ready[:] = range(many.value)
         return 0
 
-    def spanprof_check(self, document, _bytes, _any, told, place):
+    def spanprof_check(self, document, _bytes, _any, reported, place):
         if b"chain" not in document.value:
             place._obj.segment = 0
             return 25
-        fill(told, segments=4, ends_at=9)
+        fill(reported, segments=4, ends_at=9)
         return 0
 
 
@@ -257,7 +257,7 @@ class Arrays(unittest.TestCase):
     def test_numpy_where_it_is_there(self):
         if c_calls.numpy() is None:
             self.skipTest("numpy is missing")
-        numbers = c_calls.told(array.array("Q", [2 ** 63, 1]))
+        numbers = c_calls.reported(array.array("Q", [2 ** 63, 1]))
         self.assertEqual((str(numbers.dtype), int(numbers[0])), ("uint64", 2 ** 63))
 
 

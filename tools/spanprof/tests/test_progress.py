@@ -50,8 +50,8 @@ class Lines(unittest.TestCase):
         Progress("a", Gone(True), iter([0, 5]).__next__).at(1)
 
     def test_each_of_some_things(self):
-        told = self.shown(True, 5, lambda progress: self.assertEqual(list(each("abcd", progress)), list("abcd")))
-        self.assertEqual([line[12:14] for line in told.split("\r\033[K")[1:]], ["0 ", "25", "50", "75", ""])
+        reported = self.shown(True, 5, lambda progress: self.assertEqual(list(each("abcd", progress)), list("abcd")))
+        self.assertEqual([line[12:14] for line in reported.split("\r\033[K")[1:]], ["0 ", "25", "50", "75", ""])
 
 
 class Processes(unittest.TestCase):

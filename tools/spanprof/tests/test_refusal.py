@@ -20,53 +20,53 @@ def refusing(wrong, kind):
     return ask
 
 
-def told(answer, wrong=None, words=("span",), text=TEXT):
+def reported(answer, wrong=None, words=("span",), text=TEXT):
     kind = AT_LINE.match(answer)
     return explained("mine.tasks", list(words), text, answer, refusing(wrong, kind[2] if kind else ""))
 
 
 class OfALine(unittest.TestCase):
     def test_the_first_wrong_token_and_the_word_meant(self):
-        self.assertEqual(told("error: line 3: BadWord", "tasks").split("\n"), [
+        self.assertEqual(reported("error: line 3: BadWord", "tasks").split("\n"), [
             "mine.tasks:3:8: BadWord: unexpected `tasks`; did you mean `task`?",
             "    3 | task { tasks { } work 3",
             "      |        ^~~~~"])
 
     def test_the_last_token_of_a_line(self):
-        self.assertTrue(told("error: line 3: BadNumber", "3").endswith("^"))
+        self.assertTrue(reported("error: line 3: BadNumber", "3").endswith("^"))
 
     def test_a_token_that_is_not_found(self):
         self.assertIn("mine.tasks:2: BadWord: unexpected word\n    2 | work 5",
-                      told("error: line 2: BadWord", "x"))
+                      reported("error: line 2: BadWord", "x"))
 
     def test_the_end_of_the_text(self):
-        self.assertIn("the text ends too early", told("error: line 5: BadWord", "x"))
+        self.assertIn("the text ends too early", reported("error: line 5: BadWord", "x"))
 
     def test_every_kind_of_a_line_has_words(self):
         for kind in ("TooLong", "BadByte", "TooDeep", "TooManyTasks", "WorkTooLarge", "TooManyTurns", "Unopened"):
-            self.assertRegex(told("error: line 3: " + kind, "}"), "^mine.tasks:3(:[0-9]+)?: %s: .{10}" % kind)
+            self.assertRegex(reported("error: line 3: " + kind, "}"), "^mine.tasks:3(:[0-9]+)?: %s: .{10}" % kind)
 
     def test_an_empty_text(self):
         for text in ("", "# nothing\n"):
-            self.assertEqual(told("error: line 1: BadHeader", "x", text=text),
+            self.assertEqual(reported("error: line 1: BadHeader", "x", text=text),
                              "mine.tasks: the text is empty; one begins with `omptasks 1`, or `omptasks 2` where it "
                              "has loops")
 
     def test_a_version_that_there_is_not(self):
-        self.assertIn("there are versions 1 and 2", told("error: line 1: BadHeader", "3", text="omptasks 3\n"))
-        self.assertNotIn("there are versions", told("error: line 1: BadHeader", "tasks", text="tasks 1\n"))
+        self.assertIn("there are versions 1 and 2", reported("error: line 1: BadHeader", "3", text="omptasks 3\n"))
+        self.assertNotIn("there are versions", reported("error: line 1: BadHeader", "tasks", text="tasks 1\n"))
 
     def test_what_is_no_text(self):
         for text in ("/* of C */\n", "\x7fELF\n"):
-            self.assertEqual(told("error: line 1: BadByte", text[0], text=text),
+            self.assertEqual(reported("error: line 1: BadByte", text[0], text=text),
                              "mine.tasks: not a program text, which begins with `omptasks 1`; a recording is a folder, "
                              "NAME.spanprof")
-        self.assertIn("byte order mark", told("error: line 1: BadByte", "\ufeff", text="\ufeffomptasks 1\n"))
+        self.assertIn("byte order mark", reported("error: line 1: BadByte", "\ufeff", text="\ufeffomptasks 1\n"))
 
 
 class NumbersAndBytes(unittest.TestCase):
     def of(self, kind, line, wrong):
-        return told("error: line 2: " + kind, wrong, text="omptasks 2\n%s\n" % line).partition("\n")[0]
+        return reported("error: line 2: " + kind, wrong, text="omptasks 2\n%s\n" % line).partition("\n")[0]
 
     def test_which_numbers_there_may_be(self):
         for line, wrong, words in (("work 9000000000000", "9000000000000", "a cost is a whole number up to 1,0"),
@@ -109,27 +109,27 @@ class Braces(unittest.TestCase):
 
 class OfMore(unittest.TestCase):
     def test_an_unknown_segment(self):
-        self.assertEqual(told("error: UnknownSegment", words=("whatif", "2=1", "9=4")),
+        self.assertEqual(reported("error: UnknownSegment", words=("whatif", "2=1", "9=4")),
                          "mine.tasks: there is no segment 9; segments are 0 to 3, and `spanprof slack` lists them")
 
     def test_an_event(self):
         log = TEXT + "---\nstart 0 0 finish 0 0\nstart 0 3\n"
-        self.assertEqual(told("error: event 2: NotReady 1", words=("replay",), text=log),
+        self.assertEqual(reported("error: event 2: NotReady 1", words=("replay",), text=log),
                          "mine.tasks: `start 0 3`: its predecessor, segment 1, has not finished")
-        self.assertIn("workers are 0 to 63", told("error: event 0: UnknownWorker", words=("replay",), text=log))
+        self.assertIn("workers are 0 to 63", reported("error: event 0: UnknownWorker", words=("replay",), text=log))
 
     def test_ranges(self):
-        self.assertEqual(told("error: ThreadCount"), "mine.tasks: a number of threads is 1 to 1,024")
-        self.assertIn("of different versions", told("error: wrong words"))
+        self.assertEqual(reported("error: ThreadCount"), "mine.tasks: a number of threads is 1 to 1,024")
+        self.assertIn("of different versions", reported("error: wrong words"))
 
     def test_other_lines_have_no_words(self):
-        self.assertEqual(told("error: Broken 1 3"), "")
+        self.assertEqual(reported("error: Broken 1 3"), "")
 
 
 class OfALargeText(unittest.TestCase):
     def test_its_token_is_not_looked_for(self):
         with mock.patch.object(refusal, "MOST_ASKED", 10):
-            self.assertEqual(told("error: line 3: BadWord", "tasks").split("\n"), [
+            self.assertEqual(reported("error: line 3: BadWord", "tasks").split("\n"), [
                 "mine.tasks:3: BadWord: unexpected word", "    3 | task { tasks { } work 3", "      | ^"])
 
 

@@ -19,7 +19,7 @@ class Remarks(unittest.TestCase):
         self.assertLessEqual(set(UNFINISHED), set(names))
 
     def test_what_is_seen_where_and_what_it_moves(self):
-        for told, words in (
+        for reported, words in (
                 ({"remark": "detach", "times": 1, "at": "a.c:3", "span": "low"},
                  "detach, written as complete where the code ends, 1 time at a.c:3: span too low"),
                 ({"remark": "mutexinoutset", "times": 2, "first": "a.c:3", "span": "low"},
@@ -31,7 +31,7 @@ class Remarks(unittest.TestCase):
                 ({"remark": "rounded up", "work": "high", "span": "either"},
                  "rounding to whole units, more than 2 % of the work: work too high, span too low or too high"),
                 ({"remark": "of a later version"}, "of a later version")):
-            self.assertEqual(remark_of(told), words)
+            self.assertEqual(remark_of(reported), words)
 
     def test_one_with_words_of_its_own(self):
         self.assertEqual(read_remark(in_json("changed text", "one wait dropped", work="either", span="either")),
@@ -39,8 +39,8 @@ class Remarks(unittest.TestCase):
         self.assertEqual(read_remark(in_json("median", "a median", "of no single run")), "a median: of no single run")
 
     def test_which_numbers_are_moved(self):
-        def ways(*told):
-            head = Head(remarks=[read_remark(one) for one in told])
+        def ways(*reported):
+            head = Head(remarks=[read_remark(one) for one in reported])
             return moved(head, "work"), moved(head, "span")
         self.assertEqual(ways(), (set(), set()))
         self.assertEqual(ways('{"remark": "detach", "span": "low"}', '{"remark": "region in a task", "span": "high"}'),

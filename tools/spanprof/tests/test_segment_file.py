@@ -19,13 +19,13 @@ TOLD = {"segments": 7, "kinds": KINDS, "long": [6, 1 << 33], "own": [4, 1], "cla
 ROWS = [(0, 0, 7), (1, 1, 5), (2, 1, 6), (3, 0, 0), (4, 2, 1), (5, 0, 0), (6, 0, 0)]    # kind, task, cost
 
 
-def table(rows, told, of_a_block=segment_file.OF_A_BLOCK):
+def table(rows, reported, of_a_block=segment_file.OF_A_BLOCK):
     """As the converter writes it."""
     out = b""
     for first in range(0, len(rows), of_a_block):
         kinds, tasks, costs = zip(*rows[first:first + of_a_block])
         out += struct.pack("=%dH%dI" % (len(kinds), 2 * len(kinds)), *kinds, *tasks, *costs)
-    return out + b"\n" + json.dumps(told).encode() + b"\n"
+    return out + b"\n" + json.dumps(reported).encode() + b"\n"
 
 
 def read(data):
@@ -55,13 +55,13 @@ class OfARecording(unittest.TestCase):
                 read(data)
 
     def test_it_lies_beside_the_text_of_a_recording(self):
-        told = {"segments": 3, "kinds": KINDS[:2] + KINDS[3:4], "long": [], "own": [], "clauses": []}
+        reported = {"segments": 3, "kinds": KINDS[:2] + KINDS[3:4], "long": [], "own": [], "clauses": []}
         with tempfile.TemporaryDirectory() as folder:
             path = recording(folder)
             text = os.path.join(path, "program.tasks")
             cut = code_in(text)
             with open(os.path.join(path, "segments"), "wb") as file:
-                file.write(table([(0, 0, 9), (1, 1, 8), (2, 0, 7)], told))
+                file.write(table([(0, 0, 9), (1, 1, 8), (2, 0, 7)], reported))
             os.utime(text, (1, 1))
             self.assertEqual([one.cost for one in (*cut, *code_in(text))], [0, 5, 4, 9, 8, 7])
             self.assertIn("work 5", OF_A_RECORDING)

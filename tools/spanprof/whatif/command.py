@@ -57,7 +57,7 @@ def parse(words):
 
 
 def compare(chosen, text, before, path):
-    """Writes the changed text to a file, and prints what is told of both."""
+    """Writes the changed text to a file, and prints what is reported of both."""
     threads = list(before.on)
     found = text.statements()
     seen = survey(found)
@@ -71,13 +71,13 @@ def compare(chosen, text, before, path):
     if idle:
         raise Fault("this changes nothing: %s" % idle[0].words())
     after = numbers_of(TextFile(path), threads)
-    told = list(notes(chosen.requests, made, costs, text.head, threads))
+    reported = list(notes(chosen.requests, made, costs, text.head, threads))
 
     def changed(region):
         return as_text(applied(statements(region.splitlines()), asked()))
     times, predicted = changed_told(chosen.text, changed, threads[0]) if text.head.is_measured else ([], None)
-    print(as_json(told, before, after, predicted) if chosen.json else
-          "\n".join([*told, *lines(before, after, text.head.unit), *times]),
+    print(as_json(reported, before, after, predicted) if chosen.json else
+          "\n".join([*reported, *lines(before, after, text.head.unit), *times]),
           file=sys.stderr if chosen.output == "-" else sys.stdout)
 
 

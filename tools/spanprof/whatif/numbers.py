@@ -25,9 +25,9 @@ class Numbers(NamedTuple):
     on: Dict[int, OnThreads]
 
 
-def on_threads(told, threads):
+def on_threads(reported, threads):
     """The rows of these numbers of threads in a table."""
-    rows = {row.get("threads"): row for row in client.rows(told)}
+    rows = {row.get("threads"): row for row in client.rows(reported)}
     try:
         return {p: OnThreads(*(int(rows[str(p)][name]) for name in OnThreads._fields if name in rows[str(p)]))
                 for p in threads}

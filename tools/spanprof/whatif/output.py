@@ -1,4 +1,4 @@
-"""What is told of a text and its changed text, in lines and as JSON."""
+"""What is reported of a text and its changed text, in lines and as JSON."""
 import json
 
 from spanprof.head import grouped
@@ -56,8 +56,8 @@ def numbers_json(numbers):
             "threads": {str(p): row._asdict() for p, row in numbers.on.items()}}
 
 
-def as_json(told, before, after, predicted=None):
+def as_json(reported, before, after, predicted=None):
     """Without a model of the machine no time is predicted."""
-    out = {"notes": list(told), "text": numbers_json(before), "changed text": numbers_json(after),
+    out = {"notes": list(reported), "text": numbers_json(before), "changed text": numbers_json(after),
            "proved": proof_words(before, after)}
     return json.dumps({**out, "predicted": predicted} if predicted else out, indent=2)

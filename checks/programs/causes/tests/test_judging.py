@@ -20,9 +20,9 @@ class Judging(unittest.TestCase):
         self.assertIsNone(gain_of(None))
 
     def test_the_first_cause_counts(self):
-        told = {"diagnosis": [{"kind": "wait", "place": {"file": "/a/wait.cpp", "lines": "52", "function": "main"},
-                               "change": {"from_ms": 100, "to_ms": 40}}, {"kind": "serial"}]}
-        self.assertEqual(answer_of(told), ANSWER)
+        reported = {"diagnosis": [{"kind": "wait", "place": {"file": "/a/wait.cpp", "lines": "52", "function": "main"},
+                                   "change": {"from_ms": 100, "to_ms": 40}}, {"kind": "serial"}]}
+        self.assertEqual(answer_of(reported), ANSWER)
         self.assertEqual(answer_of({"diagnosis": []}), Answer("efficient", "", (), None))
 
     def test_right(self):

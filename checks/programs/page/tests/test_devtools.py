@@ -57,16 +57,16 @@ class Messages(unittest.TestCase):
 
 
 class Complaints(unittest.TestCase):
-    def told(self, method, **parameters):
+    def reported(self, method, **parameters):
         return FakePage([{"method": method, "params": parameters}]).complaints()
 
     def test_errors_and_fetches(self):
         thrown = {"exception": {"description": "x"}}
-        self.assertEqual(self.told("Runtime.exceptionThrown", exceptionDetails=thrown), ["x"])
-        self.assertEqual(self.told("Log.entryAdded", entry={"level": "error", "text": "no file"}), ["log: no file"])
-        self.assertEqual(self.told("Network.requestWillBeSent", type="Image", request={"url": "u"}), ["fetched: u"])
-        self.assertTrue(self.told("Runtime.consoleAPICalled", type="error", args=[]))
+        self.assertEqual(self.reported("Runtime.exceptionThrown", exceptionDetails=thrown), ["x"])
+        self.assertEqual(self.reported("Log.entryAdded", entry={"level": "error", "text": "no file"}), ["log: no file"])
+        self.assertEqual(self.reported("Network.requestWillBeSent", type="Image", request={"url": "u"}), ["fetched: u"])
+        self.assertTrue(self.reported("Runtime.consoleAPICalled", type="error", args=[]))
 
     def test_what_is_no_fault(self):
-        self.assertEqual(self.told("Network.requestWillBeSent", type="Document", request={"url": "u"}), [])
-        self.assertEqual(self.told("Runtime.consoleAPICalled", type="log", args=[]), [])
+        self.assertEqual(self.reported("Network.requestWillBeSent", type="Document", request={"url": "u"}), [])
+        self.assertEqual(self.reported("Runtime.consoleAPICalled", type="log", args=[]), [])

@@ -7,11 +7,11 @@ from measured import what_was_measured_is_told
 
 
 class Pages(unittest.TestCase):
-    def faults(self, told, *answers):
+    def faults(self, reported, *answers):
         with tempfile.TemporaryDirectory() as folder:
-            if told:
+            if reported:
                 with open(os.path.join(folder, "scale.json"), "w", encoding="utf-8") as file:
-                    file.write(told)
+                    file.write(reported)
             return list(what_was_measured_is_told(mock.Mock(evaluate=mock.Mock(side_effect=answers)), folder))
 
     def test_what_has_to_be_there(self):

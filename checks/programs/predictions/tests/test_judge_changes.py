@@ -46,9 +46,9 @@ class Changed(unittest.TestCase):
 
 
 def row(name, true, errors, times):
-    told = [Judged(name, turn, AFTER, true * (1 + error), 0.9 * true, 1.1 * true, 0.0, true)
-            for turn, error in enumerate(errors, 1)]
-    return Row(name, true, told, told[0], times)
+    reported = [Judged(name, turn, AFTER, true * (1 + error), 0.9 * true, 1.1 * true, 0.0, true)
+                for turn, error in enumerate(errors, 1)]
+    return Row(name, true, reported, reported[0], times)
 
 
 class Told(unittest.TestCase):

@@ -24,16 +24,16 @@ class OneThreadMakesTasks(unittest.TestCase):
         self.shape = shape(self.region, 2)
         self.body = self.shape.phases[0][0].body
 
-    def told(self, body):
+    def reported(self, body):
         return difference(self.shape, read(text(self.shape, [[body]])))
 
     def damaged(self, damage):
         body = copy.deepcopy(self.body)
         damage(body)
-        return self.told(body)
+        return self.reported(body)
 
     def test_right(self):
-        self.assertEqual(self.told(self.body), "")
+        self.assertEqual(self.reported(self.body), "")
 
     def test_more_cost_than_the_program_asks_for_is_right(self):
         self.assertEqual(self.damaged(lambda body: body.insert(0, 50)), "")
@@ -104,32 +104,33 @@ class SeveralThreadsMakeTasks(unittest.TestCase):
         self.every, self.single, self.master = [piece.body for piece in self.shape.phases[0]]
         self.turn = self.shape.phases[1][0].body
 
-    def told(self, *phases):
+    def reported(self, *phases):
         return difference(self.shape, read(text(self.shape, phases)))
 
     def test_any_thread_may_take_a_single_and_turns(self):
-        self.assertEqual(self.told([self.every + self.single, self.every], [self.turn * 3]), "")
-        self.assertEqual(self.told([self.every, self.every + self.single], [self.turn, self.turn * 2]), "")
+        self.assertEqual(self.reported([self.every + self.single, self.every], [self.turn * 3]), "")
+        self.assertEqual(self.reported([self.every, self.every + self.single], [self.turn, self.turn * 2]), "")
 
     def test_code_without_tasks_may_be_left_out_with_its_thread(self):
-        self.assertEqual(self.told([self.every + self.single, self.every + self.master], [self.turn * 3]), "")
+        self.assertEqual(self.reported([self.every + self.single, self.every + self.master], [self.turn * 3]), "")
 
     def test_a_thread_is_missing(self):
-        self.assertIn("recorded 1 times and executed 2 times", self.told([self.every + self.single], [self.turn * 3]))
+        self.assertIn("recorded 1 times and executed 2 times",
+                      self.reported([self.every + self.single], [self.turn * 3]))
 
     def test_a_single_is_executed_once(self):
         twice = [self.every + self.single, self.every + self.single]
-        self.assertIn("not made of parts", self.told(twice, [self.turn * 3]))
+        self.assertIn("not made of parts", self.reported(twice, [self.turn * 3]))
 
     def test_a_turn_is_missing(self):
-        self.assertIn("executed 3 times", self.told([self.every + self.single, self.every], [self.turn * 2]))
+        self.assertIn("executed 3 times", self.reported([self.every + self.single, self.every], [self.turn * 2]))
 
     def test_a_barrier_is_missing(self):
         one_phase = [self.every + self.single + self.turn * 3, self.every]
-        self.assertIn("1 phases", self.told(one_phase))
+        self.assertIn("1 phases", self.reported(one_phase))
 
     def test_the_order_of_a_thread(self):
-        self.assertIn("not made of parts", self.told([self.single + self.every, self.every], [self.turn * 3]))
+        self.assertIn("not made of parts", self.reported([self.single + self.every, self.every], [self.turn * 3]))
 
 
 class Hidden(unittest.TestCase):

@@ -45,9 +45,9 @@ def judged(text, shape, threads=4):
 class Doubts(unittest.TestCase):
     def test_what_a_remark_moves(self):
         remark = "preempted in code, counted as wall time, 9 times at shapes.c:45: "
-        told = [doubts_of(read(GOOD.replace("warnings      none", "warnings      " + words).splitlines()))
-                for words in ("none", remark + "work and span too high", "a lock, 4 times: span too low")]
-        self.assertEqual(told, ["", "work and span", "span"])
+        reported = [doubts_of(read(GOOD.replace("warnings      none", "warnings      " + words).splitlines()))
+                    for words in ("none", remark + "work and span too high", "a lock, 4 times: span too low")]
+        self.assertEqual(reported, ["", "work and span", "span"])
 
 
 class Readings(unittest.TestCase):
@@ -119,18 +119,18 @@ class Judgements(unittest.TestCase):
 
 
 class Wholes(unittest.TestCase):
-    def told(self, text):
+    def reported(self, text):
         return blocks(("a line of the program\n" + text).splitlines())
 
     def test_without_what_stands_before(self):
-        found = self.told(WHOLE)
+        found = self.reported(WHOLE)
         self.assertEqual(["%.3f" % read(lines).share for lines in found], ["0.999"])
-        self.assertEqual(self.told("shapes: nothing\n"), [])
+        self.assertEqual(self.reported("shapes: nothing\n"), [])
 
     def test_against_the_program(self):
         whole = BY_NAME["serial"].whole(5)
-        self.assertEqual(faults(read(self.told(WHOLE)[0]), whole, 4), [])
-        self.assertEqual(faults(read(self.told(WHOLE.replace("130 ms", "150 ms"))[0]), whole, 4),
+        self.assertEqual(faults(read(self.reported(WHOLE)[0]), whole, 4), [])
+        self.assertEqual(faults(read(self.reported(WHOLE.replace("130 ms", "150 ms"))[0]), whole, 4),
                          ["no number of threads ends before 150.0, and 130.0 is true"])
 
 

@@ -20,9 +20,9 @@ class Around(unittest.TestCase):
     def test_tasks_that_a_program_has_not(self):
         lines = ["cause  too few tasks: for 70 %", "first change  the beginning in 4 tasks, if it can be divided",
                  "98.1 % of the span: turns of the loop at a.c:3", "0.1 % of the span: after taskgroup at a.c:3"]
-        told = {shape.name: told_of_tasks(lines, shape) for shape in SHAPES if shape.name in ("loop", "all_kinds")}
-        self.assertEqual(told, {"loop": ["it has no tasks: " + lines[0], "it has no tasks: " + lines[3]],
-                                "all_kinds": []})
+        reported = {shape.name: told_of_tasks(lines, shape) for shape in SHAPES if shape.name in ("loop", "all_kinds")}
+        self.assertEqual(reported, {"loop": ["it has no tasks: " + lines[0], "it has no tasks: " + lines[3]],
+                                    "all_kinds": []})
 
 
 if __name__ == "__main__":

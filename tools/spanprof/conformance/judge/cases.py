@@ -150,14 +150,14 @@ class Examined:
         verdict = self.judge.verdict(self.text, record_of(self.record, self.table, log), log)
         if not verdict.accepted:
             return verdict
-        told = {"chunks": wrong_chunks(self.table, log)}
+        reported = {"chunks": wrong_chunks(self.table, log)}
         if not log.unlogged:
             search = functools.partial(overlapping, search=self.judge.search)
             tests = {"moved": moved, "overlapping": search}
             if constrained:
                 tests["unconstrained"] = unconstrained
-            told.update((kind, test(self.table, without_discarded(log))) for kind, test in tests.items())
-        return next((Verdict(kind, words) for kind, words in told.items() if words), verdict)
+            reported.update((kind, test(self.table, without_discarded(log))) for kind, test in tests.items())
+        return next((Verdict(kind, words) for kind, words in reported.items() if words), verdict)
 
     def verdict(self, log, conditions):
         """The verdict on a log, and what it tried. Equal logs get equal answers, so each is looked at once."""
@@ -229,8 +229,8 @@ class Bench:
             verdict, tried = examined.verdict(log, conditions)
             tally.coverage.update(tried)
             if not verdict.accepted:
-                told = explain(examined.text, verdict, log, team_of(examined.case.body, conditions))
-                tally.failures.append(Failure(examined.case, conditions, verdict, told.rule, told.words, log))
+                reported = explain(examined.text, verdict, log, team_of(examined.case.body, conditions))
+                tally.failures.append(Failure(examined.case, conditions, verdict, reported.rule, reported.words, log))
             if verdict.kind == "incomplete":  # what was left over may run in later runs
                 break
         tally.judged = examined.judged_logs - before

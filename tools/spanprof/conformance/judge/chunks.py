@@ -55,9 +55,10 @@ def wrong_number(sizes, number, strict):
 def wrong_in(table, taskloop, sizes):
     """In words, what is wrong with the sizes of a taskloop's tasks; nothing where they are right."""
     name, number, strict = clause_of(taskloop.clause)
-    told = (wrong_number if name == "num_tasks" else wrong_grains)(sizes, number, strict)
-    return told and f"the taskloop with `{taskloop.clause}` whose first turn is {table.name_of(taskloop.turns[0])} " \
-                    f"has tasks of {', '.join(map(str, sizes))} turns: one {told}"
+    reported = (wrong_number if name == "num_tasks" else wrong_grains)(sizes, number, strict)
+    return reported and \
+        f"the taskloop with `{taskloop.clause}` whose first turn is {table.name_of(taskloop.turns[0])} " \
+        f"has tasks of {', '.join(map(str, sizes))} turns: one {reported}"
 
 
 def rule_of(words):
@@ -71,7 +72,7 @@ def wrong_chunks(table, log):
     turns, found = dict(map(tuple, log.turns)), {}
     for taskloop in table.taskloops if turns else ():
         sizes = sizes_of(taskloop, turns)
-        told = wrong_in(table, taskloop, sizes) if sizes else ""
-        if told:
-            found.setdefault(rule_of(told), told)
+        reported = wrong_in(table, taskloop, sizes) if sizes else ""
+        if reported:
+            found.setdefault(rule_of(reported), reported)
     return "; ".join(found.values()) or None

@@ -60,12 +60,12 @@ class ProvedSearch:
 
     def __call__(self, claims, events):
         done = subprocess.run(self.words, input=log_text(claims, events), capture_output=True, text=True, check=False)
-        told = done.stdout.split()
-        if done.returncode == 0 and told == ["apart"]:
+        reported = done.stdout.split()
+        if done.returncode == 0 and reported == ["apart"]:
             return None
-        if done.returncode != 1 or told[:1] != ["overlap"]:
+        if done.returncode != 1 or reported[:1] != ["overlap"]:
             raise Fault(f"{self.words[0]}: {done.stdout.strip() or f'it ended with status {done.returncode}'}")
-        return Overlap(*map(int, told[1:]))
+        return Overlap(*map(int, reported[1:]))
 
 
 def log_text(claims, events):

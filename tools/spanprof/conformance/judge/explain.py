@@ -70,7 +70,7 @@ def refused(table, detail, log):
 
 def of_exclusive(table, need, segment, started):
     """What is added to a rule where a region ended before a task with mutexinoutset had begun, or before one below it;
-    or where one begins that this run has not created. What has started by then is told."""
+    or where one begins that this run has not created. What has started by then is reported."""
     rule = need.rule if need else ""
     if rule == "taskgroup" and need.construct == "parallel":
         return OF_EXCLUSIVE * exclusion.is_below_exclusive(table.task_of[need.before], started)
@@ -84,7 +84,7 @@ def started_in(events):
 
 def is_cut_short(table, segment, started):
     """Whether a segment never runs since it is the rest of an untied task that has begun, or is made by that, where the
-    task belongs to a group that is cancelled, or has one in its own code. What has started is told."""
+    task belongs to a group that is cancelled, or has one in its own code. What has started is reported."""
     task = table.task_of[segment]
     if segment in started or not task.parent:
         return False

@@ -48,8 +48,8 @@ class Record:
 def find_spanprof(environment):
     """Where the program is: where the environment's SPANPROF says, else where this repository builds it, else on the
     PATH."""
-    told = environment.get("SPANPROF")
-    places = [told] if told else [str(BUILT), "spanprof"]
+    reported = environment.get("SPANPROF")
+    places = [reported] if reported else [str(BUILT), "spanprof"]
     found = [at for at in map(shutil.which, places) if at]
     if not found:
         raise Missing(f"no program {' nor '.join(places)}; SPANPROF says where it is")

@@ -12,8 +12,8 @@ OF_RUNTIMES = ("OMP_", "KMP_", "GOMP_", "LIBOMP", "MALLOC_", "ASAN_", "TSAN_", "
 
 def told_runtimes(environment):
     """The variables that hold in all settings, where these do not say otherwise."""
-    told = [f"{name}={value}" for name, value in sorted(environment.items()) if name.startswith(OF_RUNTIMES)]
-    return f"`{' '.join(told)}`" if told else ""
+    reported = [f"{name}={value}" for name, value in sorted(environment.items()) if name.startswith(OF_RUNTIMES)]
+    return f"`{' '.join(reported)}`" if reported else ""
 
 
 def tested(options, bench, settings):
@@ -26,7 +26,7 @@ def tested(options, bench, settings):
              "seed": str(options.seed),
              "seeds of delays in the runtime": str(options.perturb) if options.perturb else "",
              "environment": told_runtimes(bench.environment),
-             **{f"setting {name}": SETTINGS[name].told() for name in settings},
+             **{f"setting {name}": SETTINGS[name].reported() for name in settings},
              "tasks": ", ".join(options.tasks),
              "directed programs": options.match if options.match != "*" else "",
              "random programs": str(options.programs),

@@ -27,7 +27,7 @@ def publish(names, report):
         for number, one in enumerate(report.found, 1):
             print("\n".join(reproducer(number, one, "FILE")))
     if report.took:
-        print(verdict(results), report.took.told(), sep="\n")
+        print(verdict(results), report.took.reported(), sep="\n")
     if names:
         write_reports([pathlib.Path(name) for name in names.split(",")], report)
 

@@ -16,7 +16,7 @@ def junit(results):
     for (name, variant), outcome in outcomes:
         case = xml.etree.ElementTree.SubElement(suite, "testcase", {"classname": f"{SUITE}.{variant}", "name": name})
         if outcome.failed:
-            failure = xml.etree.ElementTree.SubElement(case, "failure", {"message": told(outcome)})
+            failure = xml.etree.ElementTree.SubElement(case, "failure", {"message": reported(outcome)})
             failure.text = NO_XML.sub("?", outcome.words)
         elif is_expected(outcome):
             xml.etree.ElementTree.SubElement(case, "skipped", {"message": f"expected: {', '.join(outcome.known)}"})
@@ -29,5 +29,5 @@ def is_expected(outcome):
     return bool(outcome.known) and not outcome.failed
 
 
-def told(outcome):
+def reported(outcome):
     return f"{outcome.failed} of {outcome.counts['runs']} runs failed: {outcome.kinds()}"

@@ -18,7 +18,7 @@ class Report:
     kinds: set
     results: object
     found: list
-    took: object = None  # how long all of it took, where that is told
+    took: object = None  # how long all of it took, where that is reported
 
 
 def reproducer(number, found, name):
@@ -65,5 +65,5 @@ def markdown(report, stem):
         for number, one in enumerate(report.found, 1):
             lines += reproducer(number, one, f"{stem}-{number}.tasks")
     if report.took:
-        lines.append(report.took.told())
+        lines.append(report.took.reported())
     return "\n".join(lines)

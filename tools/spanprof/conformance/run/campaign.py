@@ -16,7 +16,7 @@ from spanprof.conformance.generate.variants import in_variant
 
 KINDS_IN_ORDER = {self_checking.VARIANT: 0, "tied": 1}
 MOST_BUILT = 400  # programs that are there at once
-TICK = 5  # seconds after which progress is told though no case has ended
+TICK = 5  # seconds after which progress is reported though no case has ended
 DIRECTED_UNIT, RANDOM_UNIT = 100_000, 1_000  # nanoseconds for a cost of 1
 
 

@@ -84,8 +84,8 @@ def command_of(program, conditions):
     processors = sorted(os.sched_getaffinity(0))
     processor = processors[conditions.seed % len(processors)]
     words = [word.format(processor=processor) for word in setting.words]
-    told = {**setting.variables, **perturb.variables(conditions.perturb)}
-    return [*words, str(program), *conditions.words()], told
+    reported = {**setting.variables, **perturb.variables(conditions.perturb)}
+    return [*words, str(program), *conditions.words()], reported
 
 
 def run_to_end(program, conditions, environment):

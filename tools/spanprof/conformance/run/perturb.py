@@ -44,7 +44,7 @@ def before_others(library, environment):
 
 
 def variables(perturb):
-    """What the library is told: a seed, and after a colon the places where these are chosen."""
+    """What the library is reported: a seed, and after a colon the places where these are chosen."""
     return {"PERTURB": perturb} if perturb else {}
 
 

@@ -52,6 +52,6 @@ def delays_told(runtime, perturb):
         return ""
     if colon and not places:
         return "It fails without delays in the runtime too."
-    told = [named(runtime, place) for place in places.split(",") if place]
-    return f"Threads were delayed {', '.join(told)} by seed {seed_of(perturb)}." if told else \
+    reported = [named(runtime, place) for place in places.split(",") if place]
+    return f"Threads were delayed {', '.join(reported)} by seed {seed_of(perturb)}." if reported else \
         f"Threads were delayed at the places of seed {seed}."

@@ -1,4 +1,4 @@
-"""What a terminal is told while a test goes on."""
+"""What a terminal is reported while a test goes on."""
 import sys
 import time
 

@@ -14,7 +14,7 @@ from spanprof.conformance.run.shrink import Shrinker, Trial
 
 MOST_EVENTS = 60        # of a log that is shown
 FACTORS = (1, 4, 5)     # by which the runs grow where a failure is not seen again
-LESS = 2                # by how much less often a small program fails where that is told
+LESS = 2                # by how much less often a small program fails where that is reported
 OF_PROGRAM = 2          # runs of a self-checking program
 LONGEST_TIMEOUT = 3     # seconds, while a program is made smaller
 

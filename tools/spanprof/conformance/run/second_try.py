@@ -24,7 +24,7 @@ class SecondTries:
         self.again, self.sure = again, sure
 
     def settled(self, case, tallies):
-        """The tallies, in which each hang counts or is told as seen once."""
+        """The tallies, in which each hang counts or is reported as seen once."""
         return [self.settled_tally(case, tally) for tally in tallies]
 
     def settled_tally(self, case, tally):

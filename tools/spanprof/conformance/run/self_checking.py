@@ -90,9 +90,9 @@ def try_case(bench, case, all_conditions):
         program = bench.toolchain.build_alone(source(case.name), case.name, path_of(case.name).suffix)
     except BuildFailed as refused:
         return [not_built(case, c, str(refused)) for c in all_conditions]
-    told, tallies = read(path_of(case.name)), []
+    reported, tallies = read(path_of(case.name)), []
     for conditions in all_conditions:
-        tallies.append(tally(bench, case, told, program, conditions))
+        tallies.append(tally(bench, case, reported, program, conditions))
         if tallies[-1].expected:    # what is known takes no more time
             break
     return tallies
@@ -107,25 +107,25 @@ def not_built(case, conditions, said):
     return Tally(conditions, expected=collections.Counter({f"{case.name} is not built: {error}": 1}))
 
 
-def tally(bench, case, told, program, conditions):
+def tally(bench, case, reported, program, conditions):
     out = Tally(conditions)
     for _ in range(min(RUNS, conditions.runs)):
-        verdict = run(program, told, conditions, bench.environment)
+        verdict = run(program, reported, conditions, bench.environment)
         out.runs += 1
-        for section in told.sections:
+        for section in reported.sections:
             out.coverage.update([(VARIANT, section, "waits")] + [(VARIANT, section, "held")] * (conditions.threads > 1))
         if not verdict.accepted:
-            out.failures.append(failure(case, told, conditions, verdict))
+            out.failures.append(failure(case, reported, conditions, verdict))
         if verdict.kind in ("hung", "crashed"):
             break
     return bench.expectations.settled(out)
 
 
-def failure(case, told, conditions, verdict):
+def failure(case, reported, conditions, verdict):
     """A hang of a program is told apart from that of another by its name, all else by what the program says."""
     rule = case.name if verdict.kind == "hung" else rule_of(verdict.detail)
-    return Failure(case, conditions, verdict, rule, f"{verdict.detail}. Expected: {told.shows} (OpenMP 5.2, "
-                                                    f"{', '.join(told.sections)})", None)
+    return Failure(case, conditions, verdict, rule, f"{verdict.detail}. Expected: {reported.shows} (OpenMP 5.2, "
+                                                    f"{', '.join(reported.sections)})", None)
 
 
 def rule_of(detail):
@@ -133,12 +133,13 @@ def rule_of(detail):
     return without_places(re.sub(r": (-?\d+|it) was .*", "", detail.split("\n")[0]))
 
 
-def run(program, told, conditions, environment):
+def run(program, reported, conditions, environment):
     """The verdict on one run."""
     setting = SETTINGS[conditions.setting]
     words = [word.format(processor=0) for word in setting.words]
     variables = {name: value for name, value in setting.variables.items() if not is_of_harness(name)}
-    variables.update(told.variables, OMP_NUM_THREADS=str(conditions.threads), **perturb.variables(conditions.perturb))
+    variables.update(reported.variables, OMP_NUM_THREADS=str(conditions.threads),
+                     **perturb.variables(conditions.perturb))
     with subprocess.Popen([*words, str(program)], stdout=subprocess.PIPE, stderr=subprocess.PIPE, text=True,
                           errors="replace", env={**environment, **variables}) as process:
         ended, how = ended_in(process, conditions.timeout)

@@ -10,10 +10,10 @@ class Setting:
     words: tuple = ()
     families: tuple = ("gomp", "kmp")
 
-    def told(self):
+    def reported(self):
         """What a report says of it."""
-        told = [" ".join(self.words), *(f"{name}={value}" for name, value in self.variables.items())]
-        return f"{self.shows}: `{' '.join(filter(None, told))}`" if any(told) else self.shows
+        reported = [" ".join(self.words), *(f"{name}={value}" for name, value in self.variables.items())]
+        return f"{self.shows}: `{' '.join(filter(None, reported))}`" if any(reported) else self.shows
 
 
 SETTINGS = {

@@ -13,7 +13,7 @@ class Took:
     tester: float
     started: float
 
-    def told(self):
+    def reported(self):
         return f"Took {self.wall:.0f} s, and {self.tester + self.started:.0f} s of processor time: " \
                f"{self.started:.0f} s of compilers, programs and spanprof, {self.tester:.0f} s of the tester."
 

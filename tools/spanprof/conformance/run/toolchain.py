@@ -162,8 +162,8 @@ class Toolchain:
             if shutil.which(words[0]):
                 package = subprocess.run(words, capture_output=True, text=True, check=False).stdout.partition(": ")[0]
                 show = ["dpkg-query", "--show", package] if words[0] != "rpm" else words
-                told = package and subprocess.run(show, capture_output=True, text=True, check=False).stdout.split()
-                return f"{' '.join(told)} ({path})" if told else path
+                reported = package and subprocess.run(show, capture_output=True, text=True, check=False).stdout.split()
+                return f"{' '.join(reported)} ({path})" if reported else path
         return path
 
     @functools.cached_property

@@ -10,12 +10,12 @@ from spanprof.errors import Fault
 
 
 def ended(fault):
-    """The status, and what is told, where a command ends with this fault."""
-    told = io.StringIO()
+    """The status, and what is reported, where a command ends with this fault."""
+    reported = io.StringIO()
     options = types.SimpleNamespace(call=mock.Mock(side_effect=fault))
-    with mock.patch.object(command, "parse", return_value=options), contextlib.redirect_stderr(told), \
+    with mock.patch.object(command, "parse", return_value=options), contextlib.redirect_stderr(reported), \
             mock.patch.object(command, "leave") as left:
-        return command.main([]), told.getvalue(), left.called
+        return command.main([]), reported.getvalue(), left.called
 
 
 class Ends(unittest.TestCase):

@@ -65,7 +65,7 @@ class Candidates(unittest.TestCase):
 
 
 class Tries(unittest.TestCase):
-    """Without a program: an end is told by how many lines the changed text has."""
+    """Without a program: an end is reported by how many lines the changed text has."""
 
     def setUp(self):
         self.was = module.greedy_end, module.client.at_once

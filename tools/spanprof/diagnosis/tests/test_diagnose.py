@@ -48,25 +48,26 @@ class Diagnoses(unittest.TestCase):
         after = ["after the barrier of the region at a.c:%d" % i for i in range(8)]
         found = facts([place(name, SERIAL, tasks=0, pieces=1) for name in after], starved=120 * MS,
                       starved_by={name: 15 * MS for name in after})
-        told = diagnose(found)
-        self.assertEqual([(loss.kind, loss.place, loss.time) for loss in told.causes], [("serial", after[0], 120 * MS)])
+        reported = diagnose(found)
+        self.assertEqual([(loss.kind, loss.place, loss.time) for loss in reported.causes],
+                         [("serial", after[0], 120 * MS)])
 
     def test_all_tasks_that_run_immediately_are_one_cause(self):
         some = [place(TASKS, undeferred=8), place("after creating a task at image.c:25", undeferred=8)]
-        told = diagnose(facts(some, starved=200 * MS, starved_by={one.name: 100 * MS for one in some}))
-        self.assertEqual([(loss.kind, loss.time) for loss in told.causes], [("undeferred", 200 * MS)])
+        reported = diagnose(facts(some, starved=200 * MS, starved_by={one.name: 100 * MS for one in some}))
+        self.assertEqual([(loss.kind, loss.time) for loss in reported.causes], [("undeferred", 200 * MS)])
 
     def test_a_needless_dependence_comes_before_a_split(self):
         found = idle(TASKS)
         found.places[TASKS].items[("inout", "a0")] = 8
-        told = diagnose(found, Bench({(): 90, asked("in-for-inout", "a0"): 50, asked("split", TASKS + "=4"): 48}))
-        self.assertEqual([loss.kind for loss in told.causes], ["dependence"])
-        self.assertEqual((told.plan[0].kind, told.plan[0].place), ("dependence", TASKS))
-        self.assertEqual(told.plan[0].after, 100 * MS * 50 // 90)
+        reported = diagnose(found, Bench({(): 90, asked("in-for-inout", "a0"): 50, asked("split", TASKS + "=4"): 48}))
+        self.assertEqual([loss.kind for loss in reported.causes], ["dependence"])
+        self.assertEqual((reported.plan[0].kind, reported.plan[0].place), ("dependence", TASKS))
+        self.assertEqual(reported.plan[0].after, 100 * MS * 50 // 90)
 
     def test_what_is_lost_to_a_wait_is_of_that_kind(self):
-        told = diagnose(idle(TASKS), Bench({(): 90, asked("drop-wait", WAIT): 55}, ordered=[WAIT]))
-        self.assertEqual(told.causes, [Loss("wait", WAIT, 200 * MS)])
+        reported = diagnose(idle(TASKS), Bench({(): 90, asked("drop-wait", WAIT): 55}, ordered=[WAIT]))
+        self.assertEqual(reported.causes, [Loss("wait", WAIT, 200 * MS)])
 
     def test_a_wait_that_orders_tasks_is_mostly_needed(self):
         ends = {(): 90, asked("drop-wait", WAIT): 55, asked("split", TASKS + "=4"): 70}
@@ -74,17 +75,17 @@ class Diagnoses(unittest.TestCase):
 
     def test_nothing_is_promised_where_little_is_lost(self):
         found = facts([place(TASKS)], starved=10 * MS, starved_by={TASKS: 10 * MS})
-        told = diagnose(found, Bench({(): 100, asked("split", TASKS + "=4"): 96}))
-        self.assertEqual(([loss.kind for loss in told.causes], told.plan), (["efficient"], []))
+        reported = diagnose(found, Bench({(): 100, asked("split", TASKS + "=4"): 96}))
+        self.assertEqual(([loss.kind for loss in reported.causes], reported.plan), (["efficient"], []))
 
     def test_a_second_step_is_tried_on_top_of_the_first(self):
         one, two = asked("in-for-inout", "a0"), asked("split", BEGINS + "=4")
         found = idle(TASKS)
         found.places[TASKS].items[("inout", "a0")] = 8
         found.places[BEGINS] = place(BEGINS, SERIAL, cost=50 * MS, tasks=0)
-        told = diagnose(found, Bench({(): 90, one: 60, two: 70, one + two: 45}))
-        self.assertEqual([step.kind for step in told.plan], ["dependence", "serial"])
-        self.assertEqual(told.plan[1].before, told.plan[0].after)
+        reported = diagnose(found, Bench({(): 90, one: 60, two: 70, one + two: 45}))
+        self.assertEqual([step.kind for step in reported.plan], ["dependence", "serial"])
+        self.assertEqual(reported.plan[1].before, reported.plan[0].after)
 
     def test_a_second_cause_is_told_where_it_brings_a_tenth(self):
         found = facts([place(TASKS)], at_locks=120 * MS, asleep=80 * MS)
@@ -98,15 +99,15 @@ class Diagnoses(unittest.TestCase):
 
     def test_on_a_busy_machine_what_the_program_lost_itself_is_told_of_the_rest(self):
         found = facts([place(TASKS)], preempted=200 * MS, starved=120 * MS, starved_by={TASKS: 120 * MS})
-        told = diagnose(found, Bench({(): 90, asked("split", TASKS + "=4"): 45}))
-        self.assertEqual([loss.kind for loss in told.causes], ["too_few_tasks"])
-        self.assertEqual((found.now, told.best), (50 * MS, 20 * MS))
-        self.assertEqual((found.lost_share(told.causes[0]), told.plan[0].before), (0.6, 50 * MS))
+        reported = diagnose(found, Bench({(): 90, asked("split", TASKS + "=4"): 45}))
+        self.assertEqual([loss.kind for loss in reported.causes], ["too_few_tasks"])
+        self.assertEqual((found.now, reported.best), (50 * MS, 20 * MS))
+        self.assertEqual((found.lost_share(reported.causes[0]), reported.plan[0].before), (0.6, 50 * MS))
 
     def test_a_busy_machine_is_the_cause_where_the_program_lost_little_itself(self):
         found = facts([place(TASKS)], preempted=200 * MS, starved=8 * MS, starved_by={TASKS: 8 * MS})
-        told = diagnose(found, Bench({(): 90, asked("split", TASKS + "=4"): 80}))
-        self.assertEqual((told.causes, found.lost_share(told.causes[0]), told.plan), (
+        reported = diagnose(found, Bench({(): 90, asked("split", TASKS + "=4"): 80}))
+        self.assertEqual((reported.causes, found.lost_share(reported.causes[0]), reported.plan), (
             [Loss("machine", "", 200 * MS), Loss("efficient", "", 8 * MS)], 0.5, []))
 
     def test_at_best_all_threads_run_its_code_all_the_time(self):
@@ -118,8 +119,8 @@ class Diagnoses(unittest.TestCase):
         self.assertEqual((found.best, found.steps[0].kind, found.steps[0].after), (80 * MS, "sleep", 80 * MS))
 
     def test_no_run_is_shorter_than_its_work_on_all_threads(self):
-        told = diagnose(idle(TASKS), Bench({(): 90, asked("split", TASKS + "=4"): 10}))
-        self.assertEqual(told.plan[0].after, 50 * MS)
+        reported = diagnose(idle(TASKS), Bench({(): 90, asked("split", TASKS + "=4"): 10}))
+        self.assertEqual(reported.plan[0].after, 50 * MS)
 
 
 class Steps(unittest.TestCase):

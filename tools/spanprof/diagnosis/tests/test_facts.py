@@ -79,9 +79,9 @@ class OfText(unittest.TestCase):
                       calls=Sampled({begins.name: ran}, {}))
         module.set_starting(found)
         self.assertEqual(found.calls.ran, {begins.name: {("main", "read"): 16000}})
-        told = diagnose(found)
-        self.assertEqual({loss.kind: loss.time for loss in told.losses}, {"startup": 228 * MS, "serial": 72 * MS})
-        self.assertIn("startup 57 %", sure_words(told))
+        reported = diagnose(found)
+        self.assertEqual({loss.kind: loss.time for loss in reported.losses}, {"startup": 228 * MS, "serial": 72 * MS})
+        self.assertIn("startup 57 %", sure_words(reported))
 
     def test_names_of_functions(self):
         self.assertEqual(self.found.functions, {"image.c:25": "main"})

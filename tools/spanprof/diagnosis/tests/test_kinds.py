@@ -133,9 +133,9 @@ class Kinds(unittest.TestCase):
         called = {TASKS: {("main", "parse", "malloc@libc.so.6"): 30000, ("main", "parse"): 70000}}
         lines = {TASKS: {"words.c:9 parse(char*)": 20000, "words.c:12 parse(char*)": 10000}}
         found = facts([place(TASKS, cost=400 * MS)], calls=Sampled(called, {}, {}, {}, lines))
-        told = diagnose(found)
-        self.assertEqual(told.causes, [Loss("allocation", "allocation at words.c:9", 120 * MS)])
-        self.assertFalse(told.plan[0].at_best)
+        reported = diagnose(found)
+        self.assertEqual(reported.causes, [Loss("allocation", "allocation at words.c:9", 120 * MS)])
+        self.assertFalse(reported.plan[0].at_best)
 
     def test_the_kernels_time_beneath_the_allocator_counts_once(self):
         called = {TASKS: {("main", "parse", "free@libc.so.6"): 30000, ("main", "parse"): 70000}}

@@ -70,20 +70,20 @@ class OwnCode(unittest.TestCase):
 
     def test_no_change_is_told_of_it(self):
         found = interpreted({EVALUATES: 12, SORTS: 8})
-        names, told = Names(found, None), diagnose(found)
-        self.assertEqual([lost_sentence(found, names, loss) for loss in told.causes],
+        names, reported = Names(found, None), diagnose(found)
+        self.assertEqual([lost_sentence(found, names, loss) for loss in reported.causes],
                          [PYTHON + " runs on one thread: 60 % of 100 ms of serial code",
                           "forder runs on one thread: 40 % of 100 ms of serial code"])
-        self.assertEqual(told.plan, [])
-        self.assertEqual([cause["change"] for cause in as_json(told, names)["diagnosis"]], [None, None])
+        self.assertEqual(reported.plan, [])
+        self.assertEqual([cause["change"] for cause in as_json(reported, names)["diagnosis"]], [None, None])
 
     def test_at_best_it_takes_as_long(self):
         self.assertEqual(diagnose(interpreted({EVALUATES: 12, SORTS: 8})).best, 70 * MS)
 
     def test_libraries_without_names(self):
         found = interpreted({EVALUATES: 5, IMPORTS: 15})
-        told = diagnose(found)
-        self.assertEqual([lost_sentence(found, Names(found, None), loss) for loss in told.causes],
+        reported = diagnose(found)
+        self.assertEqual([lost_sentence(found, Names(found, None), loss) for loss in reported.causes],
                          ["code in libraries of python3.11 runs on one thread: 75 % of 100 ms of serial code"])
 
 

@@ -135,10 +135,10 @@ class Sentences(unittest.TestCase):
 
     def test_page_faults_are_told_where_they_are_most_of_it(self):
         at = " in image.c:9 (tone)"
-        for faults, told in ((90000, "85 % of the processor time is spent in the kernel: 90,000 page faults" + at),
-                             (600, "85 % of the processor time is spent in the kernel: system calls" + at)):
+        for faults, reported in ((90000, "85 % of the processor time is spent in the kernel: 90,000 page faults" + at),
+                                 (600, "85 % of the processor time is spent in the kernel: system calls" + at)):
             run = found(usage={"user_ns": 60 * MS, "system_ns": 340 * MS, "minor_faults": faults})
-            self.assertEqual(lost_sentence(run, Names(run, SOURCES), Loss("system", TASKS, 1)), told)
+            self.assertEqual(lost_sentence(run, Names(run, SOURCES), Loss("system", TASKS, 1)), reported)
         run.calls = Sampled({TASKS: {("main", "tone", "munmap@libc.so.6"): 9000, ("main", "read@libc.so.6"): 5000}}, {})
         self.assertEqual(lost_sentence(run, Names(run, SOURCES), Loss("system", TASKS, 1)),
                          "85 % of the processor time is spent in the kernel: mapping memory" + at)
@@ -148,17 +148,18 @@ class Sentences(unittest.TestCase):
         own, runtime = {("main", "tone"): 300000}, {("main", RUNTIME): 300000}
         run = found(usage={"user_ns": 60 * MS, "system_ns": 340 * MS, "minor_faults": 90000})
         run.places[after] = Place(after, TASK, "image.c:9", cost=300 * MS, pieces=8)
-        for line, ran, told in ((9, own, "smaller firstprivate data at image.c:9: a pointer, or shared"),
-                                (9, runtime, reuse), (8, own, reuse)):
+        for line, ran, reported in ((9, own, "smaller firstprivate data at image.c:9: a pointer, or shared"),
+                                    (9, runtime, reuse), (8, own, reuse)):
             run.calls = Sampled({after: ran}, {}, at={after: {"image.c:%d" % line: 300000}})
             step = Step("system", TASKS, 2, 1, 1, 1)
-            self.assertEqual(change_sentence(run, Names(run, SOURCES), step), told)
+            self.assertEqual(change_sentence(run, Names(run, SOURCES), step), reported)
 
     def test_nothing_is_to_be_done_about_an_efficient_program(self):
         run = found()
-        told = diagnose(run)
-        self.assertEqual([line[:4] for line in short_lines(told, Names(run, SOURCES))][:3], ["imag", "lost", "sure"])
-        self.assertIsNone(as_json(told, Names(run, SOURCES))["diagnosis"][0]["change"])
+        reported = diagnose(run)
+        self.assertEqual([line[:4] for line in short_lines(reported, Names(run, SOURCES))][:3],
+                         ["imag", "lost", "sure"])
+        self.assertIsNone(as_json(reported, Names(run, SOURCES))["diagnosis"][0]["change"])
 
     def test_of_a_busy_machine_to_record_again_and_what_the_rest_was(self):
         run = found(preempted=200 * MS)
@@ -187,9 +188,9 @@ class Sentences(unittest.TestCase):
         run = found()
         run.places[TASKS].cost = 200 * MS
         lines = ["    sum.fetch_add(tone(d, n));" if number == 11 else line for number, line in enumerate(SOURCE, 1)]
-        told = short_lines(diagnose(run), Names(run, SimpleNamespace(lines_of=lambda name: lines)))
-        self.assertIn("little: threads ran code 100 % of the time, with the atomic at image.c:11", told[1])
-        self.assertIn("whether the atomic at image.c:11 slows it: --full", told[3])
+        reported = short_lines(diagnose(run), Names(run, SimpleNamespace(lines_of=lambda name: lines)))
+        self.assertIn("little: threads ran code 100 % of the time, with the atomic at image.c:11", reported[1])
+        self.assertIn("whether the atomic at image.c:11 slows it: --full", reported[3])
         self.assertIsNone(Names(run, None).suspect())
 
     def test_the_number_of_chunks_is_no_more_exact_than_it_is_known(self):
@@ -225,19 +226,20 @@ class Sentences(unittest.TestCase):
         run = found(cost_on_one={TASKS: 10 * MS}, usage={"user_ns": 1, "system_ns": 0, "peak_bytes": 1 << 28})
         step = Step("memory", TASKS, 100 * MS, 50 * MS, 50 * MS, 60 * MS)
 
-        def told():
+        def reported():
             return [lost_sentence(run, Names(run, SOURCES), Loss("memory", TASKS, 1)),
                     change_sentence(run, Names(run, SOURCES), step)]
         run.calls = Sampled({TASKS: {("main", "tone"): 10 * 4000}}, {})
-        self.assertEqual(told(), ["image.c:9 (tone) costs 4.0 times as much on 4 threads as on one: memory bandwidth",
-                                  "touch the data of image.c:9 once: fuse or block loops"])
+        self.assertEqual(reported(),
+                         ["image.c:9 (tone) costs 4.0 times as much on 4 threads as on one: memory bandwidth",
+                          "touch the data of image.c:9 once: fuse or block loops"])
         shared = run.calls._replace(shares={TASKS: Counter({"image.c:11": 4000})})
         for field, other in (("usage", {"peak_bytes": 1 << 25}), ("cost_on_one", {TASKS: 25 * MS}),
                              ("calls", Sampled({}, {})), ("calls", shared)):
             kept = getattr(run, field)
             setattr(run, field, other)
-            self.assertNotIn("bandwidth", told()[0])
-            self.assertNotIn("fuse", told()[1])
+            self.assertNotIn("bandwidth", reported()[0])
+            self.assertNotIn("fuse", reported()[1])
             setattr(run, field, kept)
 
     def test_memory_is_allocated_at_a_line_of_a_function(self):
@@ -320,8 +322,8 @@ class Sentences(unittest.TestCase):
             for name in (TASKS, "the beginning", "image.c:13", "image.c:6", "taskwait at image.c:12", ""):
                 loss = Loss(cause.kind, name, 50 * MS)
                 steps = [Step(cause.kind, name, 100 * MS, 50 * MS, 40 * MS, 60 * MS)] * 3
-                told = Diagnosis(run, [loss], [loss, loss], steps, steps, 1)
-                lines = short_lines(told, Names(run, SOURCES), "m" * 99)
+                reported = Diagnosis(run, [loss], [loss, loss], steps, steps, 1)
+                lines = short_lines(reported, Names(run, SOURCES), "m" * 99)
                 self.assertLessEqual(len(lines), 8)
                 self.assertTrue(all(len(line) <= WIDTH for line in lines), lines)
                 self.assertNotIn("{", "".join(lines))
@@ -329,7 +331,7 @@ class Sentences(unittest.TestCase):
     def test_each_change_that_is_tried_has_a_sentence(self):
         run = found()
         run.places[TASKS].moving_at.add(0)
-        for option, word, kind, told in (
+        for option, word, kind, reported in (
                 ("in-for-inout", "a0", "dependence",
                  "depend(in: tab[f(0, 1)]) at image.c:9 if only read, or a copy for each"),
                 ("read-only", TASKS, "dependence", "depend(in: tab[f(0, 1)]) at image.c:9 if only read"),
@@ -344,7 +346,7 @@ class Sentences(unittest.TestCase):
                 ("split", TASKS + "=4", "imbalance", "divide the longest tasks at image.c:9 (tone)")):
             change = single(option, word)
             step = Step(kind, TASKS if option == "in-for-inout" else change.place, 2, 1, 1, 1, 1.0, change)
-            self.assertEqual(change_sentence(run, Names(run, SOURCES), step), told)
+            self.assertEqual(change_sentence(run, Names(run, SOURCES), step), reported)
 
     def test_what_takes_turns_is_told_of_all_tasks(self):
         run = found()
@@ -369,10 +371,10 @@ class Sentences(unittest.TestCase):
 
     def test_the_sum_is_the_whole(self):
         run = found(starved=200 * MS, starved_by={TASKS: 200 * MS}, cost_on_one={TASKS: 1})
-        told = sum_lines(diagnose(run), Names(run, SOURCES))
-        self.assertIn("code as on one thread (measured)", told[0])
-        self.assertIn("50.0 % dependences: image.c:9 (tone) (measured)", told)
-        self.assertAlmostEqual(sum(float(line.split()[0]) for line in told), 100, places=0)
+        reported = sum_lines(diagnose(run), Names(run, SOURCES))
+        self.assertIn("code as on one thread (measured)", reported[0])
+        self.assertIn("50.0 % dependences: image.c:9 (tone) (measured)", reported)
+        self.assertAlmostEqual(sum(float(line.split()[0]) for line in reported), 100, places=0)
 
     def test_who_asked_for_too_few_threads(self):
         few = [Region("image.c:20", 1, 80 * MS, 1), Region("image.c:30", 2, 20 * MS, 4),
@@ -397,14 +399,14 @@ class Sentences(unittest.TestCase):
         self.assertEqual([names.place(one.name) for one in (nameless, start)],
                          ["code after image+0x3a", "code before image+0x3a"])
         self.assertEqual(names.place("taskwait at f(int)+0x1"), "the taskwait at f")
-        told = Diagnosis(run, [], [Loss("serial", nameless.name, 50 * MS)], [], [], 1)
-        self.assertIn("not known: the names of its functions", "".join(short_lines(told, names)))
+        reported = Diagnosis(run, [], [Loss("serial", nameless.name, 50 * MS)], [], [], 1)
+        self.assertIn("not known: the names of its functions", "".join(short_lines(reported, names)))
 
     def test_samples_without_names_ask_for_these(self):
         for ran, is_asked in ((("main", "[plink1.9]"), True), (("main", "tone"), False)):
             run = facts([place("the beginning", SERIAL, tasks=0)], calls=Sampled({"the beginning": {ran: 9000}}, {}))
-            told = Diagnosis(run, [], [Loss("efficient", "", 50 * MS)], [], [], 1)
-            self.assertEqual("the names of its functions" in "".join(short_lines(told, Names(run, None))), is_asked)
+            reported = Diagnosis(run, [], [Loss("efficient", "", 50 * MS)], [], [], 1)
+            self.assertEqual("the names of its functions" in "".join(short_lines(reported, Names(run, None))), is_asked)
 
     def test_what_to_do_for_an_uneven_loop(self):
         turns, dynamic = "turns of the loop at image.c:9", SimpleNamespace(
@@ -469,16 +471,16 @@ class Sentences(unittest.TestCase):
 
 
 class BySamples(unittest.TestCase):
-    def told(self, loss, **sampled):
+    def reported(self, loss, **sampled):
         run = found(calls=Sampled(sampled.get("ran", {}), sampled.get("slept", {})))
         return lost_sentence(run, Names(run, SOURCES), loss)
 
     def test_serial_code_is_named_by_its_function(self):
         ran = {"the beginning": {("main", "convert", "plasma"): 95000, ("main", "read"): 5000}}
-        self.assertEqual(self.told(Loss("serial", "the beginning", 9), ran=ran).partition(": ")[0],
+        self.assertEqual(self.reported(Loss("serial", "the beginning", 9), ran=ran).partition(": ")[0],
                          "plasma (called by convert) runs on one thread")
-        self.assertRegex(self.told(Loss("serial", "the beginning", 9), ran=ran), ": 95 % of .* of serial code$")
-        self.assertRegex(self.told(Loss("serial", "the beginning", 9)),
+        self.assertRegex(self.reported(Loss("serial", "the beginning", 9), ran=ran), ": 95 % of .* of serial code$")
+        self.assertRegex(self.reported(Loss("serial", "the beginning", 9)),
                          "runs on one thread: 56 % of 90.0 ms of serial code$")
         own = facts([place(OWN + " at image.c:6", OF_THREADS)])
         self.assertRegex(lost_sentence(own, Names(own, SOURCES), Loss("serial", OWN + " at image.c:6", 9)),
@@ -486,23 +488,24 @@ class BySamples(unittest.TestCase):
 
     def test_sleep_has_the_function_that_sleeps(self):
         slept = {"the beginning": {("main", "load", "read"): 9000}}
-        self.assertRegex(self.told(Loss("sleep", "the beginning", 9), slept=slept), "waits in read, called by load$")
-        self.assertRegex(self.told(Loss("sleep", "the beginning", 9)), "waits for files, a network or other locks$")
+        self.assertRegex(self.reported(Loss("sleep", "the beginning", 9), slept=slept),
+                         "waits in read, called by load$")
+        self.assertRegex(self.reported(Loss("sleep", "the beginning", 9)), "waits for files, a network or other locks$")
 
 
 class Json(unittest.TestCase):
     def test_its_fields(self):
         run = found(starved=200 * MS, starved_by={TASKS: 200 * MS}, at_locks=60 * MS, true_many=[90 * MS, 110 * MS],
                     locks=[Held("image.c:13", "critical", 9, 1, 60 * MS)])
-        told = as_json(diagnose(run), Names(run, SOURCES))
-        self.assertEqual(set(told), {"schema", "program", "times", "diagnosis", "plan", "losses", "code_share"})
-        first = told["diagnosis"][0]
+        reported = as_json(diagnose(run), Names(run, SOURCES))
+        self.assertEqual(set(reported), {"schema", "program", "times", "diagnosis", "plan", "losses", "code_share"})
+        first = reported["diagnosis"][0]
         self.assertEqual(set(first), {"kind", "place", "lost_share", "lost_ms", "what", "change", "how"})
         self.assertEqual(first["place"], {"name": "image.c:13", "function": None, "file": "image.c", "lines": [13, 13]})
         self.assertEqual(set(first["change"]), {"kind", "what", "requests", "from_ms", "to_ms", "low_ms", "high_ms",
                                                 "at_best"})
-        self.assertEqual(told["times"]["spread_ms"], [90.0, 110.0])
-        self.assertAlmostEqual(sum(one["share"] for one in told["losses"]) + told["code_share"], 1, places=4)
+        self.assertEqual(reported["times"]["spread_ms"], [90.0, 110.0])
+        self.assertAlmostEqual(sum(one["share"] for one in reported["losses"]) + reported["code_share"], 1, places=4)
 
 
 if __name__ == "__main__":

@@ -13,8 +13,8 @@ NAPS = ("main", "nap", "nanosleep@libc.so.6")
 
 
 class Sleeps(unittest.TestCase):
-    def words(self, sampled, told="main"):
-        return words_of_sleep(facts(calls=Sampled({}, {PLACE: sampled})), PLACE, told)
+    def words(self, sampled, reported="main"):
+        return words_of_sleep(facts(calls=Sampled({}, {PLACE: sampled})), PLACE, reported)
 
     def test_the_calls_with_most_of_it_first(self):
         self.assertEqual(by_call({READS: 9, WRITES: 1}), [(("read", "load"), 0.9), (("write", "save"), 0.1)])
@@ -23,7 +23,7 @@ class Sleeps(unittest.TestCase):
 
     def test_one_call_with_most_of_it(self):
         self.assertEqual(self.words({READS: 80, WRITES: 20}), "in read, called by load")
-        self.assertEqual(self.words({READS: 80}, told="load (a.c:9)"), "in read")
+        self.assertEqual(self.words({READS: 80}, reported="load (a.c:9)"), "in read")
 
     def test_mixed_sleep_is_divided(self):
         self.assertEqual(self.words({READS: 60, WRITES: 5, NAPS: 35}),

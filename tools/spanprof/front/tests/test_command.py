@@ -30,9 +30,9 @@ class Command(InFolder):
 
     def test_bytes_and_status(self):
         self.assertEqual(self.run_with("slack"), (0, b"a\0b", ""))
-        status, out, told = self.run_with("show", given=b"omptasks 1\ntasks { }\n")
+        status, out, reported = self.run_with("show", given=b"omptasks 1\ntasks { }\n")
         self.assertEqual((status, out), (1, b"error: line 2: BadWord\n"))
-        self.assertIn("standard input:2: BadWord", told)
+        self.assertIn("standard input:2: BadWord", reported)
         self.assertEqual(self.run_with("none")[:2], (2, b"error: wrong words\n"))
 
     def test_a_signal(self):
@@ -43,9 +43,9 @@ class Command(InFolder):
 
     def test_no_program(self):
         for command, variables in (("slack", {"SPANPROF": "/none"}), ("bounds", {"SPANPROF_LARGE": "/none"})):
-            status, out, told = self.run_with(command, **variables)
+            status, out, reported = self.run_with(command, **variables)
             self.assertEqual((status, out), (127, b""))
-            self.assertIn("/none: No such file or directory; README.md says how to build it", told)
+            self.assertIn("/none: No such file or directory; README.md says how to build it", reported)
 
     def test_help_and_version(self):
         self.assertTrue(self.run_with("--help")[1].startswith(b"Usage: spanprof COMMAND"))

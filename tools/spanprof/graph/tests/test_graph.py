@@ -21,9 +21,10 @@ TEXT = "omptasks 1\nwork 5\ntask {  # a.c:3\nwork 3\n}\nwork 2\ntaskwait\nwork 1
 
 class Dot(unittest.TestCase):
     def test_boxes_and_arrows(self):
-        told = list(lines([(0, "the beginning", 5, []), (1, 'task at "a".c:3', 3, [0]), (0, "after", 2, [0])], [0, 1]))
-        self.assertEqual(told[0], "digraph spanprof {")
-        self.assertEqual(told[3:], [
+        reported = list(lines([(0, "the beginning", 5, []), (1, 'task at "a".c:3', 3, [0]), (0, "after", 2, [0])],
+                              [0, 1]))
+        self.assertEqual(reported[0], "digraph spanprof {")
+        self.assertEqual(reported[3:], [
             '  s0 [label="0: the beginning\\n5", color=red, penwidth=2];',
             '  s1 [label="1: task at \\"a\\".c:3\\n3", color=red, penwidth=2];',
             "  s0 -> s1 [color=red, penwidth=2];",
@@ -32,31 +33,31 @@ class Dot(unittest.TestCase):
             "}"])
 
     def test_what_the_root_does_at_no_cost_before_all_else_is_left_out(self):
-        told = list(lines([(0, "the beginning", 0, []), (1, "a", 0, [0]), (0, "after", 0, [0]), (2, "b", 3, [1, 2]),
-                           (0, "after a taskwait", 0, [2, 3])], [0, 1, 3]))
-        self.assertEqual(told[3:], ['  s1 [label="1: a\\n0", color=red, penwidth=2];',
-                                    '  s3 [label="3: b\\n3", color=red, penwidth=2];',
-                                    "  s1 -> s3 [color=red, penwidth=2];",
-                                    '  s4 [label="4: after a taskwait\\n0"];', "  s3 -> s4;", "}"])
+        reported = list(lines([(0, "the beginning", 0, []), (1, "a", 0, [0]), (0, "after", 0, [0]), (2, "b", 3, [1, 2]),
+                               (0, "after a taskwait", 0, [2, 3])], [0, 1, 3]))
+        self.assertEqual(reported[3:], ['  s1 [label="1: a\\n0", color=red, penwidth=2];',
+                                        '  s3 [label="3: b\\n3", color=red, penwidth=2];',
+                                        "  s1 -> s3 [color=red, penwidth=2];",
+                                        '  s4 [label="4: after a taskwait\\n0"];', "  s3 -> s4;", "}"])
 
 
 class Command(InFolder):
-    def told(self, *words):
+    def reported(self, *words):
         with mock.patch("signal.signal"):
             return answered(main, [*words, self.write("mine.tasks", TEXT)],
                             SPANPROF_LARGE=self.program("program", PROGRAM))[1]
 
     def test_a_table(self):
-        self.assertEqual(self.told(), TABLE)
+        self.assertEqual(self.reported(), TABLE)
 
     def test_for_graphviz(self):
-        told = self.told("--dot")
-        self.assertIn('  s1 [label="1: task at a.c:3\\n3", color=red, penwidth=2];\n  s0 -> s1 [color=red', told)
-        self.assertIn("  s1 -> s3 [color=red, penwidth=2];\n  s2 -> s3;\n}", told)
+        reported = self.reported("--dot")
+        self.assertIn('  s1 [label="1: task at a.c:3\\n3", color=red, penwidth=2];\n  s0 -> s1 [color=red', reported)
+        self.assertIn("  s1 -> s3 [color=red, penwidth=2];\n  s2 -> s3;\n}", reported)
 
     def test_into_a_file(self):
         path = os.path.join(self.folder, "graph.csv")
-        self.assertEqual(self.told("-o", path), "")
+        self.assertEqual(self.reported("-o", path), "")
         with open(path, encoding="utf-8") as file:
             self.assertEqual(file.read(), TABLE)
 

@@ -28,12 +28,12 @@ class Chrome(InFolder):
     def trace(self, events, form="%s"):
         return self.write("t.json", form % ",\n".join(json.dumps(one) for one in events))
 
-    def told(self, events, form="[%s]", process=None):
+    def reported(self, events, form="[%s]", process=None):
         return [(one.name, one.begin, one.end, one.before) for one in read(self.trace(events, form), process).tasks]
 
     def test_slices_and_flows_in_each_form(self):
         for form in ("[%s]", "[%s", "[%s,\n", '{"displayTimeUnit": "ns", "traceEvents": [%s], "metadata": {}}'):
-            self.assertEqual(self.told(SLICES + FLOW, form), [("a", 0, 2500, []), ("b", 3000, 5000, [0])])
+            self.assertEqual(self.reported(SLICES + FLOW, form), [("a", 0, 2500, []), ("b", 3000, 5000, [0])])
 
     def test_packed(self):
         path = os.path.join(self.folder, "t.json.gz")
@@ -45,18 +45,18 @@ class Chrome(InFolder):
         third = {"name": "c", "ph": "X", "pid": 1, "tid": 3, "ts": 6, "dur": 1}
         step = dict(FLOW[1], ph="t")
         end = dict(FLOW[1], tid=3, ts=6)
-        self.assertEqual([one[3] for one in self.told(SLICES + [third, FLOW[0], step, end])], [[], [0], [1]])
+        self.assertEqual([one[3] for one in self.reported(SLICES + [third, FLOW[0], step, end])], [[], [0], [1]])
         again = [dict(FLOW[0], ts=1.5), dict(FLOW[1], ts=6, tid=3)]     # the same number once more, in disorder
-        self.assertEqual([one[3] for one in self.told(SLICES + [third, FLOW[0], end])], [[], [], [0]])
-        self.assertEqual([one[3] for one in self.told(again + SLICES + [third])], [[], [], [0]])
+        self.assertEqual([one[3] for one in self.reported(SLICES + [third, FLOW[0], end])], [[], [], [0]])
+        self.assertEqual([one[3] for one in self.reported(again + SLICES + [third])], [[], [], [0]])
 
     def test_other_events_are_passed_over(self):
         others = [{"ph": "M", "name": "thread_name"}, {"name": "no kind"}, {"ph": 7}, {"ph": ["s"]}]
-        self.assertEqual(len(self.told(others + SLICES)), 2)
+        self.assertEqual(len(self.reported(others + SLICES)), 2)
 
     def test_other_names_are_other_flows(self):
         with self.assertRaisesRegex(Fault, "t.json:5: the flow 7 did not begin before"):
-            self.told(SLICES + [FLOW[0], dict(FLOW[1], name="g")])
+            self.reported(SLICES + [FLOW[0], dict(FLOW[1], name="g")])
 
     def test_a_few_wrong_flows_are_left_out_and_told(self):
         events = SLICES + FLOW * 10 + [dict(FLOW[1], id=8, ts=4.5), dict(FLOW[1], tid=9)]
@@ -71,14 +71,14 @@ class Chrome(InFolder):
 
     def test_one_process(self):
         other = {"name": "z", "ph": "X", "pid": 2, "tid": 1, "ts": 0, "dur": 9}
-        self.assertEqual(len(self.told(SLICES + [other], process="1")), 2)
+        self.assertEqual(len(self.reported(SLICES + [other], process="1")), 2)
         with self.assertRaisesRegex(Fault, "no slices .* of this process"):
-            self.told(SLICES, process="3")
+            self.reported(SLICES, process="3")
 
     def test_what_clang_tells_besides(self):
         total = {"name": "Total a", "ph": "X", "pid": 1, "tid": 9, "ts": 0, "dur": 9, "args": {"count": 1, "avg ms": 9}}
         detail = dict(SLICES[0], args={"detail": "x.h"})
-        self.assertEqual(self.told([total, detail]), [("a x.h", 0, 2500, [])])
+        self.assertEqual(self.reported([total, detail]), [("a x.h", 0, 2500, [])])
 
     def test_slices_without_a_begin_or_an_end_are_told(self):
         notes = read(self.trace([SLICES[2], SLICES[0], SLICES[1]], "[%s]")).notes
@@ -95,7 +95,7 @@ class Chrome(InFolder):
                 (SLICES[:1] + [dict(SLICES[0], dur="1")], "[%s]", "t.json:2: the dur of this event is no number"),
                 (SLICES[:2] + [dict(SLICES[2], ts=1)], "[%s]", "t.json:3: b ends before it begins")):
             with self.assertRaisesRegex(Fault, words):
-                self.told(events, form)
+                self.reported(events, form)
 
 
 class OwnTraces(InFolder):
@@ -105,10 +105,10 @@ class OwnTraces(InFolder):
             view = worked.view(name)
             size = view.answers.head.nanoseconds or 1000
             tasks = read(self.write("t.json", trace_text(view)), "2").tasks
-            told = {what: view.answers.span_numbers[what] * size for what in ("work", "span")}
-            self.assertEqual(sum(task.cost for task in tasks), told["work"], name)
+            reported = {what: view.answers.span_numbers[what] * size for what in ("work", "span")}
+            self.assertEqual(sum(task.cost for task in tasks), reported["work"], name)
             if all(view.answers.rows.cost):
-                self.assertEqual(span_of(tasks), told["span"], name)
+                self.assertEqual(span_of(tasks), reported["span"], name)
 
 
 if __name__ == "__main__":

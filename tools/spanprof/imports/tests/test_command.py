@@ -39,7 +39,7 @@ esac
 
 
 class Command(InFolder):
-    def told(self, *words, rec=RIGHT):
+    def reported(self, *words, rec=RIGHT):
         path = self.write("tasks.rec", rec)
         program = self.program("program", PROGRAM)
         with mock.patch("signal.signal"):
@@ -50,7 +50,7 @@ class Command(InFolder):
         return os.path.join(self.folder, "mine.spanprof")
 
     def test_a_recording_and_what_more_threads_bring(self):
-        status, out, errors = self.told()
+        status, out, errors = self.reported()
         self.assertEqual((status, errors), (0, ""))
         self.assertEqual(out.split("\n")[:3], [
             "mine: 2 tasks, 4.00 ms on 2 threads; work 4.00 ms, span 4.00 ms",
@@ -64,36 +64,37 @@ class Command(InFolder):
                                           "4 0 0 0\n")
 
     def test_the_diagnosis_names_tasks_as_they_are_and_asks_for_no_other_run(self):
-        self.told()
+        self.reported()
         with mock.patch.dict(os.environ, SPANPROF_LARGE=os.path.join(self.folder, "program")):
             lines = output_of(open_recording(self.recording)).lines()
         self.assertIn("mine: 4.00 ms on 2 threads of StarPU.", lines[0])
         self.assertFalse([line for line in lines if "--full" in line or "task at" in line])
 
     def test_times_that_contradict_the_graph_are_left_out(self):
-        status, out, errors = self.told(rec=TOO_SOON)
+        status, out, errors = self.reported(rec=TOO_SOON)
         self.assertEqual((status, errors), (0, "spanprof-import: without the times of the run: trsm begins before "
                                                "potrf has ended, for which it waits\n"))
         self.assertTrue(out.startswith("mine: 2 tasks; work"))
         self.assertEqual(open_recording(self.recording).times, "")
 
     def test_none_is_replaced_unasked_and_a_fault_leaves_it(self):
-        self.told()
+        self.reported()
         with open(os.path.join(self.recording, TEXT), encoding="utf-8") as file:
             before = file.read()
-        status, _, errors = self.told(rec=TOO_SOON)
+        status, _, errors = self.reported(rec=TOO_SOON)
         self.assertEqual(status, 1)
         self.assertIn("mine.spanprof is there already; --force replaces it", errors)
-        self.assertEqual(self.told("--force", rec=RIGHT.replace("On: 1", "On: 2"))[0], 1)
+        self.assertEqual(self.reported("--force", rec=RIGHT.replace("On: 1", "On: 2"))[0], 1)
         with open(os.path.join(self.recording, TEXT), encoding="utf-8") as file:
             self.assertEqual(file.read(), before)
-        self.assertEqual(self.told("--force")[0], 0)
+        self.assertEqual(self.reported("--force")[0], 0)
         self.assertEqual(sorted(os.listdir(self.folder)), ["mine.spanprof", "program", "tasks.rec"])
 
     def test_what_goes_with_which_format(self):
         for words in (("--process", "1"), ("graph.dot",)):
             self.write("graph.dot")
-            status, _, errors = self.told(*(os.path.join(self.folder, word) if "." in word else word for word in words))
+            status, _, errors = self.reported(*(os.path.join(self.folder,
+                                                             word) if "." in word else word for word in words))
             self.assertEqual(status, 1)
             self.assertIn("a graph is for a log of ninja, and --process for a trace", errors)
 

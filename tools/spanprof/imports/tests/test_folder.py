@@ -18,9 +18,9 @@ TASKS = [Task("a.o", "", 100, 5100), Task("b.o", "", 100, 4100), Task("link", ""
 
 
 class Folder(InFolder):
-    def made(self, told):
+    def made(self, reported):
         out = os.path.join(self.folder, "mine")
-        self.why = write(self.write("mine.log", "log"), out, told)
+        self.why = write(self.write("mine.log", "log"), out, reported)
         return out + ".spanprof"
 
     def test_predictions_take_its_text_and_times(self):
@@ -36,8 +36,8 @@ class Folder(InFolder):
             text, times = file.read().split("---\n")
         self.assertIn("task depend(in: t0, t1) {  # link\nwork 1000\n}\n", text)
         self.assertEqual(times.split("\n")[0], "times 2 0 6000")
-        told = mock.Mock(side_effect=["threads 2\nelapsed 6000\nbusy 10000\ndelayed 0\nstarved 2000\noutside 0\n"])
-        with mock.patch("spanprof.time_breakdown.ask", told):
+        reported = mock.Mock(side_effect=["threads 2\nelapsed 6000\nbusy 10000\ndelayed 0\nstarved 2000\noutside 0\n"])
+        with mock.patch("spanprof.time_breakdown.ask", reported):
             self.assertEqual(breakdown_of(head_of(recording.text), 10000, document(recording)).code, 10000)
 
     def test_of_several_builds_there_are_no_times(self):

@@ -43,21 +43,21 @@ class Ninja(InFolder):
 
     def test_commands_with_what_they_need(self):
         for version in (5, 6, 7):
-            told = self.read(LOG % version)
-            self.assertEqual([(one.name, one.begin, one.end, one.before) for one in told.tasks], [
+            reported = self.read(LOG % version)
+            self.assertEqual([(one.name, one.begin, one.end, one.before) for one in reported.tasks], [
                 ("mine", 5000000, 6000000, [1, 3]), ("a.o", 2000000, 5000000, [4]), ("t.h", 0, 2000000, []),
                 ("b.o", 0, 3000000, []), ("headers", None, None, [2, 3])])
-            self.assertEqual((told.tool, told.no_times, told.notes), ("ninja", "", []))
+            self.assertEqual((reported.tool, reported.no_times, reported.notes), ("ninja", "", []))
 
     def test_a_file_that_is_not_there_yet(self):
-        told = self.read((LOG % 5).replace("\ta.o\t", "\told.o\t"))
-        self.assertEqual([(one.name, one.before) for one in told.tasks],
+        reported = self.read((LOG % 5).replace("\ta.o\t", "\told.o\t"))
+        self.assertEqual([(one.name, one.before) for one in reported.tasks],
                          [("mine", [2, 3]), ("t.h", []), ("b.o", []), ("headers", [1, 2])])
-        self.assertEqual(told.notes, ["1 outputs of the log are not in the graph, and are left out"])
+        self.assertEqual(reported.notes, ["1 outputs of the log are not in the graph, and are left out"])
 
     def test_of_several_builds_there_are_the_last_costs_and_no_times(self):
-        told = self.read(LOG % 5 + "0\t8\t0\ta.o\tcc\n")
-        self.assertEqual((told.tasks[1].cost, told.no_times), (8000000, SEVERAL))
+        reported = self.read(LOG % 5 + "0\t8\t0\ta.o\tcc\n")
+        self.assertEqual((reported.tasks[1].cost, reported.no_times), (8000000, SEVERAL))
         self.assertEqual(self.read(LOG % 5 + "0\t1\t0\told.o\tcc\n").no_times, SEVERAL)
 
     def test_faults_name_the_line(self):

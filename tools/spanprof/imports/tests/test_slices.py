@@ -17,7 +17,7 @@ def flow(source, target, is_inside=True):
     return Flow("x:9", source, target, is_inside)
 
 
-def told(slices, *flows):
+def reported(slices, *flows):
     return [(one.name, one.begin, one.end, one.before) for one in tasks_of(slices, flows)[0]]
 
 
@@ -26,17 +26,17 @@ NESTED = (("f", 0, 10), ("g", 2, 5), ("h", 3, 4), ("i", 5, 6))
 
 class Pieces(unittest.TestCase):
     def test_of_the_innermost_slices_one_after_the_other(self):
-        self.assertEqual(told({1: some(*NESTED)}), [
+        self.assertEqual(reported({1: some(*NESTED)}), [
             ("f", 0, 2, []), ("g", 2, 3, [0]), ("h", 3, 4, [1]), ("g", 4, 5, [2]), ("i", 5, 6, [3]),
             ("f", 6, 10, [4])])
 
     def test_a_thread_is_in_order_without_flows_and_each_slice_alone_with_them(self):
         slices = {1: some(("a", 0, 2), ("b", 2, 4)), 2: some(("c", 4, 9))}
-        self.assertEqual([one[3] for one in told(slices)], [[], [0], []])
-        self.assertEqual([one[3] for one in told(slices, flow((1, 3), (2, 5)))], [[], [], [1]])
+        self.assertEqual([one[3] for one in reported(slices)], [[], [0], []])
+        self.assertEqual([one[3] for one in reported(slices, flow((1, 3), (2, 5)))], [[], [], [1]])
 
     def test_rounded_ends(self):
-        self.assertEqual(told({1: some(("a", 0, 5000), ("b", 4000, 5900), ("c", 2000, 5100))}), [
+        self.assertEqual(reported({1: some(("a", 0, 5000), ("b", 4000, 5900), ("c", 2000, 5100))}), [
             ("a", 0, 2000, []), ("c", 2000, 5000, [0]), ("b", 5000, 5900, [1])])
         with self.assertRaisesRegex(Fault, "x:1: b begins in a and ends after it, on one thread"):
             tasks_of({1: some(("a", 0, 5000), ("b", 3000, 7000))}, [])
@@ -46,30 +46,30 @@ class Flows(unittest.TestCase):
     def test_a_slice_that_is_over_is_waited_for_as_a_whole(self):
         slices = {1: some(("a", 0, 4)), 2: some(("b", 4, 9))}
         for source, target, is_inside in ((1, 4, True), (2, 6, True), (2, 1, False)):
-            self.assertEqual(told(slices, flow((1, source), (2, target), is_inside)), [
+            self.assertEqual(reported(slices, flow((1, source), (2, target), is_inside)), [
                 ("a", 0, 4, []), ("b", 4, 9, [0])])
 
     def test_else_both_are_cut(self):
         slices = {1: some(("a", 0, 8)), 2: some(("b", 1, 9))}
-        self.assertEqual(told(slices, flow((1, 3), (2, 5))), [
+        self.assertEqual(reported(slices, flow((1, 3), (2, 5))), [
             ("a", 0, 3, []), ("a", 3, 8, [0]), ("b", 1, 5, []), ("b", 5, 9, [2, 0])])
 
     def test_at_a_begin_and_an_end_there_is_a_piece_of_no_length(self):
         slices = {1: some(("a", 0, 8)), 2: some(("b", 0, 8))}
-        self.assertEqual(told(slices, flow((1, 0), (2, 8))), [
+        self.assertEqual(reported(slices, flow((1, 0), (2, 8))), [
             ("a", 0, 0, []), ("a", 0, 8, [0]), ("b", 0, 8, []), ("b", 8, 8, [2, 0])])
 
     def test_the_innermost_slice_waits(self):
         slices = {1: some(*NESTED), 2: some(("b", 4, 9))}
-        self.assertEqual(told(slices, flow((1, 3), (2, 4)))[6], ("b", 4, 9, [2]))
+        self.assertEqual(reported(slices, flow((1, 3), (2, 4)))[6], ("b", 4, 9, [2]))
         slices = {1: some(*NESTED), 2: some(("b", 0, 2))}
-        self.assertEqual(told(slices, flow((2, 1), (1, 2)))[1], ("g", 2, 3, [0, 6]))
-        self.assertEqual(told(slices, flow((2, 1), (1, 4), False))[4], ("i", 5, 6, [3, 6]))
+        self.assertEqual(reported(slices, flow((2, 1), (1, 2)))[1], ("g", 2, 3, [0, 6]))
+        self.assertEqual(reported(slices, flow((2, 1), (1, 4), False))[4], ("i", 5, 6, [3, 6]))
 
     def test_within_one_slice(self):
-        self.assertEqual(told({1: some(("a", 0, 8))}, flow((1, 2), (1, 5)))[2], ("a", 5, 8, [1, 0]))
+        self.assertEqual(reported({1: some(("a", 0, 8))}, flow((1, 2), (1, 5)))[2], ("a", 5, 8, [1, 0]))
         for moment in (0, 8):
-            found = told({1: some(("a", 0, 8))}, flow((1, moment), (1, moment)))
+            found = reported({1: some(("a", 0, 8))}, flow((1, moment), (1, moment)))
             self.assertTrue(all(number not in one[3] for number, one in enumerate(found)))
 
     def test_what_is_wrong_with_one(self):
@@ -110,7 +110,7 @@ class Random(unittest.TestCase):
             try:
                 run, why = run_of(in_order(tasks))
                 self.assertTrue(run, (seed, why))
-            except Fault:   # of slices without a length, each of which may be told to wait for another
+            except Fault:   # of slices without a length, each of which may be reported to wait for another
                 faults += 1
         self.assertLess(faults, 5)
 

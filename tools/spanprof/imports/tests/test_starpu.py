@@ -15,11 +15,11 @@ class StarPU(InFolder):
         return read(self.write("tasks.rec", "\n".join(parts)))
 
     def test_names_times_workers_and_dependences(self):
-        told = self.read(A, "Control: WontUse\nJobId: 9\n", B, SYNC)
-        self.assertEqual([(one.name, one.begin, one.end, one.before) for one in told.tasks], [
+        reported = self.read(A, "Control: WontUse\nJobId: 9\n", B, SYNC)
+        self.assertEqual([(one.name, one.begin, one.end, one.before) for one in reported.tasks], [
             ("potrf", 1500000, 2250001, []), ("trsm", 2500000, 3500000, [0]), ("sync", None, None, [1, 0])])
-        self.assertEqual([one.worker for one in told.tasks], [("-1", "0"), ("-1", "1"), None])
-        self.assertEqual(told.tool, "StarPU")
+        self.assertEqual([one.worker for one in reported.tasks], [("-1", "0"), ("-1", "1"), None])
+        self.assertEqual(reported.tool, "StarPU")
 
     def test_a_task_may_stand_before_those_that_it_depends_on(self):
         self.assertEqual(self.read(SYNC, B, A).tasks[0].before, [1, 2])

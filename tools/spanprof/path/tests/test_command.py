@@ -27,12 +27,12 @@ class Commands(InFolder):
         super().setUp()
         self.text = self.write("mine.tasks", TEXT)
 
-    def told(self, *words, span=7, large=LARGE):
+    def reported(self, *words, span=7, large=LARGE):
         """The exit status, and what stands on standard output and standard error."""
         return answered(command.main, [self.text, *words], SPANPROF_LARGE=self.program("large", large % span))
 
     def test_a_table(self):
-        self.assertEqual(self.told(), (0, """\
+        self.assertEqual(self.reported(), (0, """\
 warning: untied, 1 time: span too low
 work 8, span 7, parallelism 1.1, 2 of 3 segments on a critical path
 proved of this text: its work, span, this critical path and the sums by place (spanprof_large places)
@@ -43,7 +43,7 @@ proved of this text: its work, span, this critical path and the sums by place (s
 """, ""))
 
     def test_csv(self):
-        self.assertEqual(self.told("--csv"), (0, """\
+        self.assertEqual(self.reported("--csv"), (0, """\
 span,work,segments,place
 5,5,1,task at a.c:3
 2,2,1,the beginning
@@ -52,19 +52,19 @@ span,work,segments,place
 
     def test_no_file(self):
         self.text = os.path.join(self.folder, "none")
-        status, out, errors = self.told()
+        status, out, errors = self.reported()
         self.assertEqual((status, out, errors), (1, "", "spanprof-path: %s: no such file\n" % self.text))
 
     def test_a_text_that_is_refused(self):
         self.write("mine.tasks", "tasks")
-        status, printed, said = self.told()
+        status, printed, said = self.reported()
         self.assertEqual((status, printed), (1, ""))
         self.assertRegex(said, "(?s)^spanprof-path: .*mine.tasks:1:1: BadHeader: .*\n    1 | tasks\n"
                                ".*: line 1: BadHeader\n$")
 
     def test_no_memory_for_the_rows(self):
         full = LARGE.replace("places,", "places,*) echo 'error: out of memory'; exit 3 ;;\nnever,")
-        status, printed, said = self.told(large=full)
+        status, printed, said = self.reported(large=full)
         self.assertEqual((status, printed), (1, ""))
         self.assertRegex(said, "^spanprof-path: spanprof places: error: out of memory: use more memory .*\n$")
 

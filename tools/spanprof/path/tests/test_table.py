@@ -23,9 +23,9 @@ class Tables(unittest.TestCase):
                          [HEADS, "    0.0%     0.0%         1  the beginning"])
 
     def test_many_places(self):
-        told = list(lines((place(1, 2, 1, str(i)) for i in range(MOST_ROWS + 300)), 800, 400))
-        self.assertEqual(len(told), MOST_ROWS + 2)
-        self.assertEqual(told[-1], "   75.0%    75.0%       300  300 more places")
+        reported = list(lines((place(1, 2, 1, str(i)) for i in range(MOST_ROWS + 300)), 800, 400))
+        self.assertEqual(len(reported), MOST_ROWS + 2)
+        self.assertEqual(reported[-1], "   75.0%    75.0%       300  300 more places")
 
     def test_csv_has_all_and_quotes_names(self):
         file = io.StringIO()

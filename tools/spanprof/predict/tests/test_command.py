@@ -70,11 +70,11 @@ class Command(InAFolder):
         write_machine(Machine({2: costs}, {}), self.machine)
 
     def answer(self, *words):
-        told = io.StringIO()
-        with contextlib.redirect_stdout(told), mock.patch.dict(os.environ, SPANPROF_MACHINE=self.machine), \
+        reported = io.StringIO()
+        with contextlib.redirect_stdout(reported), mock.patch.dict(os.environ, SPANPROF_MACHINE=self.machine), \
                 mock.patch("spanprof.client.ask", return_value="segments 9\nwork 40800\nspan 10200\n"):
             command.answer(command.parse([*words]))
-        return told.getvalue()
+        return reported.getvalue()
 
     def test_lines(self):
         first, two, four, last = self.answer(self.write("a.tasks", TEXT % 2)).splitlines()
@@ -89,22 +89,22 @@ class Command(InAFolder):
         first, *_, last = self.answer(self.write("a.tasks", TEXT % 2), "--runtime", "gnu").splitlines()
         self.assertIn("with 0.410 us of the team's lock a task (gcc 12's, measured on another machine)", first)
         self.assertIn("of gcc's scheduling", last)
-        told = json.loads(self.answer(self.write("b.tasks", TEXT % 2), "--runtime", "gnu", "--json"))
-        self.assertEqual(told["predicted"][0]["runtime"], "gnu")
+        reported = json.loads(self.answer(self.write("b.tasks", TEXT % 2), "--runtime", "gnu", "--json"))
+        self.assertEqual(reported["predicted"][0]["runtime"], "gnu")
 
     def test_growth_is_told(self):
         one = self.write("one.tasks", TEXT % 1)
         two = self.write("two.tasks", (TEXT % 2).replace("work 10", "work 12"))
-        told = json.loads(self.answer(one, two, "--threads", "4", "--json"))
-        self.assertEqual((told["text"], told["unit"]), ("two.tasks", "ns"))
-        untimed, grown = told["predicted"][0]["notes"]
+        reported = json.loads(self.answer(one, two, "--threads", "4", "--json"))
+        self.assertEqual((reported["text"], reported["unit"]), ("two.tasks", "ns"))
+        untimed, grown = reported["predicted"][0]["notes"]
         self.assertTrue(untimed.startswith("without what passes outside of the region's code"))
         self.assertEqual(grown, "with +12 % of work, as it grew on the threads that were recorded")
 
     def test_what_is_not_matched_is_told(self):
         one = self.write("one.tasks", (TEXT % 1).replace("# a.c:1", "# other.c:1"))
-        told = json.loads(self.answer(one, self.write("two.tasks", TEXT % 2), "--threads", "4", "--json"))
-        self.assertIn("100 % of the work is matched in no other recording", told["predicted"][0]["notes"])
+        reported = json.loads(self.answer(one, self.write("two.tasks", TEXT % 2), "--threads", "4", "--json"))
+        self.assertIn("100 % of the work is matched in no other recording", reported["predicted"][0]["notes"])
 
     def test_the_burdened_text(self):
         out = os.path.join(self.folder, "burdened.tasks")
@@ -161,14 +161,15 @@ class Command(InAFolder):
             return "omptasks 1\nwork 40\n"
         with mock.patch.dict(os.environ, SPANPROF_MACHINE=self.machine), \
                 mock.patch("spanprof.client.ask", return_value="segments 9\nwork 40800\nspan 10200\n"):
-            (line,), told = predictions.changed_told(path, changed, 2)
+            (line,), reported = predictions.changed_told(path, changed, 2)
             self.assertRegex(line, r"^on 2 threads: 2\d.\d us predicted \(.*\), 20.4 us at least \(proved, of the "
                                    r"burdened text\); of the changed text 41.3 us predicted \(.*\), 20.4 us at least "
                                    r"\(proved, of the burdened text\) \(by a model\)$")
-            self.assertEqual((told["changed text"]["time"], told["text"]["least"], told["threads"]), (41300, 20400, 2))
-            lines, told = predictions.changed_told(self.write("c.tasks", "omptasks 1\n"), changed, 2)
+            self.assertEqual((reported["changed text"]["time"], reported["text"]["least"], reported["threads"]),
+                             (41300, 20400, 2))
+            lines, reported = predictions.changed_told(self.write("c.tasks", "omptasks 1\n"), changed, 2)
             self.assertRegex(lines[0], "^no time is predicted: .*it is no recording$")
-            self.assertIn("it is no recording", told["none"])
+            self.assertIn("it is no recording", reported["none"])
 
 
 if __name__ == "__main__":

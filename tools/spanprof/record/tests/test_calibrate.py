@@ -16,10 +16,10 @@ TREE = "omptasks 1 taskgroup {\ntask {  # one of the region's threads\nwork 1500
 class Calibrating(unittest.TestCase):
     def test_words(self):
         self.assertTrue(parse(["--calibrate"]).calibrate)
-        with contextlib.redirect_stderr(io.StringIO()) as told, self.assertRaises(SystemExit) as ended:
+        with contextlib.redirect_stderr(io.StringIO()) as reported, self.assertRaises(SystemExit) as ended:
             parse(["--calibrate", "--", "./mine"])
         self.assertEqual(ended.exception.code, 2)
-        self.assertIn("--calibrate takes no program", told.getvalue())
+        self.assertIn("--calibrate takes no program", reported.getvalue())
 
     def test_numbers_of_threads(self):
         self.assertEqual([calibrate.numbers_up_to(n) for n in (1, 2, 4, 6)], [[1], [1, 2], [1, 2, 4], [1, 2, 4, 6]])

@@ -100,8 +100,8 @@ class Converts(InFolder):
             self.assertEqual(self.refused(path), "spanprof-convert: " + what + wanted)
 
     def test_arguments_that_exclude_each_other(self):
-        told = self.refused("--out", "x/", self.recording, by=2)
-        self.assertIn("--out x/: the name of a recording, and no folder", told)
+        reported = self.refused("--out", "x/", self.recording, by=2)
+        self.assertIn("--out x/: the name of a recording, and no folder", reported)
 
     def test_a_folder_that_is_not_there(self):
         self.assertIn("there is no folder /none", self.refused("--out", "/none/x", self.recording))

@@ -37,15 +37,15 @@ class Recorder(OfARecording):
     def test_it_is_built_where_it_is_missing_or_old(self):
         library, source = self.write("r/librecorder.so"), self.write("r/life.cpp")
         self.write("r/Makefile")
-        told = []
+        reported = []
         with mock.patch("spanprof.built.build") as build:
             os.utime(library, (2e9, 2e9))
-            self.library("r", tell=told.append)
+            self.library("r", tell=reported.append)
             build.assert_not_called()
             os.utime(source, (2.1e9, 2.1e9))
-            self.library("r", tell=told.append)
+            self.library("r", tell=reported.append)
             build.assert_called_once()
-        self.assertEqual(len(told), 1)
+        self.assertEqual(len(reported), 1)
 
     def test_why_not(self):
         words = "make: Entering\nclang++-16 -O2\nmake: clang++-16: No such file or directory\nmake: *** Error 127\n"

@@ -48,11 +48,12 @@ class Full(InFolder):
             asked.append((variables["OMP_TOOL"], variables["OMP_NUM_THREADS"], variables.get("OMP_THREAD_LIMIT")))
             elapsed, status = next(left)
             return Ended(status, elapsed, None)
-        told = io.StringIO()
+        reported = io.StringIO()
         self.write("recording.json", '{"threads": {"most": 4}}')
-        with mock.patch("spanprof.record.unrecorded.watched", side_effect=watched), contextlib.redirect_stderr(told), \
+        with mock.patch("spanprof.record.unrecorded.watched",
+                        side_effect=watched), contextlib.redirect_stderr(reported), \
                 mock.patch.dict(os.environ, {}, clear=True):
-            return full_facts(made, self.folder), told.getvalue()
+            return full_facts(made, self.folder), reported.getvalue()
 
     def test_in_turns_and_recorded_on_one(self):
         made, asked = session(TEXT)
@@ -63,15 +64,15 @@ class Full(InFolder):
 
     def test_a_run_that_fails(self):
         made, asked = session(TEXT)
-        found, told = self.run_in_turns(made, asked, [(10, 0), (40, 3)])
+        found, reported = self.run_in_turns(made, asked, [(10, 0), (40, 3)])
         self.assertEqual(found, {})
-        self.assertIn("unrecorded run 1 of 3 on 1 thread ended with status 3: what --full adds is not known", told)
+        self.assertIn("unrecorded run 1 of 3 on 1 thread ended with status 3: what --full adds is not known", reported)
 
     def test_a_recorded_run_that_fails_or_leaves_nothing(self):
         ends = [(10, 0), (40, 0)] * 3
-        found, told = self.run_in_turns(*session(TEXT, status=-9), ends)
+        found, reported = self.run_in_turns(*session(TEXT, status=-9), ends)
         self.assertEqual(found, {})
-        self.assertIn("the recorded run on one thread ended by SIGKILL", told)
+        self.assertIn("the recorded run on one thread ended by SIGKILL", reported)
         found, _ = self.run_in_turns(*session(), ends)
         self.assertIsNone(found["cost_on_one"])
 
@@ -103,6 +104,6 @@ class Options(unittest.TestCase):
     def test_it_has_its_own_number_of_runs(self):
         self.assertTrue(parse(["--full", "--", "./mine"]).full)
         for other in (["--scale", "1,4"], ["--runs", "3"]):
-            with self.assertRaises(SystemExit), contextlib.redirect_stderr(io.StringIO()) as told:
+            with self.assertRaises(SystemExit), contextlib.redirect_stderr(io.StringIO()) as reported:
                 parse(["--full", *other, "--", "./mine"])
-            self.assertIn("--full does not combine", told.getvalue())
+            self.assertIn("--full does not combine", reported.getvalue())

@@ -19,15 +19,18 @@ class Facts(InFolder):
 
     def test_each(self):
         os.remove(os.path.join(self.recording, "recording.json"))
-        told = write_meta(self.recording, {"arguments": ["./mine", "5"], "threads": {"asked": 4}, "elapsed_ns": 120})
+        reported = write_meta(self.recording,
+                              {"arguments": ["./mine", "5"], "threads": {"asked": 4}, "elapsed_ns": 120})
         with open(os.path.join(self.recording, "recording.json"), encoding="utf-8") as file:
-            self.assertEqual(json.load(file), told)
-        self.assertEqual((told["schema"], told["program"], told["arguments"], told["unit"], told["clock"]),
+            self.assertEqual(json.load(file), reported)
+        self.assertEqual((reported["schema"], reported["program"], reported["arguments"], reported["unit"],
+                          reported["clock"]),
                          (1, "mine", ["./mine", "5"], "us", "wall"))
-        self.assertEqual((told["threads"], told["elapsed_ns"], told["coverage"]), ({"asked": 4, "most": 4}, 120, 0.95))
-        self.assertEqual(told["runtime"], {"name": "llvm", "version": "19",
-                                           "library": "/usr/lib/llvm-19/lib/libomp.so.5"})
-        self.assertEqual(sorted(told["files"]), ["log/head", "log/modules", "program.tasks", "regions", "times"])
+        self.assertEqual((reported["threads"], reported["elapsed_ns"], reported["coverage"]),
+                         ({"asked": 4, "most": 4}, 120, 0.95))
+        self.assertEqual(reported["runtime"], {"name": "llvm", "version": "19",
+                                               "library": "/usr/lib/llvm-19/lib/libomp.so.5"})
+        self.assertEqual(sorted(reported["files"]), ["log/head", "log/modules", "program.tasks", "regions", "times"])
 
     def test_the_folder_can_be_opened(self):
         write_meta(self.recording, {})

@@ -27,11 +27,11 @@ class Options(unittest.TestCase):
         self.assertEqual((parse(["./mine"]).runs, parse(["./mine"]).scale), (1, None))
 
     def refused(self, *words):
-        told = io.StringIO()
-        with contextlib.redirect_stderr(told), self.assertRaises(SystemExit) as ended:
+        reported = io.StringIO()
+        with contextlib.redirect_stderr(reported), self.assertRaises(SystemExit) as ended:
             parse([*words, "--", "./mine"])
         self.assertEqual(ended.exception.code, 2)
-        return told.getvalue()
+        return reported.getvalue()
 
     def test_no_numbers(self):
         for wrong in ("", "1,", "1,x", "0,1", "1,1025", "1 2"):
@@ -71,7 +71,7 @@ class RecordedRuns(unittest.TestCase):
     """Sessions whose runs are made up."""
 
     def record(self, status=0, times=None, on_one=None):
-        told, options = io.StringIO(), argparse.Namespace(scale=[1, 2, 4], runs=1, threads=None)
+        reported, options = io.StringIO(), argparse.Namespace(scale=[1, 2, 4], runs=1, threads=None)
         made = mock.Mock(preload="/lib/libomp.so.5", options=options)
 
         def once(more):
@@ -81,20 +81,21 @@ class RecordedRuns(unittest.TestCase):
         made.record_once.side_effect = once
         with mock.patch("spanprof.record.scale.unrecorded", side_effect=times, return_value={1: [9], 2: [5], 4: [3]}), \
                 mock.patch("spanprof.record.full.cost_on_one", side_effect=on_one, return_value={"a.c:1": 7}), \
-                contextlib.redirect_stderr(told):
-            return *scale.record_scale(made), told.getvalue(), options.threads
+                contextlib.redirect_stderr(reported):
+            return *scale.record_scale(made), reported.getvalue(), options.threads
 
     def test_one_run_is_recorded(self):
-        recorded, scaled, told, threads = self.record()
-        self.assertEqual((recorded.status, told, threads), (0, "", 4))
+        recorded, scaled, reported, threads = self.record()
+        self.assertEqual((recorded.status, reported, threads), (0, "", 4))
         self.assertEqual((scaled.speed_up(4), scaled.library), (3, "libomp.so.5"))
         self.assertEqual(self.left, ["scale.json"])
         self.assertEqual(self.facts, {"true_one": [9], "true_many": [3], "cost_on_one": {"a.c:1": 7}})
 
     def test_a_run_that_fails(self):
-        recorded, scaled, told, _ = self.record(times=Failed("unrecorded run 1 of 1 on 2 threads", 3))
+        recorded, scaled, reported, _ = self.record(times=Failed("unrecorded run 1 of 1 on 2 threads", 3))
         self.assertEqual((recorded.status, scaled), (3, None))
-        self.assertEqual(told, "spanprof-record: unrecorded run 1 of 1 on 2 threads ended with status 3: no speedup\n")
+        self.assertEqual(reported,
+                         "spanprof-record: unrecorded run 1 of 1 on 2 threads ended with status 3: no speedup\n")
 
     def test_where_none_is_recorded_on_one_thread(self):
         recorded, scaled, _, _ = self.record(on_one=Failed("the recorded run on one thread", 3))
@@ -113,10 +114,10 @@ class Words(unittest.TestCase):
     def test_what_else_is_said(self):
         found = made_up(processors=2, library="libomp.so.5")
         found.runs = 1
-        told = table_lines(found)
-        self.assertEqual(told[3], "one unrecorded run on each number: elapsed time of the whole program, "
-                                  "on libomp.so.5 (measured)")
-        self.assertEqual(told[5:], ["on 4 threads they share 2 processors"])
+        reported = table_lines(found)
+        self.assertEqual(reported[3], "one unrecorded run on each number: elapsed time of the whole program, "
+                                      "on libomp.so.5 (measured)")
+        self.assertEqual(reported[5:], ["on 4 threads they share 2 processors"])
 
     def test_json(self):
         four = json.loads(json.dumps(scale_json(made_up())))["threads"][1]
@@ -126,13 +127,13 @@ class Words(unittest.TestCase):
 
 class Command(unittest.TestCase):
     def test_nothing_is_recorded(self):
-        """The times are told all the same, and where JSON is asked for."""
+        """The times are reported all the same, and where JSON is asked for."""
         with tempfile.TemporaryDirectory() as folder:
             path = os.path.join(folder, "told.json")
             made = mock.Mock(options=argparse.Namespace(json=path))
-            with contextlib.redirect_stderr(io.StringIO()) as told:
+            with contextlib.redirect_stderr(io.StringIO()) as reported:
                 command.report(made, Recorded(0), made_up())
-            self.assertTrue(told.getvalue().startswith("true times    threads  median"))
+            self.assertTrue(reported.getvalue().startswith("true times    threads  median"))
             with open(path, encoding="utf-8") as file:
                 self.assertEqual(json.load(file)["scale"]["runs"], 3)
 

@@ -25,7 +25,7 @@ HEADS = {
 def heads():
     """Each of all ways in which the lines of a head may come together."""
     for chosen in itertools.product(*HEADS.values()):
-        yield Head(**{name: value for told in chosen for name, value in told.items()})
+        yield Head(**{name: value for reported in chosen for name, value in reported.items()})
 
 
 def summaries(head):

@@ -88,21 +88,21 @@ class Runs(InFolder):
         return [{"message": "text", "file": os.path.join(folder, "program.tasks")}]
 
     def record(self, made, convert=None):
-        told = io.StringIO()
-        with contextlib.redirect_stderr(told), made.begun(), \
+        reported = io.StringIO()
+        with contextlib.redirect_stderr(reported), made.begun(), \
                 mock.patch("spanprof.record.session.convert_into", side_effect=convert or self.convert), \
                 mock.patch("spanprof.client.measured",
                            side_effect=[{"work": work, "span": span} for work, span in ((9, 4), (7, 5), (8, 3))]):
             recorded = record_often(made) if made.options.runs > 1 else made.record_once()
-        return recorded, told.getvalue()
+        return recorded, reported.getvalue()
 
     def names(self):
         return sorted(os.listdir(self.folder))
 
     def test_once(self):
-        recorded, told = self.record(self.session([0]))
+        recorded, reported = self.record(self.session([0]))
         folder = os.path.join(self.folder, "mine.spanprof")
-        self.assertEqual((recorded.status, recorded.found, told), (0, [folder], ""))
+        self.assertEqual((recorded.status, recorded.found, reported), (0, [folder], ""))
         self.assertEqual(recorded.said.things[0]["file"], os.path.join(folder, "program.tasks"))
         meta = open_recording(folder).meta
         self.assertEqual((meta["unit"], meta["threads"], meta["elapsed_ns"]), ("us", {"asked": 3}, 30))
@@ -120,28 +120,28 @@ class Runs(InFolder):
 
     def test_a_name_that_is_taken(self):
         self.record(self.session([0]))
-        recorded, told = self.record(self.session([0]))
+        recorded, reported = self.record(self.session([0]))
         self.assertEqual([os.path.basename(one) for one in recorded.found], ["mine-2.spanprof"])
-        self.assertIn("mine.spanprof is there already: this recording is mine-2.spanprof (--force replaces", told)
+        self.assertIn("mine.spanprof is there already: this recording is mine-2.spanprof (--force replaces", reported)
 
     def test_nothing(self):
-        recorded, told = self.record(self.session([4]))
+        recorded, reported = self.record(self.session([4]))
         self.assertEqual((recorded.status, recorded.found, self.names()), (4, [], []))
-        self.assertIn("nothing is recorded: the program met no construct of OpenMP", told)
+        self.assertIn("nothing is recorded: the program met no construct of OpenMP", reported)
 
     def test_a_converter_that_dies(self):
         """The log stays, and no tool reads a text."""
         fault = {"message": "fault", "log": "", "what": "its converter died: signal 6"}
-        recorded, told = self.record(self.session([0]), lambda *_: [fault])
+        recorded, reported = self.record(self.session([0]), lambda *_: [fault])
         self.assertEqual((recorded.found, self.names()), ([], ["mine.spanprof"]))
-        self.assertIn("the run is recorded, and its text is not made: ", told)
-        self.assertIn("mine.spanprof has the log alone; spanprof-convert", told)
+        self.assertIn("the run is recorded, and its text is not made: ", reported)
+        self.assertIn("mine.spanprof has the log alone; spanprof-convert", reported)
         with self.assertRaisesRegex(Fault, "not complete"):
             open_recording(os.path.join(self.folder, "mine.spanprof"))
 
     def test_the_run_with_the_median_time_is_kept(self):
-        recorded, told = self.record(self.session([0, 0, 0], 3))
-        self.assertEqual((recorded.status, len(recorded.found), told), (0, 1, ""))
+        recorded, reported = self.record(self.session([0, 0, 0], 3))
+        self.assertEqual((recorded.status, len(recorded.found), reported), (0, 1, ""))
         meta = open_recording(recorded.found[0]).meta
         self.assertEqual(meta["runs"], [{"elapsed_ns": 30, "work_ns": 9000, "span_ns": 4000},
                                         {"elapsed_ns": 10, "work_ns": 7000, "span_ns": 5000},
@@ -149,9 +149,9 @@ class Runs(InFolder):
         self.assertEqual(self.names(), ["mine.spanprof"])
 
     def test_a_run_that_fails_is_the_last(self):
-        recorded, told = self.record(self.session([0, 7], 3))
+        recorded, reported = self.record(self.session([0, 7], 3))
         self.assertEqual((recorded.status, recorded.found, self.names()), (7, [], []))
-        self.assertIn("run 2 of 3 is the last", told)
+        self.assertIn("run 2 of 3 is the last", reported)
 
 
 class Statuses(unittest.TestCase):

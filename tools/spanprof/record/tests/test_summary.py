@@ -30,10 +30,10 @@ NOT_OF_ONE = "critical path of the recorded text; it was recorded on one thread,
 DIVIDED = "on another number of threads its code is divided differently"
 
 
-def lines_of(**told):
+def lines_of(**reported):
     """The summary's lines by their names, where the head tells what is given here."""
     out, name = {}, ""
-    for line in summary(Answers(head=Head(**told))):
+    for line in summary(Answers(head=Head(**reported))):
         name = line[:13].strip() or name
         out.setdefault(name, []).append(line[14:])
     return out
@@ -163,8 +163,8 @@ class WhatTheTextIsNot(unittest.TestCase):
         self.assertNotIn("proved", "".join(either["span"] + either["parallelism"] + either["threads"]))
 
     def test_both_clocks(self):
-        told = {"affected": 72, "work": 101, "by": 3000, "times": 9}
-        self.assertEqual(lines_of(clocks_differ=told)["both clocks"], [
+        reported = {"affected": 72, "work": 101, "by": 3000, "times": 9}
+        self.assertEqual(lines_of(clocks_differ=reported)["both clocks"], [
             "wall and processor time differ by more than 5 % in 71.2 % of the work, by 3.00 ms in all (measured)"])
         self.assertNotIn("both clocks", lines_of())
 

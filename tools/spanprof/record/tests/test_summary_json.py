@@ -15,17 +15,17 @@ def account():
 
 class Told(unittest.TestCase):
     def test_the_account(self):
-        told = run_json(Answers(), account(), "")
-        self.assertEqual((told["text"], told["work"]), ("sort.tasks", 100))
-        self.assertEqual(told["account"]["parts"]["code"], 9)
+        reported = run_json(Answers(), account(), "")
+        self.assertEqual((reported["text"], reported["work"]), ("sort.tasks", 100))
+        self.assertEqual(reported["account"]["parts"]["code"], 9)
 
     def test_without_one(self):
-        told = run_json(Answers(), None, "tasks did not run to their ends")
-        self.assertEqual((told["account"], told["no account"]), (None, "tasks did not run to their ends"))
+        reported = run_json(Answers(), None, "tasks did not run to their ends")
+        self.assertEqual((reported["account"], reported["no account"]), (None, "tasks did not run to their ends"))
 
     def test_the_diagnosis_and_what_was_measured_besides(self):
-        told = summary_json({"diagnosis": []}, run_json(Answers(), None, ""), None)
-        self.assertEqual((told["diagnosis"], told["text"], told["scale"]), ([], "sort.tasks", None))
+        reported = summary_json({"diagnosis": []}, run_json(Answers(), None, ""), None)
+        self.assertEqual((reported["diagnosis"], reported["text"], reported["scale"]), ([], "sort.tasks", None))
         self.assertNotIn("diagnosis", summary_json(None, {}, None))
 
     def test_a_file(self):

@@ -12,8 +12,8 @@ class OfTheWorkedProgram(unittest.TestCase):
         patch = worked.patched()
         patch.start()
         self.addCleanup(patch.stop)
-        self.told = []
-        self.answers = Answers(worked.path("mesh.tasks"), tell=self.told.append)
+        self.reported = []
+        self.answers = Answers(worked.path("mesh.tasks"), tell=self.reported.append)
 
     def test_numbers_of_span(self):
         self.assertEqual(self.answers.span_numbers, {"tasks": 5, "segments": 13, "work": 41, "span": 31})
@@ -22,8 +22,8 @@ class OfTheWorkedProgram(unittest.TestCase):
     def test_each_command_is_asked_once_and_told(self):
         for _ in range(2):
             self.assertEqual(len(self.answers.rows.cost), 13)
-        self.assertEqual(self.told, ["spanprof_large slack < mesh.tasks"])
-        self.assertEqual(self.answers.asked, self.told)
+        self.assertEqual(self.reported, ["spanprof_large slack < mesh.tasks"])
+        self.assertEqual(self.answers.asked, self.reported)
 
     def test_rows(self):
         self.assertEqual([column[8] for column in self.answers.rows], [8, 4, 17, 3, 0])
@@ -61,11 +61,11 @@ class OfALongText(unittest.TestCase):
     def setUp(self):
         kept = worked.Kept()
 
-        def told(words, text):
+        def reported(words, text):
             return LONG.get(tuple(words)) or kept(words, text)
 
         for patch in (worked.patched(), mock.patch("spanprof.answers.is_long", return_value=True),
-                      mock.patch("spanprof.client.ask", told)):
+                      mock.patch("spanprof.client.ask", reported)):
             patch.start()
             self.addCleanup(patch.stop)
         self.answers = Answers(worked.path("mesh.tasks"))

@@ -5,14 +5,14 @@ from types import SimpleNamespace
 from spanprof.report.part_changes import changes_part, command
 from spanprof.report.part_source import source_part
 from spanprof.report.tests import worked
-from spanprof.report.tests.test_part_diagnosis import told
+from spanprof.report.tests.test_part_diagnosis import reported
 from spanprof.report.tests.test_parts import seen
 from spanprof.whatif.requests import Request
 
 
 class Changes(unittest.TestCase):
     def test_each_change_has_a_row_with_its_line(self):
-        part = changes_part(SimpleNamespace(diagnosis=told(), name="image.spanprof"))
+        part = changes_part(SimpleNamespace(diagnosis=reported(), name="image.spanprof"))
         words = seen(part)
         self.assertEqual(part.count('class="where change"'), 2)
         self.assertIn("depend(in: tab[f(0, 1)]) at image.c:9 if only read, or a copy for each "

@@ -26,11 +26,11 @@ class Command(unittest.TestCase):
         return os.path.join(self.folder.name, name)
 
     def refused(self, *words):
-        told = io.StringIO()
-        with contextlib.redirect_stderr(told), self.assertRaises(SystemExit) as ended:
+        reported = io.StringIO()
+        with contextlib.redirect_stderr(reported), self.assertRaises(SystemExit) as ended:
             main(list(words))
         self.assertIn(ended.exception.code, (1, 2))
-        return told.getvalue()
+        return reported.getvalue()
 
     def test_all_that_can_be_written(self):
         main([worked.path("mesh.tasks"), "-o", self.out("m.html"), "--trace", self.out("m.json"),
@@ -52,17 +52,17 @@ class Command(unittest.TestCase):
         return self.out(name + ".tasks")
 
     def test_a_page_is_written_beside_the_text_and_named(self):
-        told = io.StringIO()
-        with contextlib.redirect_stderr(told):
+        reported = io.StringIO()
+        with contextlib.redirect_stderr(reported):
             main([self.copied()])
         self.assertTrue(os.path.exists(self.out("mesh.html")))
-        self.assertEqual(told.getvalue(), "spanprof-report: written: %s\n" % self.out("mesh.html"))
+        self.assertEqual(reported.getvalue(), "spanprof-report: written: %s\n" % self.out("mesh.html"))
         self.assertEqual(beside("a/b.html"), "a/b.html.html")
 
     def test_the_diagnosis_as_json(self):
-        out, told = io.StringIO(), mock.Mock()
-        told.json.return_value = {"schema": 1}
-        with contextlib.redirect_stdout(out), mock.patch("spanprof.report.command.output_of", return_value=told):
+        out, reported = io.StringIO(), mock.Mock()
+        reported.json.return_value = {"schema": 1}
+        with contextlib.redirect_stdout(out), mock.patch("spanprof.report.command.output_of", return_value=reported):
             main([self.copied(), "--json"])
         self.assertEqual(json.loads(out.getvalue()), {"schema": 1})
         self.assertFalse(os.path.exists(self.out("mesh.html")))

@@ -57,12 +57,13 @@ class OfALongText(unittest.TestCase):
         self.assertIn('data-run="greedy"', made)
 
     def test_what_is_not_to_be_had(self):
-        told = io.StringIO()
-        with contextlib.redirect_stderr(told), tempfile.TemporaryDirectory() as folder:
+        reported = io.StringIO()
+        with contextlib.redirect_stderr(reported), tempfile.TemporaryDirectory() as folder:
             text = shutil.copy(worked.path("mesh.tasks"), folder)
             with self.assertRaises(SystemExit):
                 main([text, "--trace", os.path.join(folder, "m.json")])
-            self.assertIn("mesh.tasks: the text is beyond the limits of spanprof, and has no --trace", told.getvalue())
+            self.assertIn("mesh.tasks: the text is beyond the limits of spanprof, and has no --trace",
+                          reported.getvalue())
             main([text, "-o", os.path.join(folder, "m.html")])
             self.assertTrue(os.path.exists(os.path.join(folder, "m.html")))
 

@@ -12,7 +12,7 @@ from spanprof.diagnosis.tests.worked import MS
 from spanprof.report.part_diagnosis import first_screen, has_room, parts
 
 
-def told():
+def reported():
     run = found(starved=200 * MS, starved_by={TASKS: 150 * MS, "the beginning": 50 * MS})
     steps = [Step("dependence", TASKS, 100 * MS, 60 * MS, 50 * MS, 70 * MS, 1.0, single("in-for-inout", "a0")),
              Step("serial", "the beginning", 60 * MS, 40 * MS, 30 * MS, 50 * MS, 1.0,
@@ -27,7 +27,7 @@ def words_in(html):
 
 class Screens(unittest.TestCase):
     def test_the_sentence_the_times_the_change_and_the_plan(self):
-        shown = words_in(first_screen(told()))
+        shown = words_in(first_screen(reported()))
         for words in ("image takes 100 ms on 4 threads.", "100 msnow, on 4 threads", "60.0 msafter the first change",
                       "50.0 msat best: all threads busy all the time", "38 % lost: 8 tasks of image.c:9 (tone)",
                       "Where the time of the 4 threads went",
@@ -47,7 +47,7 @@ class Screens(unittest.TestCase):
             self.assertIn(words, shown)
 
     def test_the_bar_is_the_whole(self):
-        shares = parts(told())
+        shares = parts(reported())
         self.assertAlmostEqual(sum(share for _, share, _ in shares), 1, delta=0.005)
         self.assertEqual(shares[1][0], "dependences: image.c:9")
 
@@ -57,7 +57,7 @@ class Screens(unittest.TestCase):
         self.assertFalse(has_room("communication", 0.1))
 
     def test_warnings_are_linked(self):
-        self.assertIn('<a href="#numbers">2 warnings</a>', first_screen(told(), 2))
+        self.assertIn('<a href="#numbers">2 warnings</a>', first_screen(reported(), 2))
 
     def test_without_a_change(self):
         run = found(threads=1, asked=1)

@@ -30,7 +30,7 @@ class Patched(unittest.TestCase):
 
 
 class Numbers(Patched):
-    def told(self, name="mesh", **head):
+    def reported(self, name="mesh", **head):
         """The words of the table, where the head tells this too."""
         view = worked.view(name)
         for key, value in head.items():
@@ -38,7 +38,7 @@ class Numbers(Patched):
         return seen(numbers_part(view))
 
     def test_of_the_text_and_the_run(self):
-        words = self.told()
+        words = self.reported()
         for part in ("work, all costs 41 µs measured", "span, the longest chain 31 µs proved of the text",
                      "tasks 5 recorded", "segments 13 recorded", "threads busy, on average 1.02 measured",
                      "elapsed 40 µs measured", "speedup on 2 threads, at most 1.33 proved of the text",
@@ -47,19 +47,19 @@ class Numbers(Patched):
             self.assertIn(part, words)
 
     def test_the_time_breakdown_and_true_times(self):
-        words = self.told("split")
+        words = self.reported("split")
         shares = re.findall(r"([\d.]+) % measured of the threads' time", words)
         self.assertAlmostEqual(sum(map(float, shares)), 100, delta=0.2)
         self.assertIn("proved of the recorded text", words)
         self.assertIn("true speedup on 2 threads", words)
 
     def test_a_lock_binds(self):
-        words = self.told(most_held=36)
+        words = self.reported(most_held=36)
         self.assertIn("speedup on 2 threads, at most 1.14 proved of the text bound by the lock held longest", words)
 
     def test_how_much_of_the_program_it_is(self):
         self.assertIn("coverage 80.3 % of the program's thread-time",
-                      self.told(covered=41, thread_time=51, not_covered={}))
+                      self.reported(covered=41, thread_time=51, not_covered={}))
 
     def test_divided_code(self):
         view = worked.view("mesh")
@@ -69,13 +69,13 @@ class Numbers(Patched):
         self.assertNotIn("at most", words)
 
     def test_the_spread_of_several_runs(self):
-        words = self.told(runs=7, spread={"work": (39, 41, 1044), "span": (30, 31, 36)})
+        words = self.reported(runs=7, spread={"work": (39, 41, 1044), "span": (30, 31, 36)})
         self.assertIn("the one of 7 runs with the median elapsed time", words)
         self.assertIn("39 µs to 1.04 ms in 7 runs", words)
         self.assertIn("30 µs to 36 µs in 7 runs", words)
 
     def test_no_claim_against_a_remark(self):
-        words = self.told(remarks=[TURNS])
+        words = self.reported(remarks=[TURNS])
         self.assertIn("31 µs proved of the text the program's may be less (warnings)", words)
         self.assertIn("Warnings of the recording", words)
 

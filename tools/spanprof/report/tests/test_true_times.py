@@ -21,8 +21,8 @@ class Files(InFolder):
         self.write("recording.json", "{}")
         self.answers = argparse.Namespace(path=self.write("program.tasks"))
 
-    def points(self, told):
-        self.write("scale.json", told if isinstance(told, str) else json.dumps(told))
+    def points(self, reported):
+        self.write("scale.json", reported if isinstance(reported, str) else json.dumps(reported))
         return true_times_beside(self.answers)
 
     def test_those_of_this_recording(self):

@@ -118,8 +118,8 @@ def noting(out, ask, key_of):
     def asked(words, text):
         try:
             out[key_of(words, text)] = answer = ask(words, text)
-        except Fault as told:
-            out[key_of(words, text)] = str(told).partition(": ")[2]
+        except Fault as reported:
+            out[key_of(words, text)] = str(reported).partition(": ")[2]
             raise
         return answer
     return asked

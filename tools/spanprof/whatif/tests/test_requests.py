@@ -23,10 +23,10 @@ class Places(unittest.TestCase):
         self.assertEqual(find("task at a", ["after creating a task at a:3", "task at a:3"], "code"), "task at a:3")
 
     def test_refusals_name_what_there_is(self):
-        for word, told in (("a", "a: more than one code of this name; say which: ab, abc"),
-                           ("abd", "abd: no code of this name; there are: ab, abc"),
-                           ("", ": no code of this name; spanprof-whatif --places lists what there is")):
-            with self.assertRaisesRegex(Fault, told):
+        for word, reported in (("a", "a: more than one code of this name; say which: ab, abc"),
+                               ("abd", "abd: no code of this name; there are: ab, abc"),
+                               ("", ": no code of this name; spanprof-whatif --places lists what there is")):
+            with self.assertRaisesRegex(Fault, reported):
                 find(word, ["ab", "abc"], "code")
 
 
@@ -47,16 +47,16 @@ class Made(unittest.TestCase):
         self.assertEqual(made("task", "task at sort.c:9").least, 2)
 
     def test_refusals(self):
-        for option, word, told in (("factor", "begin=x", "--factor x: the factor is not a number"),
-                                   ("factor", "begin=-1", "a factor is from 0"),
-                                   ("factor", "begin", "--factor begin: expected PLACE=NUMBER"),
-                                   ("factor", "x=1", "no piece of code"),
-                                   ("split", "begin=1", "--split '1' is not a whole number from 2"),
-                                   ("join", "sort.c:9=", "--join '' is not a whole number"),
-                                   ("cutoff", "0", "'0' is not a whole number from 1"),
-                                   ("drop-depend", "sort", "no task with depend items"),
-                                   ("drop-name", "a", "no depend item")):
-            with self.assertRaisesRegex(Fault, told):
+        for option, word, reported in (("factor", "begin=x", "--factor x: the factor is not a number"),
+                                       ("factor", "begin=-1", "a factor is from 0"),
+                                       ("factor", "begin", "--factor begin: expected PLACE=NUMBER"),
+                                       ("factor", "x=1", "no piece of code"),
+                                       ("split", "begin=1", "--split '1' is not a whole number from 2"),
+                                       ("join", "sort.c:9=", "--join '' is not a whole number"),
+                                       ("cutoff", "0", "'0' is not a whole number from 1"),
+                                       ("drop-depend", "sort", "no task with depend items"),
+                                       ("drop-name", "a", "no depend item")):
+            with self.assertRaisesRegex(Fault, reported):
                 made(option, word)
 
 

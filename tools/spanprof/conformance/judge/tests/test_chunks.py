@@ -10,7 +10,7 @@ UP = "for i 0 2 { #: taskloop grainsize(strict:2)\n task { } }"     # segments 1
 DOWN = "for i 1 4 { #: taskloop grainsize(strict:3)\n task { } }"   # segments 1, 3, 5 and 7, the last one first
 
 
-def told(text, *turns):
+def reported(text, *turns):
     return wrong_chunks(Table(body_of(text)), Log(0, turns=[list(turn) for turn in turns]))
 
 
@@ -47,24 +47,24 @@ class Sizes(unittest.TestCase):
 
 class Logs(unittest.TestCase):
     def test_turns_of_each_task(self):
-        self.assertIsNone(told(UP, (1, 1), (3, 1), (5, 5)))
-        words = told(UP, (1, 1), (3, 3), (5, 3))
+        self.assertIsNone(reported(UP, (1, 1), (3, 1), (5, 5)))
+        words = reported(UP, (1, 1), (3, 3), (5, 3))
         self.assertIn("`grainsize(strict:2)` whose first turn is segment 1", words)
         self.assertTrue(words.endswith("has tasks of 1, 2 turns: one has 1 turns and not 2"), words)
         self.assertEqual(rule_of(words), "grainsize(strict)")
 
     def test_each_kind_of_clause_is_told_once(self):
-        words = told(f"{UP} {UP} {UP.replace('strict:', '')}", *[(turn, 1) for turn in (1, 3, 5)],
-                     *[(turn, 7) for turn in (7, 9, 11)], (13, 13), (15, 15), (17, 17))
+        words = reported(f"{UP} {UP} {UP.replace('strict:', '')}", *[(turn, 1) for turn in (1, 3, 5)],
+                         *[(turn, 7) for turn in (7, 9, 11)], (13, 13), (15, 15), (17, 17))
         self.assertEqual(rule_of(words), "grainsize(strict), grainsize")
 
     def test_a_loop_that_counts_down(self):
-        self.assertIsNone(told(DOWN, (7, 7), (5, 7), (3, 7), (1, 1)))
-        self.assertIn("first turn is segment 7", told(DOWN, (7, 7), (5, 5), (3, 5), (1, 5)))
+        self.assertIsNone(reported(DOWN, (7, 7), (5, 7), (3, 7), (1, 1)))
+        self.assertIn("first turn is segment 7", reported(DOWN, (7, 7), (5, 5), (3, 5), (1, 5)))
 
     def test_turns_that_are_not_told(self):
-        self.assertIsNone(told(UP))
-        self.assertIsNone(told(UP, (1, 1), (3, 3)))
+        self.assertIsNone(reported(UP))
+        self.assertIsNone(reported(UP, (1, 1), (3, 3)))
 
     def test_taskloops_of_a_program(self):
         table = Table(body_of("for k 1 2 { taskgroup { #: taskloop num_tasks(2)\n for i 0 2 { task { } } } }"

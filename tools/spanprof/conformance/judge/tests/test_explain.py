@@ -13,14 +13,14 @@ DEPENDENCE = "omptasks 1\ntask depend(out: x) { } task depend(in: x) { }\n"
 GROUP = "omptasks 1\ntaskgroup { task { task { } } }\n"
 
 
-def told(text, detail, event, kind="refused", place=1):
+def reported(text, detail, event, kind="refused", place=1):
     events = ["start 0 0"] * place + [event]
     return explain(text, Verdict(kind, detail), Log(0, "plain", events, "done"))
 
 
 class Refusals(unittest.TestCase):
     def rule(self, text, before, event):
-        found = told(text, f"event 1: NotReady {before}", event)
+        found = reported(text, f"event 1: NotReady {before}", event)
         self.assertIn(str(RULES[found.rule]), found.words)
         return found.rule, found.words
 
@@ -51,14 +51,14 @@ class Refusals(unittest.TestCase):
         self.assertIn("by several rules together", words)
 
     def test_other_refusals(self):
-        self.assertEqual(told(WORKED, "event 1: AlreadyStarted", "start 1 0").rule, "twice")
-        self.assertEqual(told(WORKED, "event 1: WorkerBusy", "start 0 1").rule, "two at once")
-        self.assertEqual(told(WORKED, "event 1: NotRunning", "finish 1 0").rule, "not running")
-        self.assertIn("segment 9", told(WORKED, "event 1: UnknownSegment", "start 0 9").words)
+        self.assertEqual(reported(WORKED, "event 1: AlreadyStarted", "start 1 0").rule, "twice")
+        self.assertEqual(reported(WORKED, "event 1: WorkerBusy", "start 0 1").rule, "two at once")
+        self.assertEqual(reported(WORKED, "event 1: NotRunning", "finish 1 0").rule, "not running")
+        self.assertIn("segment 9", reported(WORKED, "event 1: UnknownSegment", "start 0 9").words)
 
     def test_a_turn_that_runs_again(self):
         text = "omptasks 2 taskgroup { #: taskloop\n for i 3 4 { task { } } }"
-        found = told(text, "event 1: AlreadyStarted", "start 1 3")
+        found = reported(text, "event 1: AlreadyStarted", "start 1 3")
         self.assertEqual(found.rule, "iterations")
         self.assertIn("iteration 4 of 3..4 of a taskloop), which has begun before. Expected: ", found.words)
 
@@ -69,9 +69,9 @@ class Refusals(unittest.TestCase):
                          ("iterations of a taskloop", f"{log.wrong}. Expected: {RULES['iterations']}."))
 
     def test_what_is_no_event(self):
-        self.assertEqual(told(WORKED, "another record than that of `run`", "start 0 0").rule,
+        self.assertEqual(reported(WORKED, "another record than that of `run`", "start 0 0").rule,
                          "another record than that of `run`")
-        self.assertEqual(told(WORKED, "digest 1 and not 2", "start 0 0", kind="values").rule, "values")
+        self.assertEqual(reported(WORKED, "digest 1 and not 2", "start 0 0", kind="values").rule, "values")
 
 
 class Untied(unittest.TestCase):
@@ -107,7 +107,7 @@ class LeftOver(unittest.TestCase):
     text = "omptasks 2 taskgroup { #: parallel\n task { task depend(inoutset: x) { #: mutexinoutset\n task { } } } }"
 
     def rule(self, detail, event, text=text):
-        return told(text, f"event 1: {detail}", event).rule
+        return reported(text, f"event 1: {detail}", event).rule
 
     def test_each_rule(self):
         table = Table(read_program(self.text))

@@ -114,8 +114,8 @@ class Places(unittest.TestCase):
 
 class Complaints(unittest.TestCase):
     def test_paths_and_numbers_are_left_out(self):
-        told = "signal 6: Assertion failure at kmp_tasking.cpp(1738): taskdata->td_last_tied."
-        self.assertEqual(without_places(told),
+        reported = "signal 6: Assertion failure at kmp_tasking.cpp(1738): taskdata->td_last_tied."
+        self.assertEqual(without_places(reported),
                          "signal 6: Assertion failure at kmp_tasking.cpp(N): taskdata->td_last_tied.")
         self.assertEqual(without_places("status 127: /tmp/a-1/p3: symbol lookup error: 0x7f12"),
                          "status 127: p3: symbol lookup error: N")

@@ -21,9 +21,9 @@ class JUnit(unittest.TestCase):
     def test_cases(self):
         suite = xml.etree.ElementTree.fromstring(junit(results()))
         self.assertEqual((suite.get("tests"), suite.get("failures"), suite.get("skipped")), ("3", "1", "1"))
-        told = {case.get("name"): [part.get("message") for part in case] for case in suite}
-        self.assertEqual(told, {"depend_chain": [], "priority_flat": ["expected: found/priority_no_end.c"],
-                                "taskwait_twice": ["3 of 8 runs failed: hung 2, refused 1"]})
+        reported = {case.get("name"): [part.get("message") for part in case] for case in suite}
+        self.assertEqual(reported, {"depend_chain": [], "priority_flat": ["expected: found/priority_no_end.c"],
+                                    "taskwait_twice": ["3 of 8 runs failed: hung 2, refused 1"]})
         self.assertEqual(suite[2].get("classname"), "spanprof-conformance.untied")
         self.assertEqual(suite.find("testcase/failure").text, "event 3: `<` ?")
 

@@ -71,7 +71,7 @@ class Reports(unittest.TestCase):
     def test_the_last_line_is_how_long_it_took(self):
         report = report_of(found=[found_of(failure_of(SMALL))])
         report.took = Took(3, 1, 4)
-        self.assertEqual(markdown(report, "report").split("\n")[-1], report.took.told())
+        self.assertEqual(markdown(report, "report").split("\n")[-1], report.took.reported())
 
     def test_no_failures_no_chapters_of_them(self):
         text = markdown(report_of(results_of(LARGE)), "report")

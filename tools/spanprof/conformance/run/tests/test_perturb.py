@@ -1,4 +1,4 @@
-"""Delays in a runtime: what is told, and what places are called. No compiler, no runtime."""
+"""Delays in a runtime: what is reported, and what places are called. No compiler, no runtime."""
 import pathlib
 import subprocess
 import tempfile

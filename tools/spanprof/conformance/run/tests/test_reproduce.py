@@ -1,4 +1,4 @@
-"""Shrunk failures: how they are told, and when a failure counts as seen again."""
+"""Shrunk failures: how they are reported, and when a failure counts as seen again."""
 import unittest
 from unittest import mock
 

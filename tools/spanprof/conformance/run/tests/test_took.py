@@ -8,8 +8,9 @@ from spanprof.conformance.run.took import Took, taken
 
 class Times(unittest.TestCase):
     def test_words(self):
-        self.assertEqual(Took(140.4, 58, 137.6).told(), "Took 140 s, and 196 s of processor time: 138 s of compilers, "
-                                                        "programs and spanprof, 58 s of the tester.")
+        self.assertEqual(Took(140.4, 58, 137.6).reported(),
+                         "Took 140 s, and 196 s of processor time: 138 s of compilers, "
+                         "programs and spanprof, 58 s of the tester.")
 
     def test_what_children_took_counts(self):
         before = taken()
