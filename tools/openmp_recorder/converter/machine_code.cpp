@@ -11,6 +11,7 @@ namespace {
 // Instructions: what takes long has its sample at the next one, or soon behind; where it is tried anew, before it. An
 // atomic operation that has begun is ended first: a sample before it waited for something else, as after a branch.
 constexpr unsigned most_back = 3, most_ahead = 2;
+constexpr unsigned longest_wait = 12;  // of a loop in which a thread waits for another one
 
 bool begins_with(const std::string &word, std::initializer_list<const char *> starts) {
   return std::any_of(starts.begin(), starts.end(), [&](auto *start) { return !word.rfind(start, 0); });
@@ -127,14 +128,89 @@ Instructions disassembled(const ModuleOfRun &module, uint64_t first, uint64_t en
   return out;
 }
 
+namespace {
+using Place = Instructions::const_iterator;
+
+bool is_jump(const std::string &instruction) { return begins_with(name_of(instruction), {"j"}); }
+
+uint64_t target_of(const std::string &jump) {
+  std::string rest;
+  name_of(jump, &rest);
+  return std::strtoull(rest.c_str(), nullptr, 16);
+}
+
+// The jump behind this instruction that goes back to it or to one before it; the end where none is near.
+Place jump_back(const Instructions &all, Place here) {
+  uint64_t code = here->first;
+  for (unsigned i = 0; i < longest_wait && here != all.end(); i++, ++here) {
+    if (!goes_elsewhere(here->second)) continue;
+    if (!is_jump(here->second)) break;
+    if (target_of(here->second) <= code) return here;
+    if (name_of(here->second) == "jmp") break;
+  }
+  return all.end();
+}
+
+bool is_constant(const std::string &name, const std::vector<std::string> &all) {
+  return name == "xor" ? all.front() == all.back() : begins_with(name, {"mov"}) && all.front()[0] == '$';
+}
+
+// A compare and exchange with a constant takes a lock; with what was read before it is part of an update.
+bool takes_lock(Place begin, Place end) {
+  return std::any_of(begin, end, [](auto &one) {
+    std::string rest, name = name_of(one.second, &rest);
+    std::vector<std::string> all = operands_of(rest);
+    return is_constant(name, all) && register_of(all.back()) == 0;
+  });
+}
+
+bool is_fence(const std::string &instruction) {
+  return instruction.find("$0x0,(%rsp)") != std::string::npos && !instruction.rfind("lock or", 0);
+}
+
+// Done again, it leaves the same behind, while no other thread writes the memory that it reads.
+bool changes_nothing(const std::string &instruction) {
+  std::string rest, name = name_of(instruction, &rest);
+  if (name == "xor") return is_constant(name, operands_of(rest));
+  if (name == "xchg") return memory_use(instruction).has_value();
+  return is_jump(instruction) || is_fence(instruction) ||
+         (begins_with(name, {"mov", "cmp", "test", "and", "set", "pause", "nop", "lfence", "mfence"}) &&
+          rest.find("%es:") == std::string::npos);
+}
+
+bool is_any_of(const std::vector<int> &registers, int number) {
+  return number >= 0 && std::find(registers.begin(), registers.end(), number) != registers.end();
+}
+}  // namespace
+
+std::optional<uint64_t> waits_in_loop(const Instructions &all, uint64_t code) {
+  auto here = all.find(code);
+  Place jump = here == all.end() ? here : jump_back(all, here);
+  if (jump == all.end()) return std::nullopt;
+  Place begin = all.find(target_of(jump->second)), end = std::next(jump);
+  if (begin == all.end() || std::distance(begin, end) > longest_wait) return std::nullopt;
+  std::vector<int> written;
+  for (Place one = begin; one != end; ++one) written.push_back(written_register(one->second));
+  std::optional<uint64_t> out;
+  for (Place one = begin; one != end; ++one) {
+    bool exchanges = begins_with(name_of(one->second), {"cmpxchg"});
+    if (exchanges ? !takes_lock(begin, end) : !changes_nothing(one->second)) return std::nullopt;
+    std::optional<MemoryUse> use = memory_use(one->second);
+    if (!use || is_fence(one->second)) continue;
+    if (use->writes && !use->is_atomic) return std::nullopt;
+    if (is_any_of(written, use->base) || is_any_of(written, use->index)) return std::nullopt;
+    out = one->first;
+  }
+  return out;
+}
+
 std::vector<MemoryUse> used_near(const Instructions &all, uint64_t code) {
   std::vector<MemoryUse> out;
   std::vector<int> written;
   auto add = [&](Instructions::const_iterator one, bool is_ahead) {
     std::optional<MemoryUse> use = memory_use(one->second);
     if (is_ahead && use && use->is_atomic) return;
-    auto is_same = [&](int it) { return it < 0 || std::find(written.begin(), written.end(), it) == written.end(); };
-    if (!use || !is_same(use->base) || !is_same(use->index)) return;
+    if (!use || is_any_of(written, use->base) || is_any_of(written, use->index)) return;
     use->code = one->first;
     out.push_back(*use);
   };

@@ -28,4 +28,7 @@ using Instructions = std::map<uint64_t, std::string>;  // by their addresses in 
 Instructions disassembled(const ModuleOfRun &module, uint64_t first, uint64_t end);
 // What a thread used that was interrupted before an instruction, by the few around it: the last one before it first.
 std::vector<MemoryUse> used_near(const Instructions &all, uint64_t code);
+// The instruction with which the loop around this one looks at memory, where it does nothing else: a thread waits in it
+// until another one writes there. Nothing where the loop changes anything itself, but a lock that it tries to take.
+std::optional<uint64_t> waits_in_loop(const Instructions &all, uint64_t code);
 uint64_t address_of(const MemoryUse &use, const Registers &registers, const ModuleOfRun &module);

@@ -112,8 +112,8 @@ std::string joined(const Names &names) {
   return out;
 }
 
-enum Did { ran, slept, shares, at, allocated };
-constexpr const char *words[] = {" ran ", " slept ", " shares ", " at ", " allocated "};
+enum Did { ran, slept, shares, at, allocated, spins };
+constexpr const char *words[] = {" ran ", " slept ", " shares ", " at ", " allocated ", " spins "};
 
 using Sampled = std::pair<Did, std::string>;  // in which calls, or where
 
@@ -221,7 +221,7 @@ std::string sampled_lines(const Region &region, OffTimes &times, const Stacks &s
       by_calls[{allocated, named.own.at + " " + named.own.function}] += one.stands_for;
     auto beyond = static_cast<uint64_t>(shared.beyond * one.stands_for);
     if (beyond && library_of_system(shared.place, places).empty() && !places.at(shared.place).empty())
-      by_calls[{shares, places.at(shared.place)}] += beyond;
+      by_calls[{shared.is_wait ? spins : shares, places.at(shared.place)}] += beyond;
   }
   std::string out;
   for (auto &[number, sum] : found)

@@ -11,7 +11,7 @@ namespace {
 constexpr unsigned line_bits = 6;
 constexpr int64_t at_once = 20000000;  // nanoseconds, five samples of a thread
 constexpr size_t most_functions = 16;
-constexpr uint64_t longest = 1 << 14, most_bytes = 32;  // of a function, and of two instructions
+constexpr uint64_t longest = 1 << 14, most_bytes = 128;  // of a function, and of a loop that waits
 constexpr uint64_t least = 100;  // of all sampled time, the part of a function that is looked at
 constexpr double least_met = 5;  // uses on the same line, below which they say nothing
 constexpr size_t most_pairs = 1 << 22;  // of uses that are compared: more tell no more
@@ -70,10 +70,24 @@ size_t between(const Instructions &code, const Found &function, const Stacks &st
   return static_cast<size_t>(std::distance(code.lower_bound(first), code.upper_bound(last)));
 }
 
+// By instruction, the place behind the one with which the loop around it waits for another thread.
+std::map<uint64_t, const void *> waiting(const Instructions &code, const Found &function, const Stacks &stacks,
+                                         const ModuleOfRun &module) {
+  std::map<uint64_t, const void *> out;
+  for (size_t i : function.samples) {
+    uint64_t at = in_file(stacks.interrupted[i], module);
+    if (out.count(at)) continue;
+    std::optional<uint64_t> looking = waits_in_loop(code, at);
+    out[at] = looking ? reinterpret_cast<const void *>(module.base + *looking + 1) : nullptr;
+  }
+  return out;
+}
+
 // Of a function; an atomic operation goes as a whole where nothing is shared.
 void set_beyond(const Found &function, const Stacks &stacks, std::vector<Contended> &all) {
   std::vector<Interrupted> some, others;
-  for (size_t i : function.samples) (all[i].place ? some : others).push_back(stacks.interrupted[i]);
+  for (size_t i : function.samples)
+    if (!all[i].is_wait) (all[i].place ? some : others).push_back(stacks.interrupted[i]);
   double beyond = beyond_others(some, others, function.instructions);
   for (size_t i : function.samples)
     if (!all[i].is_atomic) all[i].beyond *= beyond;
@@ -169,13 +183,19 @@ std::map<const void *, double> shared_parts(std::vector<Used> all) {
 
 std::vector<Contended> contending(const Stacks &stacks, const ModulesOfRun &modules) {
   std::vector<Used> all;
+  std::vector<Contended> waits(stacks.interrupted.size());
   std::vector<std::pair<Function, Found>> functions = longest_of(functions_of(stacks, modules));
   for (auto &[function, found] : functions) {
     const ModuleOfRun &module = *function.first;
     Instructions code = disassembled(module, function.second, found.end);
     found.instructions = between(code, found, stacks, module);
+    std::map<uint64_t, const void *> waited = waiting(code, found, stacks, module);
     for (size_t i : found.samples) {
       const Interrupted &one = stacks.interrupted[i];
+      if (const void *place = waited[in_file(one, module)]) {
+        waits[i] = {place, 1, false, true};
+        continue;
+      }
       for (const MemoryUse &use : used_near(code, in_file(one, module))) {
         auto *place = reinterpret_cast<const void *>(module.base + use.code + 1);
         uint64_t address = address_of(use, one.registers, module);
@@ -183,7 +203,7 @@ std::vector<Contended> contending(const Stacks &stacks, const ModulesOfRun &modu
       }
     }
   }
-  std::vector<Contended> out(stacks.interrupted.size());
+  std::vector<Contended> out = std::move(waits);
   std::vector<bool> contended = are_contended(all);
   for (size_t i = all.size(); i-- > 0;)
     if (contended[i]) out[all[i].sample] = {all[i].place, 1, all[i].is_atomic};

@@ -19,11 +19,13 @@ struct Used {
 };
 
 // Of a sample the place behind the instruction that used such a line, null where it used none; and which part of its
-// time is of such uses and more than another instruction of the function takes.
+// time is of such uses and more than another instruction of the function takes. Or the place behind the one that looks
+// in a loop, where the thread waited until another one wrote.
 struct Contended {
   const void *place = nullptr;
   double beyond = 1;
   bool is_atomic = false;
+  bool is_wait = false;
 };
 
 // A line is contended where two threads used it at once and one wrote it: then all its uses are, while others run too.

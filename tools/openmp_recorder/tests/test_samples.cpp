@@ -126,6 +126,31 @@ TEST(what_was_used_is_known_while_its_registers_are_the_same) {
   EXPECT(used(15).empty(), true);
 }
 
+// Of a loop of these instructions, the first at 0x10.
+bool waits(const std::vector<std::string> &loop) {
+  Instructions all;
+  for (size_t i = 0; i < loop.size(); i++) all[16 + 4 * i] = loop[i];
+  return waits_in_loop(all, 16).has_value();
+}
+
+TEST(a_loop_waits_for_another_thread_where_it_changes_nothing_itself) {
+  EXPECT(waits({"mov    0x2fe2(%rip),%eax        # 4260 <phase>", "cmp    %eax,%edx", "je     10 <f+0x10>"}), true);
+  EXPECT(waits({"cmpl   $0x0,(%rdi)", "jne    30 <f+0x30>", "pause", "jmp    10 <f+0x10>"}), true);
+  EXPECT(waits({"mov    $0x1,%eax", "xchg   %al,(%rdi)", "test   %al,%al", "jne    10 <f>"}), true);
+  EXPECT(waits({"xor    %eax,%eax", "lock cmpxchg %dl,(%rdi)", "jne    10 <f>"}), true);
+  EXPECT(waits({"lock orq $0x0,(%rsp)", "mov    (%rdx),%eax", "test   %eax,%eax", "je     10 <f>"}), true);
+}
+
+TEST(a_loop_that_changes_anything_waits_for_nobody) {
+  EXPECT(waits({"mov    (%rdi),%eax", "add    $0x4,%rdi", "test   %eax,%eax", "jne    10 <f>"}), false);
+  EXPECT(waits({"mov    (%rdi),%rdi", "cmp    %rsi,(%rdi)", "jne    10 <f>"}), false);
+  EXPECT(waits({"mov    %eax,(%rdi)", "cmp    %eax,(%rsi)", "jne    10 <f>"}), false);
+  EXPECT(waits({"mov    (%rdi),%eax", "cmp    %eax,%ecx", "lock cmpxchg %ecx,(%rdi)", "jne    10 <f>"}), false);
+  EXPECT(waits({"mov    (%rdi),%eax", "call   80 <g>", "test   %eax,%eax", "jne    10 <f>"}), false);
+  EXPECT(waits({"cmp    %eax,%edx", "jne    10 <f>"}), false);
+  EXPECT(waits({"mov    (%rdi),%eax", "test   %eax,%eax", "jne    30 <f>"}), false);
+}
+
 TEST(a_line_is_contended_where_threads_use_it_at_once_and_one_writes) {
   constexpr int64_t later = 100000000;
   std::vector<bool> found = are_contended({{0, 0x1000, 0, 5, true},

@@ -41,13 +41,14 @@ class Ran(NamedTuple):
 
 class Sampled(NamedTuple):
     """By place: the microseconds of each list of calls, outermost first, in which code ran, or slept; of each line at
-    which it used memory that other threads used at the same time, where one of them wrote it; of each that ran; and of
-    each that allocated memory or freed it, with its function."""
+    which it used memory that other threads used at the same time, where one of them wrote it; of each that ran; of each
+    that allocated memory or freed it, with its function; and of each with a loop that only waits for another thread."""
     ran: dict
     slept: dict
     shares: dict = {}
     at: dict = {}
     allocated: dict = {}
+    spins: dict = {}
 
 
 @lru_cache(maxsize=4096)

@@ -52,6 +52,8 @@ TABLE = (
     Cause("lock", "lock", 0.1, "threads wait for {lock}, {times}", "{less_locking}", OR_LESS),
     Cause("exclusion", "exclusion", 0.1, "tasks of {where} exclude each other: mutexinoutset",
           "exclude only the update at {at}, or use smaller items"),
+    Cause("spin", "spinning", 0.1, "threads spin at {spins} until another thread writes there",
+          "shorten what they wait for: divide it evenly, or hold it for less"),
     Cause("memory", "memory", 0.1, "{contended}", "{instead}", ABOUT),
     Cause("allocation", "memory allocation", 0.08,
           "allocating memory takes {allocating} % of parallel code, mostly in {where}",

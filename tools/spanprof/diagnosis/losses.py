@@ -32,7 +32,7 @@ BEYOND_CACHES = 1 << 27     # bytes
 UNSHARED = 0.02         # of the samples of code, below which it uses no line that other threads use
 NO_CAUSE = ("recorder", "startup")
 FINE = ("small_tasks", "creation")      # of all tasks together
-OF_WAITS = ("small_tasks", "small_regions", "exclusion", "sleep", "too_many_threads", "affinity")
+OF_WAITS = ("small_tasks", "small_regions", "exclusion", "sleep", "spin", "too_many_threads", "affinity")
 OF_SHAPE = ("too_few_tasks", "imbalance", "dependence", "wait")
 
 
@@ -439,8 +439,13 @@ def dearer(facts):
     one = facts.cost_on_one
     if one is not None:
         return {name: max(0, place.cost - one[name]) for name, place in facts.places.items() if name in one}
-    return {name: int(facts.places[name].cost * min(1, sum(shares.values()) / sum(facts.calls.ran[name].values())))
-            for name, shares in facts.calls.shares.items() if name in facts.places and name in facts.calls.ran}
+    return by_samples(facts, facts.calls.shares)
+
+
+def by_samples(facts, sampled):
+    """By place, what the lines of these samples cost."""
+    return {name: int(facts.places[name].cost * min(1, sum(lines.values()) / sum(facts.calls.ran[name].values())))
+            for name, lines in sampled.items() if name in facts.places and name in facts.calls.ran}
 
 
 def contended_lines(facts, name):
@@ -493,15 +498,15 @@ def handling(facts):
 
 
 def in_code_losses(facts):
-    """Of what counts as code: in the kernel, in the allocator, in the runtime, and dearer than on one thread. What the
+    """Of what counts as code: in the kernel, in the allocator, in the runtime, spinning, and dearer than on one thread. What the
     allocator calls the kernel for is in both, so of these two that with more has it all."""
     left, out = facts.code, []
     system, allocated = system_time(facts), sum(allocating(facts).values())
-    dear = max(0, sum(dearer(facts).values()) - allocated)
+    spinning, dear = by_samples(facts, facts.calls.spins), max(0, sum(dearer(facts).values()) - allocated)
     for kind, time, weights in (("system", system * (system > allocated), at_heaviest(facts)),
                                 ("allocation", allocated * (system <= allocated), {most_allocating(facts): 1}),
                                 *((kind, time, {place: 1}) for (kind, place), time in handling(facts).items()),
-                                ("memory", dear, dearer(facts))):
+                                ("spin", sum(spinning.values()), spinning), ("memory", dear, dearer(facts))):
         part = min(time, left)
         left -= part
         out += by_place(kind, part, weights)

@@ -71,9 +71,19 @@ def words_of_memory(facts, names, place):
         return "%s costs %.1f times as much on %d threads as on one: memory %s" % (
             names.place(place.name), place.cost / alone, facts.most_threads,
             "bandwidth" if is_bandwidth(facts, place.name) else "is contended")
-    shares = facts.calls.shares.get(place.name, Counter())
-    lines = list(filter(None, (line_of(line) for line, _ in shares.most_common())))[:MOST_SHARED]
-    return "threads write the same cache lines at once: %s" % (joined(lines) or names.place(place.name))
+    lines = lines_of(facts.calls.shares.get(place.name, Counter()))
+    return "threads write the same cache lines at once: %s" % (lines or names.place(place.name))
+
+
+def words_of_spinning(facts, names, name):
+    """The lines that wait for another thread."""
+    found = facts.calls.spins.get(name, Counter())
+    return {"spins": lines_of(found) or names.place(name)}
+
+
+def lines_of(sampled):
+    """The few that most samples were at."""
+    return joined(list(filter(None, (line_of(line) for line, _ in sampled.most_common())))[:MOST_SHARED])
 
 
 def joined(lines):
@@ -300,7 +310,8 @@ def words(facts, names, name):
                shared=words_of_schedule(names, name, place), uneven=words_of_division(facts, name, place),
                less_creating=words_of_creation(facts, names, name),
                instead=instead(names, place, name),
-               **words_of_region(facts, names, name), **words_of_lock(facts, names, name))
+               **words_of_region(facts, names, name), **words_of_lock(facts, names, name),
+               **words_of_spinning(facts, names, name))
     if place:
         out.update(words_of_place(facts, names, place), alone=words_of_alone(facts, names, place),
                    **words_of_chunks(facts, name, place))

@@ -1,6 +1,7 @@
 """Each kind of cause by facts that have it; and that no kind is without a row in the manual."""
 import os
 import unittest
+from collections import Counter
 
 from spanprof.diagnosis.calls import RUNTIME, Sampled
 from spanprof.diagnosis.causes import BY_KIND, TABLE
@@ -124,6 +125,13 @@ class Kinds(unittest.TestCase):
 
     def test_exclusion(self):
         self.assertEqual(self.first(delayed_at(place(TASKS, exclusive=8))), "exclusion")
+
+    def test_spin(self):
+        calls = Sampled({TASKS: Counter({("main", "wait_for"): 60000, ("main", "tone"): 40000})}, {},
+                        spins={TASKS: Counter({"image.c:31": 60000})})
+        reported = diagnose(facts([place(TASKS, cost=400 * MS)], calls=calls))
+        self.assertEqual(reported.causes, [Loss("spin", TASKS, 240 * MS)])
+        self.assertTrue(reported.plan[0].at_best)
 
     def test_memory(self):
         found = facts([place(TASKS, cost=400 * MS)], cost_on_one={TASKS: 100 * MS})
