@@ -57,11 +57,13 @@ def by_function(facts, names):
 
 
 def splits(facts):
-    """Of the code while which threads had nothing to run, and of the code with the most cost."""
+    """Of the code while which threads had nothing to run, and of the code with the most cost; not of that which regions
+    inside others would divide."""
     idle = list(by_function(facts, [name for name in facts.starved_by if name in facts.places]))[:MOST]
     heavy = sorted(facts.places, key=lambda name: -facts.places[name].cost)[:2]
     for names in idle + [[name] for name in heavy if not any(name in names for names in idle)]:
-        tried = [name for name in names[:MOST_TOGETHER] if kind_of_starved(facts, name) != "loop_schedule"]
+        tried = [name for name in names[:MOST_TOGETHER] if kind_of_starved(facts, name) != "loop_schedule"
+                 and not (facts.denied and facts.places[name].kind in (SHARE, OF_THREADS))]
         if tried:
             yield Change(tuple(Request("split", "%s=%d" % (name, max(2, facts.usable)))
                                for name in dict.fromkeys(map(in_text, tried))))

@@ -70,29 +70,30 @@ def with_interpreter(facts, found, causes):
 
 def causes_of(facts, found, steps, code):
     """The first is that of the step that is worth most, and a second one where it may bring a tenth of the run's time,
-    as has to the first one on a busy machine. Where the program has none of its own it is the machine, and what the
-    program did in the rest of the time."""
+    as has to the first one on a busy machine or of an efficient program. Where the program has none of its own it is
+    the machine, and what the program did in the rest of the time."""
     out, seen = [], set()
+    ran = facts.own_time - sum(loss.time for loss in found if loss.kind in NO_CAUSE)
+    is_efficient = code >= EFFICIENT * ran
     for step in steps:
         loss = matching(step, found)
         loss = loss and with_alike(loss, found)
         if not loss or step.kind in seen or loss.time < least_of(facts, found, step.kind):
             continue
-        if step.worth >= SECOND * facts.now or not (out or facts.taken):
+        if step.worth >= SECOND * facts.now or not (out or facts.taken or is_efficient):
             out.append(loss)
             seen.add(step.kind)
     if out:
         return with_interpreter(facts, found, out)[:2]
-    ran = facts.own_time - sum(loss.time for loss in found if loss.kind in NO_CAUSE)
     named = [with_alike(loss, found) for loss in found if loss.kind in BY_KIND and loss.kind != "machine"]
     largest = [loss for loss in named if loss.time >= least_of(facts, found, loss.kind)]
-    lost = code < EFFICIENT * ran and not facts.taken
+    lost = not is_efficient and not facts.taken
     reported = with_interpreter(facts, found, [loss for loss in largest if not is_interpreter(loss.place)][:lost])
     if reported:
         return reported[:1] + [loss for loss in reported[1:2] if facts.own_share(loss.time) >= SECOND]
     is_machine = facts.share(facts.taken) >= BY_KIND["machine"].least
     machine, rest = [Loss("machine", "", facts.taken)] * is_machine, Loss("efficient", "", ran - code)
-    return machine + [rest] * (not is_machine or code >= EFFICIENT * ran)
+    return machine + [rest] * (not is_machine or is_efficient)
 
 
 def diagnose(facts, bench=None):

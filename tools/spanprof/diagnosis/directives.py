@@ -2,7 +2,7 @@
 whether a wait stands in the loop that makes the tasks."""
 import re
 
-from spanprof.source_lines import LONGEST, STRING
+from spanprof.source_lines import LONGEST, STRING, after_directive
 
 DIRECTIVE = re.compile(r"\s*#\s*pragma\s+omp\s+(.*)")
 CONDITION = re.compile(r"\s*#\s*(if|endif)")
@@ -27,6 +27,12 @@ def has(line, construct):
     """Whether a line of source begins a directive with this construct."""
     found = DIRECTIVE.match(line)
     return bool(found) and re.search(r"\b%s\b" % construct, found[1]) is not None
+
+
+def meets_at_end(lines, number):
+    """Whether a line begins a loop or sections inside a region, without nowait."""
+    text = " ".join(lines[number - 1:after_directive(lines, number) - 1])
+    return (has(text, "for") or has(text, "sections")) and not has(text, "(parallel|nowait|distribute)")
 
 
 def directive_before(lines, number, construct):

@@ -10,6 +10,7 @@ from typing import Dict, List, Optional
 
 from spanprof import client
 from spanprof.breakdown_program import NoBreakdown
+from spanprof.diagnosis.barriers import needless_barriers
 from spanprof.diagnosis.calls import RUNTIME, Sampled, calls_of, is_of_ranks, is_start, plain
 from spanprof.diagnosis.library_locks import set_library_locks
 from spanprof.diagnosis.lock_times import locks_of
@@ -84,8 +85,10 @@ class Facts:
     regions: List[Region] = field(default_factory=list)     # inside no other
     inner: List[Region] = field(default_factory=list)       # with threads of their own
     nested: int = 0                     # threads at once, with those of inner regions
+    denied: Dict[str, int] = field(default_factory=dict)    # by inner region that got one thread: what others lost
     tasks_in_regions: bool = True       # or all outside, where there is one thread
     is_of_gcc: bool = False             # some constructs have the line of a statement before them
+    barriers: dict = field(default_factory=dict)    # by place: that of a needless barrier, and its share of the waits
     interpreter: str = ""               # the file of that which runs the program
     is_imported: bool = False           # of another tool's tasks
     needless: set = field(default_factory=set)      # waits that may be, by the source
@@ -343,15 +346,31 @@ def most_together(regions, weight):
     return max(accumulate(added for _, added in sorted(moments)), default=0)
 
 
-def nested_threads(program):
-    """How many threads there are at once where regions inside others have several; 0 without such regions."""
+def regions_inside(program, is_meant):
+    """Those inside others that are meant, as lists with the outermost one around them first."""
     outer = [region for region in program.regions if not region.inside and region.number] if program else []
     begins, within = [region.begin for region in outer], {}
     for region in program.regions if outer else ():
-        if region.inside and region.threads > 1:
-            within.setdefault(max(0, bisect_right(begins, region.begin) - 1), []).append(region)
-    added = {around: most_together(inner, lambda region: region.threads - 1) for around, inner in within.items()}
-    return max((outer[around].threads + most for around, most in added.items()), default=0)
+        if region.inside and is_meant(region):
+            around = max(0, bisect_right(begins, region.begin) - 1)
+            within.setdefault(around, [outer[around]]).append(region)
+    return within.values()
+
+
+def nested_threads(program):
+    """How many threads there are at once where regions inside others have several; 0 without such regions."""
+    return max((around.threads + most_together(inner, lambda region: region.threads - 1)
+                for around, *inner in regions_inside(program, lambda region: region.threads > 1)), default=0)
+
+
+def denied_time(program, usable):
+    """By place of regions inside others that asked for several threads and got one: the time of threads that no order
+    of these wins back, since the longest one lasts longer than all of them would divided."""
+    found = Counter()
+    for _, *inner in regions_inside(program, lambda region: region.threads == 1 < region.asked):
+        longest = max(inner, key=lambda region: region.elapsed)
+        found[longest.place] += max(0, usable * longest.elapsed - sum(region.elapsed for region in inner))
+    return dict(+found)
 
 
 def regions_of(program):
@@ -389,6 +408,7 @@ def facts_of(recording, end_of=greedy_end):
     set_meta(facts, meta)
     facts.locks, regions = locks_of(recording.file("locks"), head), program_of(path)
     facts.regions, facts.inner, facts.nested = regions_of(regions), inner_regions(regions), nested_threads(regions)
+    facts.denied = denied_time(regions, facts.usable)
     facts.tasks_in_regions = not regions or any(region.tasks for region in regions.regions)
     set_off(facts, off, program)
     facts.calls = calls_of(recording.file("calls"), program.names)
@@ -397,7 +417,9 @@ def facts_of(recording, end_of=greedy_end):
     set_allocating(facts)
     facts.interpreter = interpreter_of(facts)
     try:
-        set_breakdown(facts, breakdown_of(head, numbers["work"], document(recording), program.names))
+        found = breakdown_of(head, numbers["work"], document(recording), program.names)
+        set_breakdown(facts, found)
+        facts.barriers = needless_barriers(program, facts.regions, found.rows.thread)
         if is_disturbed(facts) and head.clock == OWN_CLOCK:
             set_disturbed(facts, starved_alone(path, program.names, facts.threads))
     except NoBreakdown:

@@ -538,7 +538,29 @@ def losses(facts):
                  "small_regions": most_often(facts, found)}
     known = {"undeferred": heaviest_name(facts)}      # without times too
     placed = [loss._replace(place=one_place.get(loss.kind, loss.place) or known.get(loss.kind, "")) for loss in found]
-    return merged(of_interpreter(facts, placed))
+    return merged(of_denied(facts, of_barriers(facts, of_interpreter(facts, placed))))
+
+
+def of_barriers(facts, found):
+    """Losses, those at the ends of loops to the barriers there, as far as threads would not wait without these."""
+    out = []
+    for loss in found:
+        place, share = facts.barriers.get(loss.place, ("", 0)) if loss.kind == "loop_schedule" else ("", 0)
+        part = int(loss.time * share)
+        out += [loss._replace(time=loss.time - part), Loss("barrier", place, part)]
+    return out
+
+
+def of_denied(facts, found):
+    """What threads had to wait for code that a region inside another one would have divided is lost to its one
+    thread."""
+    out, left = [], sum(facts.denied.values())
+    for loss in found if left else ():
+        part = min(loss.time, left) if loss.kind in (*OF_SHAPE, "serial", "loop_schedule", "too_few_threads") else 0
+        left -= part
+        out += [loss._replace(time=loss.time - part)]
+        out += [Loss("too_few_threads", max(facts.denied, key=facts.denied.get), part)]
+    return out or found
 
 
 def useful_time(facts, found):

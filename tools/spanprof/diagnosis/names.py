@@ -4,7 +4,8 @@ from itertools import accumulate
 from typing import NamedTuple
 
 from spanprof.diagnosis.calls import A_SAMPLE, LEAST, NO_NAME, OF_SYSTEM, OFFSET, innermost, plain
-from spanprof.diagnosis.directives import DIRECTIVE, construct_of, directive_line, is_needless, own_item
+from spanprof.diagnosis.directives import (DIRECTIVE, construct_of, directive_line, is_needless, meets_at_end,
+                                           own_item)
 from spanprof.diagnosis.own_code import called_code
 from spanprof.diagnosis.places import ALLOCATION, OF_THREADS, OWN, SERIAL, lines_between
 from spanprof.program_text import BEGINNING, where
@@ -125,12 +126,16 @@ class Names:
         construct = lock.kind if lock else construct_of(name)
         return line._replace(number=directive_line(self.lines_of(line.file), line.number, construct))
 
+    def ordered_loops(self):
+        """The lines and the directives of loops with such turns."""
+        found = [(self.begin(name, place.at), self.directive(name, place.at))
+                 for name, place in self.facts.places.items()]
+        return [loop for loop in found if ORDERED.search(loop[1])]
+
     def ordered(self, line):
         """gcc may give an ordered region the line of code before it, which may be another function's: that of the
         directive in the loop with such turns, the last one before the line if there is one."""
-        loops = [self.begin(name, place.at) for name, place in self.facts.places.items()
-                 if ORDERED.search(self.directive(name, place.at))]
-        loop = max(loops, key=lambda one: (one.file == line.file and one.number <= line.number, one), default=None)
+        loop = max((at for at, _ in self.ordered_loops()), key=lambda one: (one.file == line.file and one.number <= line.number, one), default=None)
         lines = self.lines_of(loop.file) if loop else []
         inside = range(loop.number + 1, block_end(lines, loop.number) + 1) if loop else ()
         return next((loop._replace(number=here) for here in inside if OF_TURNS.match(lines[here - 1])), loop or line)
@@ -162,6 +167,14 @@ class Names:
             return ""
         end = after_directive(lines, line.number)
         return " ".join(COMMENT.sub("", one).strip().rstrip("\\") for one in lines[line.number - 1:end - 1])
+
+    def loops_inside(self, name):
+        """The loops and sections of a region at whose ends its threads meet."""
+        region = self.begin(name, name)
+        lines = self.lines_of(region.file) if region else []
+        begin = after_directive(lines, region.number) if lines else 0
+        inside = range(begin, statement_end(lines, begin) + 1) if lines else ()
+        return [region._replace(number=here) for here in inside if meets_at_end(lines, here)]
 
     def stretch(self, place):
         """File, first and last line of a place's code, as far as they are known."""

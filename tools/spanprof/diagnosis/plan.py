@@ -169,9 +169,10 @@ def freed_with(loss, found):
 def bound_of(facts, now, loss, found=()):
     """As if what is lost by this cause were gone. The least is 0 where lines pass: not all of these were seen."""
     after = low = left(facts, now, loss, found)
-    if loss.kind == "memory" and facts.cost_on_one is None:
+    if freed_with(loss, found)["memory"]:
+        low = 0
+    elif loss.kind == "memory" and facts.cost_on_one is None:
         low = left(facts, now, loss._replace(time=max(loss.time, contended_lines(facts, loss.place))), found)
-    low *= not freed_with(loss, found)["memory"]
     return Step(loss.kind, loss.place, now, after, low, int(now - BOUND_LEAST * (now - after)))
 
 
@@ -187,7 +188,10 @@ def best_of(steps, least=WORTH_A_CHANGE):
 
 
 def instead_of(first, ranked):
-    """Where a wait may be needed, or may not, the other change that wins back most of what the first one does."""
+    """Where a wait may be needed, or may not, the other change that wins back most of what the first one does; in place
+    of a loop's barrier another schedule."""
+    if first.kind == "barrier":
+        return [replace(first, kind="loop_schedule", is_instead=True)]
     other = [step for step in ranked if step.change and step.kind != first.kind and "wait" in (step.kind, first.kind)
              and step.gain >= ALIKE * first.gain]
     return [replace(step, is_instead=True) for step in other[:1]]

@@ -10,7 +10,7 @@ from spanprof.diagnosis.losses import (A_TASK, MANY, average_task, copying_at, h
                                        is_bandwidth, is_in_a_row, is_maker, losses, maps_memory, missing_threads,
                                        most_shared, useful_time)
 from spanprof.diagnosis.own_code import interpreted_share, is_interpreter, words_of_interpreter
-from spanprof.diagnosis.places import AFTER_REGION, SERIAL, SHARE
+from spanprof.diagnosis.places import AFTER_REGION, OWN, SERIAL, SHARE
 from spanprof.diagnosis.plan import holder
 from spanprof.diagnosis.sleeps import place_of_sleep, sleeper, sooner, words_of_sleep
 from spanprof.durations import lasting
@@ -35,6 +35,7 @@ TRIED = {
     "task": "make {where} a task of its own"}
 BOUNDS = {ABOUT: "about %s", OR_LESS: "%s or less", AT_BEST: "%s"}     # the first of several holds for all
 DIVIDED = r"\b(for|do|sections|loop|taskloop|workshare)\b"
+ONE_EACH = re.compile(r"schedule\s*\(\s*(\w+\s*:\s*)?(dynamic|(static|dynamic)\s*,\s*1)\s*\)", re.IGNORECASE)
 ONE_BY_ONE = r"schedule\s*\(\s*(\w+\s*:\s*)?(dynamic|guided)"
 SPLIT = {"serial": "parallelise {where}: loop or tasks", "imbalance": "divide the longest tasks at {where}",
          "too_few_tasks": "divide each task of {where} into {usable}",
@@ -172,6 +173,14 @@ def words_of_creation(facts, names, name):
     return "move %s into the task at %s" % (ran.function if ran else "the code before it", names.at(name))
 
 
+def words_of_more(facts, names, name):
+    """How a region gets more threads."""
+    at, region = names.place(name), next((one for one in facts.regions + facts.inner if one.place == name), None)
+    if name in facts.denied:
+        return "allow nesting at %s: omp_set_max_active_levels(2)" % at
+    return "ask for %d threads at %s%s" % (facts.usable, at, who_asked(facts, region) if region else "")
+
+
 def who_asked(facts, region):
     """For fewer threads than the run could have had, as far as it is known."""
     if not region.asked or region.asked >= facts.usable:
@@ -214,8 +223,8 @@ def words_of_fewer(facts):
 def words_of_region(facts, names, name):
     """Of those that began at one place."""
     others = len(set(missing_threads(facts)) - {name})
-    out = {"got": "", "who_asked": "", **words_of_barriers(facts, names, name),
-           "others": " and in %s" % several(others, "other") if others else "",
+    out = {"got": "", "others": " and in %s" % several(others, "other") if others else "",
+           "more_threads": words_of_more(facts, names, name), **words_of_barriers(facts, names, name),
            "in_region": "in the region at " + names.place(name) if name else "in some region",
            "fewer": words_of_fewer(facts)}
     for region in facts.inner:
@@ -228,7 +237,9 @@ def words_of_region(facts, names, name):
                        fewer=fewer % names.at(name))
     for region in facts.regions + facts.inner:
         if region.place == name:
-            out.update(got=several(region.threads, "thread"), who_asked=who_asked(facts, region))
+            out.update(got=several(region.threads, "thread"))
+    if name in facts.denied:
+        out.update(got="1 thread", others=", as nested parallelism is off")
     return out
 
 
@@ -248,12 +259,20 @@ def words_of_chunks(facts, name, place):
             "of_turns": min(10 ** len(str(A_CHUNK * turns // place.cost)), most)}
 
 
+def words_of_nowait(names, name):
+    """At which loops of a region gcc's code does not say; the source may."""
+    return "nowait at %s" % (name.startswith(OWN) and joined(names.loops_inside(name)) or names.at(name))
+
+
 def less_locking(facts, names, lock, less):
-    """Where all ordered code together is short, threads wait since a thread's iterations lie far apart in the order."""
+    """Where all ordered code together is short, threads wait since a thread's iterations lie far apart in the order; or
+    where they do not, since a long one holds up all after it."""
     if lock.kind != "ordered":
         return less + ": a copy for each thread"
     if 4 * lock.inside < facts.elapsed:
-        return "schedule(static, 1) for the loop of %s" % names.place(lock.place)
+        has_one_each = any(ONE_EACH.search(directive) for _, directive in names.ordered_loops())
+        change = "a loop of its own for %s, after this one" if has_one_each else "schedule(static, 1) for the loop of %s"
+        return change % names.place(lock.place)
     return less + ": compute before it"
 
 
@@ -308,7 +327,7 @@ def words(facts, names, name):
                alone=words_of_interpreter(facts) if is_interpreter(name) else "the others wait",
                suspect=words_of_suspect(facts, names),
                shared=words_of_schedule(names, name, place), uneven=words_of_division(facts, name, place),
-               less_creating=words_of_creation(facts, names, name),
+               nowait=words_of_nowait(names, name), less_creating=words_of_creation(facts, names, name),
                instead=instead(names, place, name),
                **words_of_region(facts, names, name), **words_of_lock(facts, names, name),
                **words_of_spinning(facts, names, name))
@@ -366,7 +385,7 @@ def shortened(text, width):
 
 
 def after_words(step):
-    """What the run takes after a step; where samples tell no number, between which times it is likely."""
+    """What the run takes after a step; where samples give no number, between which times it is likely."""
     word = BY_KIND[step.kind].without if step.low else OR_LESS
     if word == ABOUT and not step.change and step.low < step.after:
         return "%s to %s" % (lasting(step.low), lasting(step.high))

@@ -5,7 +5,7 @@ from types import SimpleNamespace
 from spanprof.diagnosis.calls import Sampled
 from spanprof.diagnosis.changes import Change, Tried, single
 from spanprof.diagnosis.diagnose import diagnose
-from spanprof.diagnosis.places import SERIAL
+from spanprof.diagnosis.places import SERIAL, SHARE
 from spanprof.diagnosis.plan import bound_of, is_at_an_end, likely, predicted
 from spanprof.diagnosis.losses import Loss
 from spanprof.diagnosis.tests.worked import MS, facts, place
@@ -69,6 +69,12 @@ class Diagnoses(unittest.TestCase):
         reported = diagnose(idle(TASKS), Bench({(): 90, asked("drop-wait", WAIT): 55}, ordered=[WAIT]))
         self.assertEqual(reported.causes, [Loss("wait", WAIT, 200 * MS)])
 
+    def test_in_place_of_a_needless_barrier_another_schedule(self):
+        loop = place("turns of the loop at a.c:3", SHARE, cost=200 * MS, uneven=200 * MS)
+        found = facts([loop], delayed=200 * MS, delayed_by={loop.name: 200 * MS}, barriers={loop.name: (loop.name, 1)})
+        self.assertEqual([(step.kind, step.is_instead) for step in diagnose(found, Bench({(): 90})).plan],
+                         [("barrier", False), ("loop_schedule", True)])
+
     def test_a_wait_that_orders_tasks_is_mostly_needed(self):
         ends = {(): 90, asked("drop-wait", WAIT): 55, asked("split", TASKS + "=4"): 70}
         self.assertEqual(diagnose(idle(TASKS), Bench(ends)).plan[0].change.kind, "split")
@@ -77,6 +83,12 @@ class Diagnoses(unittest.TestCase):
         found = facts([place(TASKS)], starved=10 * MS, starved_by={TASKS: 10 * MS})
         reported = diagnose(found, Bench({(): 100, asked("split", TASKS + "=4"): 96}))
         self.assertEqual(([loss.kind for loss in reported.causes], reported.plan), (["efficient"], []))
+
+    def test_no_cause_of_an_efficient_program_brings_less_than_a_tenth(self):
+        loop = place("turns of the loop at a.c:3", SHARE, cost=340 * MS, uneven=60 * MS)
+        for lost, kind in ((36, "efficient"), (44, "loop_schedule"), (60, "loop_schedule")):
+            found = facts([loop], delayed=lost * MS, delayed_by={loop.name: lost * MS})
+            self.assertEqual([loss.kind for loss in diagnose(found).causes], [kind])
 
     def test_a_second_step_is_tried_on_top_of_the_first(self):
         one, two = asked("in-for-inout", "a0"), asked("split", BEGINS + "=4")

@@ -9,7 +9,7 @@ from unittest import mock
 from spanprof.diagnosis import facts as module
 from spanprof.diagnosis.calls import RUNTIME, Sampled, calls_of
 from spanprof.diagnosis.diagnose import diagnose
-from spanprof.diagnosis.facts import (Facts, elapsed_in, function_in, inner_regions, nested_threads, of_those_at_once,
+from spanprof.diagnosis.facts import (denied_time, Facts, elapsed_in, function_in, inner_regions, nested_threads, of_those_at_once,
                                       off_by_segment, regions_of, runtime_name, set_meta, set_off, set_ranks,
                                       set_waiting, starting_shares, stolen_share, used_by_others)
 from spanprof.diagnosis.lock_times import Held, locks_of
@@ -207,6 +207,15 @@ class Starting(unittest.TestCase):
         self.assertEqual([(one.place, one.threads, one.times, one.elapsed) for one in inner_regions(run)],
                          [("a.c:2", 4, 1, 50)])
         self.assertEqual([one.together for some in programs[3:] for one in inner_regions(some)], [1, 2])
+
+    def test_a_region_inside_another_that_got_one_thread_of_several(self):
+        """Of three regions the longest lasts 60; all of them together would last 20 on four threads."""
+        outer = Region(1, 0, 0, 90, 4, 0, 0, 0, 0, "a.c:1", 4)
+        inner = [Region(2 + i, 0, 10, 10 + length, 1, 0, 0, 0, 1, "a.c:9", asked) for i, (length, asked) in
+                 enumerate(((60, 4), (12, 4), (8, 4), (70, 1)))]
+        self.assertEqual(denied_time(Program(100, [outer, *inner]), 4), {"a.c:9": 4 * 60 - 80})
+        self.assertEqual(denied_time(Program(100, [outer, *[inner[0]._replace(number=i) for i in range(8)]]), 4), {})
+        self.assertEqual(denied_time(None, 4), {})
 
 
 if __name__ == "__main__":

@@ -118,6 +118,10 @@ class Kinds(unittest.TestCase):
         self.assertEqual(self.first(delayed_at(turns, at_locks=20 * MS, locks=held)), "lock")
         self.assertEqual(self.first(delayed_at(turns)), "loop_schedule")
 
+    def test_barrier(self):
+        turns = place("turns of the loop at image.c:9", SHARE, uneven=200 * MS)
+        self.assertEqual(self.first(delayed_at(turns, barriers={turns.name: (turns.name, 0.8)})), "barrier")
+
     def test_lock(self):
         found = facts([place(TASKS)], at_locks=150 * MS, locks=[Held("image.c:27", "critical", 9, 1, 150 * MS)])
         self.assertEqual(self.first(found), "lock")

@@ -39,6 +39,12 @@ class Losses(unittest.TestCase):
                                                                                          "loop_schedule")}
         self.assertEqual(lost, {"too_few_threads": 180 * MS, "loop_schedule": 20 * MS})
 
+    def test_what_waits_for_a_region_that_got_one_thread_is_lost_to_that(self):
+        name = "code of one of the region's threads at a.c:2"
+        found = facts([place(name, OF_THREADS, alone=9, longest=9)], starved=200 * MS, starved_by={name: 200 * MS},
+                      denied={"a.c:9": 180 * MS})
+        self.assertEqual(losses(found), [Loss("too_few_threads", "a.c:9", 180 * MS), Loss("serial", name, 20 * MS)])
+
     def test_tasks_are_too_small_where_most_of_them_are_made(self):
         large, small = place("task at a.c:1", cost=80 * MS, tasks=8), place("task at a.c:9", cost=9 * MS, tasks=9000)
         self.assertEqual(finest_name(facts([large, small])), "task at a.c:9")

@@ -113,8 +113,12 @@ class Named(unittest.TestCase):
     def test_short_ordered_code_waits_for_its_turn(self):
         lock = Held("image.c:8", "ordered", 64, 10 * MS, 300 * MS)
         run = facts(locks=[lock])
-        self.assertEqual(less_locking(run, Names(run, None), lock, "do less"),
-                         "schedule(static, 1) for the loop of ordered at image.c:8")
+        for schedule, change in (("static", "schedule(static, 1) for the loop of ordered at image.c:8"),
+                                 ("dynamic", "a loop of its own for ordered at image.c:8, after this one"),
+                                 ("static, 1", "a loop of its own for ordered at image.c:8, after this one")):
+            names = Names(run, None)
+            names.ordered_loops = lambda: [(None, "for ordered schedule(%s)" % schedule)]
+            self.assertEqual(less_locking(run, names, lock, "do less"), change)
         lock.inside = 90 * MS
         self.assertEqual(less_locking(run, Names(run, None), lock, "do less"), "do less: compute before it")
 
@@ -385,6 +389,14 @@ class Sentences(unittest.TestCase):
         self.assertEqual(who_asked(run, Region("image.c:20", 2, MS)), ": num_threads, OMP_NUM_THREADS")
         self.assertEqual(lost_sentence(run, Names(run, None), Loss("too_few_threads", "image.c:20", MS)),
                          "1 thread in the region at image.c:20 and in 1 other: 4 can run")
+
+    def test_a_region_inside_another_that_got_one_thread(self):
+        run = facts([tone()], denied={"image.c:9": 200 * MS})
+        step = Step("too_few_threads", "image.c:9", 100 * MS, 50 * MS, 40 * MS, 60 * MS)
+        self.assertEqual(lost_sentence(run, Names(run, None), Loss("too_few_threads", "image.c:9", MS)),
+                         "1 thread in the region at image.c:9, as nested parallelism is off: 4 can run")
+        self.assertEqual(change_sentence(run, Names(run, None), step),
+                         "allow nesting at image.c:9: omp_set_max_active_levels(2)")
 
     def test_places_without_lines_by_their_functions(self):
         loop = place(OWN + " at void A::tone<..>(int)+0x7f", OF_THREADS, tasks=4)
