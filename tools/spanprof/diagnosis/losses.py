@@ -498,8 +498,8 @@ def handling(facts):
 
 
 def in_code_losses(facts):
-    """Of what counts as code: in the kernel, in the allocator, in the runtime, spinning, and dearer than on one thread. What the
-    allocator calls the kernel for is in both, so of these two that with more has it all."""
+    """Of what counts as code: in the kernel, in the allocator, in the runtime, spinning, and dearer than on one thread.
+    What the allocator calls the kernel for is in both, so of these two that with more has it all."""
     left, out = facts.code, []
     system, allocated = system_time(facts), sum(allocating(facts).values())
     spinning, dear = by_samples(facts, facts.calls.spins), max(0, sum(dearer(facts).values()) - allocated)

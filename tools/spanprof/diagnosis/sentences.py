@@ -271,7 +271,8 @@ def less_locking(facts, names, lock, less):
         return less + ": a copy for each thread"
     if 4 * lock.inside < facts.elapsed:
         has_one_each = any(ONE_EACH.search(directive) for _, directive in names.ordered_loops())
-        change = "a loop of its own for %s, after this one" if has_one_each else "schedule(static, 1) for the loop of %s"
+        change = "a loop of its own for %s, after this one" if has_one_each else \
+            "schedule(static, 1) for the loop of %s"
         return change % names.place(lock.place)
     return less + ": compute before it"
 
