@@ -194,7 +194,7 @@ grep -q '^true times *threads .*speedup' err || fail "a scale: no table"
 grep -q '"true_one"' scaled.spanprof/recording.json || fail "a scale: no true times for the diagnosis"
 for file in scale.json scaled.spanprof/scale.json; do grep -q '"speedup"' $file || fail "a scale: no $file"; done
 expect "a failing scale" 3 spanprof-record --all --scale 1,2 --out failing -- ./llvm 3
-expect_word "a failing scale" 'unrecorded run 1 of 5 on 1 thread ended with status 3: no speedup'
+expect_word "a failing scale" 'spanprof-record: the recorded run ended with status 3: no speedup'
 expect "no scale" 2 spanprof-record --all --scale 2,4 -- ./llvm
 expect_word "no scale" '2,4: expected 1, the base of the speedup, and another number'
 echo "a scale"

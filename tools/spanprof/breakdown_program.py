@@ -26,17 +26,16 @@ def in_words(line):
     name, *numbers = re.sub("^error: ", "", line).split() or [""]
     fault = FAULTS.get(name)
     if not fault or fault.count("%s") != len(numbers):
-        return "spanprof_large account: " + (line or "it ended without an answer")
+        return "spanprof_large account: " + line
     return fault % tuple(numbers)
 
 
-def ask(words, path):
-    """What the program prints of the timed document in a file, with these words behind `account`."""
+def answered(read, words, path, *more):
+    """What `read`, of the client, makes of `account` with these words and the timed document in a file."""
     try:
         with naming(path), open(path, "rb") as document:
-            done = client.run(["account", *words], document)
+            return read(["account", *words], document, *more)
+    except client.Refused as refused:
+        raise NoBreakdown(in_words(refused.answer)) from refused
     except Fault as wrong:
         raise NoBreakdown(str(wrong)) from wrong
-    if done.returncode:
-        raise NoBreakdown(in_words(done.stdout.strip()))
-    return done.stdout

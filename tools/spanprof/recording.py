@@ -17,7 +17,7 @@ SCHEMA = 1
 ENDING = ".spanprof"
 META, TEXT, TIMES, LOG, REGIONS = "recording.json", "program.tasks", "times", "log", "regions"
 SEGMENTS = "segments"   # of the text, in columns
-SCALE = "scale.json"    # of spanprof-record --scale: times of unrecorded runs
+SCALE = "scale.json"    # of spanprof-record --scale or --full: times of unrecorded runs
 CHECKED = (TEXT, TIMES, REGIONS, SEGMENTS, "off", "locks", "calls")    # the log is checked by its converter
 PIECE = 1 << 20
 
@@ -148,6 +148,16 @@ def folder_of(path):
         return path
     inside = os.path.basename(path) in CHECKED and is_recording(os.path.dirname(path) or ".")
     return os.path.dirname(path) or "." if inside else ""
+
+
+def scale_of(path):
+    """What unrecorded runs of a recording took; None where there were none, or that cannot be read."""
+    folder = folder_of(path)
+    try:
+        with open(os.path.join(folder, SCALE), encoding="utf-8") as file:
+            return json.load(file) if folder else None
+    except (OSError, *DAMAGE):
+        return None
 
 
 def open_recording(path):

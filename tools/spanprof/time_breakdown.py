@@ -9,10 +9,9 @@ from itertools import count
 from typing import List, NamedTuple, Optional
 
 from spanprof import client
-from spanprof.breakdown_program import NoBreakdown, ask
+from spanprof.breakdown_program import NoBreakdown, answered
 from spanprof.recording import document, open_recording
 from spanprof.remarks import UNFINISHED
-from spanprof.text_file import PIECE
 
 NO_TIMES_KEPT = "several of the program's threads meet regions, or it has more tasks and chunks than times are kept of"
 
@@ -109,18 +108,6 @@ class TimeBreakdown:
         return self.idle[1]
 
 
-def read_rows(table):
-    at = table.find("\n") + 1
-    heads, rows = table[:at].rstrip("\n").split(","), Rows(*(array("q") for _ in Rows._fields))
-    while at < len(table):
-        end = table.find("\n", at + PIECE) + 1 or len(table)
-        cells = table[at:end].replace("\n", ",").split(",")
-        for name, column in zip(Rows._fields, rows):
-            column.extend(map(int, cells[heads.index(name):-1:len(heads)]))
-        at = end
-    return rows
-
-
 def at_locks(head):
     """How long threads waited for locks of OpenMP, in the text's unit."""
     return sum(lock.waiting for lock in head.locks)
@@ -153,9 +140,9 @@ def divide_busy(found, head, work):
 def breakdown_of(head, work, path, places=()):
     """That of the timed document in a file, which is a run of the text. Without the places of its segments, as of a
     long text, the rows are not asked for, and idle time has no places."""
-    found = TimeBreakdown(**client.named_numbers(ask([], path)), path=path, places=list(places))
+    found = TimeBreakdown(**client.named_numbers(answered(client.ask, [], path)), path=path, places=list(places))
     if places:
-        found.rows = read_rows(ask(["--rows"], path))
+        found.rows = Rows(*answered(client.columns, ["--rows"], path, Rows._fields))
         if len(found.rows.thread) != len(places):
             raise NoBreakdown("there are times of %d segments, and not of %d" % (len(found.rows.thread), len(places)))
     # lines that are rounded to whole units may have less than the text covers

@@ -24,7 +24,7 @@ def record(path, busy):
     words = ["--force", "--threads", str(THREADS), *MEDIAN_RUN, "--out", path, "--", path]
     session = Session(parse(words))
     with session.begun(), busy_processes(busy):
-        recorded, _ = record_as_asked(session)
+        recorded = record_as_asked(session)
     if recorded.status or not recorded.found:
         raise Fault("%s: status %d, and no recording" % (path, recorded.status))
 

@@ -15,7 +15,7 @@ AFTER = """Everything after -- is the program and its arguments. The exit status
 arguments, 3 if --fail-above was exceeded, 125 if nothing was recorded, 126 if the program cannot be run, 127 if it does
 not exist. The program still reads OMP_* variables."""
 MOST_RUNS = 99
-RUNS_OF_A_SCALE = 5
+RUNS_OF_A_SCALE, RUNS_OF_FULL = 5, 3
 MOST_THREADS = 1024
 
 
@@ -53,8 +53,8 @@ def parser():
     add("--runs", type=count(1, MOST_RUNS), metavar="N",
         help="run the program N times, and keep the recording of the run with the median elapsed time")
     add("--scale", type=numbers_of_threads, metavar="1,P,..",
-        help="measure the true speedup: run the program N times (--runs, default 5) on each of these numbers of "
-        "threads without recording, then record it on the most, with what --full adds")
+        help="measure the true speedup: record the program on the most of these numbers of threads, then run it N "
+        "times (--runs, default 5) on each without recording, with what --full adds")
     add("--full", action="store_true",
         help="run the program seven times more, unrecorded on as many threads and on one, and recorded on one: true "
         "times, the speedup, and which code costs more on more threads")
@@ -108,5 +108,6 @@ def parse(words):
         reader.error("--fail-above needs --against")
     if chosen.full and (chosen.scale or chosen.runs):
         reader.error("--full does not combine with --scale and --runs")
-    chosen.runs = chosen.runs or (RUNS_OF_A_SCALE if chosen.scale else 1)
+    chosen.runs = chosen.runs or (RUNS_OF_A_SCALE if chosen.scale else RUNS_OF_FULL if chosen.full else 1)
+    chosen.threads = chosen.scale[-1] if chosen.scale else chosen.threads
     return chosen

@@ -1,57 +1,82 @@
-"""The program's true times: unrecorded runs on several numbers of threads, in turns, and one recorded run on the most
-of them."""
+"""What one run cannot tell, by more runs of the program: true times on several numbers of threads, and what each place
+costs on one thread."""
+import json
 import os
 import statistics
-from dataclasses import dataclass
-from typing import Dict, List
+import tempfile
 
-from spanprof.record.console import say
-from spanprof.record.full import full_facts
+from spanprof.command import writing
+from spanprof.diagnosis.facts import costs_of
+from spanprof.diagnosis.places import read_places
+from spanprof.durations import lasting
+from spanprof.head import counted, head_of
+from spanprof.record.console import say, tell
+from spanprof.record.meta import old_meta
 from spanprof.record.run import rewind
-from spanprof.record.scale_words import scale_json
-from spanprof.record.session import Recorded
-from spanprof.record.summary_json import write_json
-from spanprof.record.unrecorded import Failed, unrecorded
+from spanprof.record.unrecorded import ON_ONE, Failed, unrecorded
 from spanprof.recording import SCALE
+from spanprof.segment_table import code_in
+
+HEADS = ("threads", "median", "least", "greatest", "speedup")
+SAID = "speedup: the median time on one thread over that on so many, the true one (measured)"
 
 
-@dataclass
-class Scale:
-    """Elapsed times of the whole program in nanoseconds, by number of threads, in the order of the runs."""
-    runs: int
-    times: Dict[int, List[int]]
-    library: str = ""       # the runtime that the runs were given, where it is not what the program is linked with
-    processors: int = 0     # that this process may use
-
-    @property
-    def most(self):
-        return max(self.times)
-
-    def median(self, threads):
-        return int(statistics.median(self.times[threads]))
-
-    def speed_up(self, threads):
-        return self.median(1) / max(self.median(threads), 1)
-
-    def speed_up_from_to(self, threads):
-        """The median time on one thread over the greatest and the least time on so many."""
-        return [self.median(1) / max(end(self.times[threads]), 1) for end in (max, min)]
+def scale_json(times, library=""):
+    """Elapsed times of the whole program in nanoseconds by number of threads, in the order of the runs; `library` is the
+    runtime that they were given, where it is not what the program is linked with."""
+    rows, one = [], statistics.median(times[1])
+    for threads, taken in sorted(times.items()):
+        low, middle, high = (one / max(time, 1) for time in (max(taken), statistics.median(taken), min(taken)))
+        rows.append({"threads": threads, "times": taken, "median": int(statistics.median(taken)), "least": min(taken),
+                     "greatest": max(taken), "speedup": middle, "speedup from": low, "speedup to": high})
+    return {"unit": "ns", "runs": len(times[1]), "runtime": library or None,
+            "processors": len(os.sched_getaffinity(0)), "measured": "whole program, unrecorded runs", "threads": rows}
 
 
-def record_scale(session):
-    """What the run on the most threads left, as `record_once` answers it, and the scale; where a run fails there is
-    none."""
-    numbers, runs = session.options.scale, session.options.runs
-    try:
-        times = unrecorded(session, numbers, runs)
-    except Failed as failed:
-        say("%s: no speedup" % failed)
-        return Recorded(failed.status), None
-    found = Scale(runs, times, os.path.basename(session.preload), len(os.sched_getaffinity(0)))
+def table_lines(scale):
+    """Of what `scale_json` makes."""
+    rows = [HEADS] + [[str(row["threads"]), *(lasting(row[name]) for name in HEADS[1:4]), "%.2f" % row["speedup"]]
+                      for row in scale["threads"]]
+    widths = [max(map(len, column)) for column in zip(*rows)]
+    turns = "%d unrecorded runs on each number, in turns" % scale["runs"] if scale["runs"] > 1 else \
+        "one unrecorded run on each number"
+    on, most = ", on " + scale["runtime"] if scale["runtime"] else "", scale["threads"][-1]["threads"]
+    shared = ["on %s they share %d processors" % (counted(most, "thread"), scale["processors"])]
+    return [*("  ".join(word.rjust(width) for word, width in zip(words, widths)) for words in rows),
+            turns + ": elapsed time of the whole program" + on + " (measured)", SAID,
+            *shared * (scale["processors"] < most)]
 
-    def more(folder):
-        write_json(os.path.join(folder, SCALE), scale_json(found))
-        return full_facts(session, folder, times)
+
+def costs_by_place(path):
+    """In nanoseconds, of a text of any size, with the places of a diagnosis."""
+    code = code_in(path)
+    return {name: place.cost for name, place in read_places(code, costs_of(code, head_of(path))).places.items()}
+
+
+def cost_on_one(session):
+    """By place, of a recording on one thread, which is not kept."""
+    tell("recorded run on one thread")
     rewind()
-    session.options.threads = numbers[-1]
-    return session.record_once(more), found
+    with tempfile.TemporaryDirectory() as folder:
+        status, text = session.record_aside(os.path.join(folder, "one"), ON_ONE)
+        if status:
+            raise Failed("the recorded run on one thread", status)
+        return costs_by_place(text) if text else None
+
+
+def more_runs(session, folder):
+    """Runs the program on the numbers of threads that are asked for, or on that of the recording in a folder and on one,
+    and writes the scale there; answers more facts for its recording.json, as far as no run fails."""
+    old, chosen, facts = old_meta(folder), session.options, {}
+    threads = old.get("threads") or {}
+    most = threads.get("most") or threads.get("asked") or old.get("processors") or 1
+    try:
+        times = unrecorded(session, chosen.scale or [most, 1], chosen.runs)
+        session.scale = scale_json(times, os.path.basename(session.preload))
+        with writing(os.path.join(folder, SCALE)) as file:
+            json.dump(session.scale, file, indent=2)
+        facts = {"true_one": times[1], "true_many": times[max(times)]}
+        facts["cost_on_one"] = cost_on_one(session)
+    except Failed as failed:
+        say("%s: %s" % (failed, "its costs are not known" if facts else "no speedup"))
+    return facts

@@ -19,6 +19,7 @@ from spanprof.record.run import environment, signal_name, watched
 from spanprof.record.runtime import choose, refuse_targets, what_it_lacks
 from spanprof.record.runtime_name import note_of
 from spanprof.record.target import find, launched
+from spanprof.record.unrecorded import Failed
 from spanprof.record.work import Work, process_of, taken
 from spanprof.recording import ENDING, LOG, META, TEXT, open_recording
 
@@ -82,6 +83,7 @@ class Session:
         check_folder(options.out)
         check_file(options.json, "--json")
         self.comparison = None      # with an earlier recording, where that is asked for
+        self.scale = None           # what more runs have measured
         if options.against:
             check_earlier(options.against, self.out, options.force)
         client.ask(["span"], "omptasks 1\n")    # a fault before the run, where nothing can read its recording
@@ -181,8 +183,10 @@ class Session:
         self.note_end(ended)
         folders = self.work.folders
         said = self.write_all(folders, self.work.stem, ended)
-        if more and folders and not ended.status and not has_failed(said.things):
-            write_meta(folders[0], {**old_meta(folders[0]), **more(folders[0])})
+        if more and ended.status:
+            say("%s: no speedup" % Failed("the recorded run", ended.status))
+        elif more and folders and not has_failed(said.things):
+            write_meta(folders[0], {**old_meta(folders[0]), **more(self, folders[0])})
         found, said = self.publish(said)
         if not found:
             what = "the run is recorded, and its text is not made" if has_failed(said.things) else "nothing is recorded"

@@ -13,10 +13,10 @@ from spanprof.record.console import tell
 from spanprof.record.counters import words_of
 from spanprof.record.ranks import is_child
 from spanprof.record.summary import named, other_region, summary
-from spanprof.record.summary_json import run_json, summary_json, write_json
 from spanprof.record.waits import reported as told_of_waits, waited_for, waits_of
 from spanprof.recording import open_recording
 from spanprof.regions import program_of
+from spanprof.run_json import run_json, write_json
 from spanprof.time_breakdown import recorded_breakdown
 
 MORE = "spanprof-report %s"
@@ -54,7 +54,7 @@ def print_diagnosis(session, recording, news, is_cut):
     return diagnosis, why
 
 
-def print_summary(session, recording, answers, others, news, scale, is_cut):
+def print_summary(session, recording, answers, others, news, is_cut):
     options = session.options
     diagnosis, why = print_diagnosis(session, recording, news, is_cut)
     if is_cut and not options.all:
@@ -68,11 +68,10 @@ def print_summary(session, recording, answers, others, news, scale, is_cut):
         show(named("losses", diagnosis.sum_lines() if diagnosis else []) +
              named("counters", words_of(recording.meta.get("counters") or {})))
     if options.json:
-        run = run_json(answers, account, no_breakdown)
-        write_json(options.json, summary_json(diagnosis and diagnosis.json(), run, scale))
+        write_json(options.json, run_json(answers, diagnosis, account, no_breakdown))
 
 
-def print_measured(session, pairs, news, scale, is_cut):
+def print_measured(session, pairs, news, is_cut):
     """Of recordings and what is answered of them: a summary of the rank that the others wait for, or of that with the
     most work, and of the others a line each."""
     if session.rank is not None:    # of one process of MPI, beside which others tell theirs
@@ -82,14 +81,14 @@ def print_measured(session, pairs, news, scale, is_cut):
     late, ranks = waited_for(waits), told_of_waits(waits)
     first = max(pairs, key=lambda pair: (late is not None and waits_of(pair[0]) == late, pair[1].work))
     others = [rank_line(*pair) for pair in pairs if pair is not first]
-    print_summary(session, *first, others, news, scale, is_cut)
+    print_summary(session, *first, others, news, is_cut)
     show(["rank  " + ranks] if ranks else [])
 
 
-def print_summaries(session, recorded, scale=None):
+def print_summaries(session, recorded):
     """Of the program and its ranks; children are reported of as recordings that are there."""
     found = [open_recording(folder) for folder in recorded.found if not is_child(folder)]
     pairs = [(one, answered(one)) for one in found]
     remarks = {remark for _, answers in pairs for remark in answers.head.remarks}
     news = session.notes + recorded.said.news(session.out, [one.text for one in found], remarks)
-    print_measured(session, pairs, news, scale, recorded.said.is_cut)
+    print_measured(session, pairs, news, recorded.said.is_cut)

@@ -4,6 +4,7 @@ import json
 import os
 import sys
 
+from spanprof.answers import Answers
 from spanprof.command import Console, check_files, count, end_with, percent, show, writing
 from spanprof.diagnosis.compare import as_json as comparison_json, compared, is_slower, lines as comparison_lines
 from spanprof.diagnosis.output import output_of
@@ -14,6 +15,8 @@ from spanprof.report.page import page
 from spanprof.report.stacks import folded, stacks
 from spanprof.report.trace_events import trace_text
 from spanprof.report.view import View
+from spanprof.run_json import run_json
+from spanprof.time_breakdown import recorded_breakdown
 from spanprof.version import Version
 
 DESCRIPTION = """Prints the diagnosis of a recording, and writes a page: one HTML file that needs no network. With two
@@ -83,7 +86,9 @@ def write(path, text):
 def write_the_rest(chosen, progress):
     """What was asked for; what was written is reported."""
     if chosen.json:
-        print(json.dumps(output_of(open_recording(chosen.program), chosen.source or ()).json(), indent=2))
+        answers = Answers(chosen.program)
+        diagnosis = output_of(open_recording(chosen.program), chosen.source or ())
+        print(json.dumps(run_json(answers, diagnosis, *recorded_breakdown(answers)), indent=2))
     view = View(chosen.program, chosen.threads, chosen.source, progress) if chosen.output or chosen.trace else None
     if chosen.trace and view.is_long:
         raise Fault("%s: the text is beyond the limits of spanprof, and has no --trace" % chosen.program)

@@ -1,10 +1,8 @@
 """The true speedup of the program: its unrecorded runs on several numbers of threads, next to the text's curve."""
-import json
-import os
 from typing import List, NamedTuple
 
 from spanprof.errors import DAMAGE
-from spanprof.recording import SCALE, folder_of
+from spanprof.recording import scale_of
 from spanprof.report.markup import join, tag
 
 SAID = "true speedup against one thread: median of measured, unrecorded runs of the whole program, least and greatest"
@@ -20,13 +18,10 @@ class Point(NamedTuple):
 
 
 def true_times_beside(answers) -> List[Point]:
-    """What `spanprof-record --scale` wrote in the recording; nothing where it did not."""
-    folder = folder_of(answers.path)
+    """What `spanprof-record --scale` or `--full` wrote in the recording; nothing where they did not."""
     try:
-        with open(os.path.join(folder or "", SCALE), encoding="utf-8") as file:
-            reported = json.load(file)
-        return [Point(*(row[name] + 0 for name in NAMES)) for row in reported["threads"]] if folder else []
-    except (OSError, *DAMAGE):
+        return [Point(*(row[name] + 0 for name in NAMES)) for row in scale_of(answers.path)["threads"]]
+    except DAMAGE:
         return []
 
 

@@ -3,7 +3,8 @@ import tempfile
 import unittest
 from unittest import mock
 
-from spanprof.breakdown_program import NoBreakdown, ask, in_words
+from spanprof import client
+from spanprof.breakdown_program import NoBreakdown, answered, in_words
 
 
 class Refused(unittest.TestCase):
@@ -15,7 +16,7 @@ class Refused(unittest.TestCase):
 
     def test_other_lines(self):
         self.assertEqual(in_words("error: line 7: BadForm"), "spanprof_large account: error: line 7: BadForm")
-        self.assertEqual(in_words(""), "spanprof_large account: it ended without an answer")
+        self.assertEqual(in_words("it ended with status 3"), "spanprof_large account: it ended with status 3")
 
 
 class Asked(unittest.TestCase):
@@ -25,7 +26,7 @@ class Asked(unittest.TestCase):
             with open(path, "w", encoding="utf-8") as file:
                 file.write(text)
             with mock.patch.dict(os.environ, {"SPANPROF_LARGE": program}):
-                return ask([], path)
+                return answered(client.ask, [], path)
 
     def test_the_document_is_its_input(self):
         self.assertEqual(self.asked("sh -c cat"), "a document")
@@ -41,7 +42,7 @@ class Asked(unittest.TestCase):
     def test_no_document(self):
         with mock.patch.dict(os.environ, {"SPANPROF_LARGE": "cat"}), \
                 self.assertRaisesRegex(NoBreakdown, "^/no/mine.timed: No such file or directory$"):
-            ask([], "/no/mine.timed")
+            answered(client.ask, [], "/no/mine.timed")
 
 
 if __name__ == "__main__":

@@ -12,12 +12,12 @@ from spanprof.tests.columns import code_of, rows_of
 from spanprof.time_breakdown import TimeBreakdown, Blocked, recorded_breakdown, breakdown_of, divide_busy, times_name
 
 SUMS = "threads 2\nelapsed 14\nbusy 11\ndelayed 7\nstarved 8\noutside 2\n"
-ROWS = "segment,thread,ready,begin,end\n0,0,0,0,5\n1,0,5,6,9\n2,0,5,9,11\n3,1,11,12,13\n"
+ROWS = [(0, 0, 0, 5), (0, 5, 6, 9), (0, 5, 9, 11), (1, 11, 12, 13)]
 
 
-def reported(words, path):
+def reported(_, words, *__):
     """spanprof_large account of the worked run of docs/MODEL.md."""
-    return ROWS if words else SUMS
+    return rows_of(ROWS) if words else SUMS
 
 
 def answers(work=11, **of_head):
@@ -32,7 +32,7 @@ def divided(busy=100, work=60, **of_head):
 
 class Asked(unittest.TestCase):
     def account(self, made):
-        with mock.patch("spanprof.time_breakdown.ask", reported):
+        with mock.patch("spanprof.time_breakdown.answered", reported):
             return breakdown_of(made.head, made.work, "mine.timed", list(made.code.places))
 
     def test_the_sums_and_the_rows(self):
@@ -108,7 +108,7 @@ class Beside(unittest.TestCase):
         self.made.path = os.path.join(kept.name, "mine.tasks")
 
     def beside(self):
-        with mock.patch("spanprof.time_breakdown.ask", reported):
+        with mock.patch("spanprof.time_breakdown.answered", reported):
             found, why = recorded_breakdown(self.made)
         return found and found.busy, why
 

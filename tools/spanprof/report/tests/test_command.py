@@ -64,7 +64,8 @@ class Command(unittest.TestCase):
         reported.json.return_value = {"schema": 1}
         with contextlib.redirect_stdout(out), mock.patch("spanprof.report.command.output_of", return_value=reported):
             main([self.copied(), "--json"])
-        self.assertEqual(json.loads(out.getvalue()), {"schema": 1})
+        reported = json.loads(out.getvalue())
+        self.assertEqual([reported[name] for name in ("schema", "text", "scale")], [1, "mesh.tasks", None])
         self.assertFalse(os.path.exists(self.out("mesh.html")))
 
     def test_refusals(self):

@@ -2,10 +2,11 @@ import json
 import os
 import tempfile
 import unittest
+from unittest import mock
 
 from spanprof.errors import Fault
-from spanprof.record.summary_json import run_json, summary_json, write_json
 from spanprof.record.tests.made_up import Answers
+from spanprof.run_json import run_json, write_json
 from spanprof.time_breakdown import TimeBreakdown
 
 
@@ -15,18 +16,19 @@ def account():
 
 class Told(unittest.TestCase):
     def test_the_account(self):
-        reported = run_json(Answers(), account(), "")
+        reported = run_json(Answers(), None, account(), "")
         self.assertEqual((reported["text"], reported["work"]), ("sort.tasks", 100))
         self.assertEqual(reported["account"]["parts"]["code"], 9)
 
     def test_without_one(self):
-        reported = run_json(Answers(), None, "tasks did not run to their ends")
+        reported = run_json(Answers(), None, None, "tasks did not run to their ends")
         self.assertEqual((reported["account"], reported["no account"]), (None, "tasks did not run to their ends"))
 
     def test_the_diagnosis_and_what_was_measured_besides(self):
-        reported = summary_json({"diagnosis": []}, run_json(Answers(), None, ""), None)
+        diagnosis = mock.Mock(json=lambda: {"diagnosis": []})
+        reported = run_json(Answers(), diagnosis, None, "")
         self.assertEqual((reported["diagnosis"], reported["text"], reported["scale"]), ([], "sort.tasks", None))
-        self.assertNotIn("diagnosis", summary_json(None, {}, None))
+        self.assertNotIn("diagnosis", run_json(Answers(), None, None, ""))
 
     def test_a_file(self):
         with tempfile.TemporaryDirectory() as folder:
