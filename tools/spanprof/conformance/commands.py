@@ -122,14 +122,15 @@ def command_mutants(options, folder):
 
 
 def try_built(options, bench):
-    """The same with runtimes that were built from changed sources, in campaigns."""
+    """The same with runtimes that were built from changed sources, in campaigns of what `run` tries."""
     mutants, plan, seen = built_in(options.built), plan_of(options, bench), {}
     wrong = False
     print("\n".join(tables.table(tables.BUILT_HEADS, [])))
     with contextlib.ExitStack() as stack:
         tested_there = of_mutants(options, bench, plan.settings)
         journal = stack.enter_context(contextlib.closing(Journal(tested_there, options.built)))
-        campaigns = Campaigns(SparingBench(bench), options, plan,
+        cases = list(cases_of_run(options, bench.toolchain.kinds)[0])
+        campaigns = Campaigns(SparingBench(bench), cases, options, plan,
                               [(line["mutant"], line["campaign"]) for line in journal.lines],
                               lambda name, fields: journal.add({"mutant": name, "campaign": fields}))
         for mutant, campaign in campaigns.run(mutants):

@@ -103,8 +103,9 @@ class Running:
 
 def tried(bench, cases, plan, jobs, seconds=math.inf, count=0):
     """Each of the cases, which are so many, with its tallies, as it ends; each is run as the plan says. What may only
-    have been slow comes last, after a second try. No case is begun after so many seconds, and none tried again."""
-    progress, slow = Progress(count), []
+    have been slow comes last, after a second try. After so many seconds no case is begun, and of the hangs the first
+    alone is tried again: a runtime that hangs everywhere leaves no time for more."""
+    progress, slow, again = Progress(count), [], []
     running = Running(bench, plan, jobs, seconds, progress.tick)
     for case, tallies in running.outcomes(iter(cases)):
         is_slow = doubtful(tallies)
@@ -113,8 +114,14 @@ def tried(bench, cases, plan, jobs, seconds=math.inf, count=0):
             slow.append((case, tallies))
         else:
             yield case, tallies
-    tries = SecondTries(lambda case, conditions: Tally(conditions) if running.is_over()
-                        else bench.try_case(case, [conditions])[0], bench.sure_hangs)
+
+    def try_again(case, conditions):
+        if again and running.is_over():
+            return Tally(conditions)
+        again.append(case)
+        return bench.try_case(case, [conditions])[0]
+
+    tries = SecondTries(try_again, bench.sure_hangs)
     for number, (case, tallies) in enumerate(slow, 1):
         say(f"a hang that may only have been slow is tried again: {number} of {len(slow)}, {case.name}")
         settled = tries.settled(case, tallies)

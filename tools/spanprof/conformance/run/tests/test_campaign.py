@@ -1,14 +1,26 @@
 """Cases of a campaign, their conditions, and their running side by side."""
+import time
 import unittest
 from dataclasses import replace
 
 from spanprof.conformance.run.campaign import (Running, cases_of, directed_cases, random_cases, run_cases,
                                                self_checking_cases, spread, telling_first)
-from spanprof.conformance.judge.cases import Plan
+from spanprof.conformance.judge.cases import Plan, Tally
+from spanprof.conformance.judge.verdicts import Verdict
 from spanprof.conformance.generate.program import C_KINDS
-from spanprof.conformance.tests.helpers import PLAN, StubBench, body_of, case_of
+from spanprof.conformance.tests.helpers import PLAN, StubBench, body_of, case_of, failure_of
 
 ALL = ["tied", "untied", "mixed"]
+LONG = 0.05     # seconds that a program hangs
+
+
+class HangingBench(StubBench):
+    """Every program hangs with busy threads."""
+
+    def tally(self, case, at):
+        time.sleep(LONG)
+        failure = failure_of(case, at.threads, "hung", f"of {case.name}")
+        return Tally(at, 1, 0, [replace(failure, verdict=Verdict("hung", "busy"))])
 
 
 class Cases(unittest.TestCase):
@@ -81,6 +93,10 @@ class SideBySide(unittest.TestCase):
         bench = StubBench(lambda body: body == body_of("taskwait"))
         results = run_cases(bench, [case_of("a"), case_of("b", "taskwait")], PLAN, 1)
         self.assertEqual(results.failed_programs(), ["b"])
+
+    def test_one_hang_is_tried_again_though_the_time_is_over(self):
+        results = run_cases(HangingBench(), [case_of(name) for name in "ab"], PLAN, 2, seconds=LONG / 2)
+        self.assertEqual(len(results.failed_programs()), 1)
 
     def test_an_error_ends_it(self):
         def breaks(body):
