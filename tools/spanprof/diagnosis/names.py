@@ -4,8 +4,8 @@ from itertools import accumulate
 from typing import NamedTuple
 
 from spanprof.diagnosis.calls import A_SAMPLE, LEAST, NO_NAME, OF_SYSTEM, OFFSET, innermost, plain
-from spanprof.diagnosis.directives import (DIRECTIVE, construct_of, directive_line, is_needless, meets_at_end,
-                                           own_item)
+from spanprof.diagnosis.directives import (DIRECTIVE, construct_of, directive_before, directive_line, is_needless,
+                                           meets_at_end, own_item)
 from spanprof.diagnosis.own_code import called_code
 from spanprof.diagnosis.places import ALLOCATION, OF_THREADS, OWN, SERIAL, lines_between
 from spanprof.program_text import BEGINNING, where
@@ -161,13 +161,14 @@ class Names:
         return bool(line) and is_needless(self.lines_of(line.file), line.number)
 
     def directive(self, name, at):
-        """The directive of a place, its lines joined, without a comment behind it."""
+        """The directive of a place, its lines joined, without a comment behind it; clang gives a loop the line behind."""
         line = self.begin(name, at)
         lines = self.lines_of(line.file) if line else []
         if not line or not 0 < line.number <= len(lines):
             return ""
-        end = after_directive(lines, line.number)
-        return " ".join(COMMENT.sub("", one).strip().rstrip("\\") for one in lines[line.number - 1:end - 1])
+        number = directive_before(lines, line.number, construct_of(name))
+        end = after_directive(lines, number)
+        return " ".join(COMMENT.sub("", one).strip().rstrip("\\") for one in lines[number - 1:end - 1])
 
     def loops_inside(self, name):
         """The loops and sections of a region at whose ends its threads meet."""

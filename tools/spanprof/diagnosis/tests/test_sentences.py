@@ -430,6 +430,8 @@ class Sentences(unittest.TestCase):
             run = facts([place(name, SHARE)])
             step = Step("loop_schedule", name, 2, 1, 1, 1, 1.0, None)
             self.assertEqual(change_sentence(run, Names(run, sources), step), change)
+        behind = SimpleNamespace(lines_of=lambda name: [""] * 7 + ["#pragma omp parallel for schedule(dynamic)", "  for"])
+        self.assertIn("smaller chunks at image.c:9, the longest first", change_sentence(run, Names(run, behind), step))
         run = facts([place(turns, SHARE)], few_turns={"image.c:9": [5, 4]})
         step = Step("loop_schedule", turns, 2, 1, 1, 1, 1.0, None)
         self.assertEqual(change_sentence(run, Names(run, dynamic), step),
