@@ -423,15 +423,15 @@ class Sentences(unittest.TestCase):
     def test_what_to_do_for_an_uneven_loop(self):
         turns, dynamic = "turns of the loop at image.c:9", SimpleNamespace(
             lines_of=lambda name: ["#pragma omp for schedule(nonmonotonic: dynamic, 4)"] * 9)
+        before = SimpleNamespace(lines_of=lambda name: [""] * 7 + ["#pragma omp parallel for schedule(dynamic)", "  for"])
         for name, sources, change in (
                 (turns, SOURCES, "schedule(dynamic) at image.c:9, or smaller chunks"),
                 (turns, dynamic, "smaller chunks at image.c:9, the longest first"),
+                (turns, before, "smaller chunks at image.c:9, the longest first"),
                 ("a section at image.c:9", SOURCES, "smaller sections at image.c:9, the longest first")):
             run = facts([place(name, SHARE)])
             step = Step("loop_schedule", name, 2, 1, 1, 1, 1.0, None)
             self.assertEqual(change_sentence(run, Names(run, sources), step), change)
-        behind = SimpleNamespace(lines_of=lambda name: [""] * 7 + ["#pragma omp parallel for schedule(dynamic)", "  for"])
-        self.assertIn("smaller chunks at image.c:9, the longest first", change_sentence(run, Names(run, behind), step))
         run = facts([place(turns, SHARE)], few_turns={"image.c:9": [5, 4]})
         step = Step("loop_schedule", turns, 2, 1, 1, 1, 1.0, None)
         self.assertEqual(change_sentence(run, Names(run, dynamic), step),
