@@ -45,6 +45,14 @@ def directive_before(lines, number, construct):
     return number
 
 
+def directive_above(lines, number):
+    """The line at which the directive right above a statement begins; its own where there is none."""
+    here = number - 1
+    while here > 1 and (not COMMENT.sub("", lines[here - 1]).strip() or lines[here - 2].endswith("\\")):
+        here -= 1
+    return here if here > 0 and DIRECTIVE.match(lines[here - 1]) else number
+
+
 def directive_line(lines, number, construct):
     """That of the directive: gcc may give a construct the line of a statement before it, of its function, or after its
     loop. The line itself where the function has none, or only one that may not be compiled."""

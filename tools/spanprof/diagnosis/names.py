@@ -4,7 +4,7 @@ from itertools import accumulate
 from typing import NamedTuple
 
 from spanprof.diagnosis.calls import A_SAMPLE, LEAST, NO_NAME, OF_SYSTEM, OFFSET, innermost, plain
-from spanprof.diagnosis.directives import (DIRECTIVE, construct_of, directive_before, directive_line, is_needless,
+from spanprof.diagnosis.directives import (DIRECTIVE, construct_of, directive_above, directive_line, is_needless,
                                            meets_at_end, own_item)
 from spanprof.diagnosis.own_code import called_code
 from spanprof.diagnosis.places import ALLOCATION, OF_THREADS, OWN, SERIAL, lines_between
@@ -166,7 +166,7 @@ class Names:
         lines = self.lines_of(line.file) if line else []
         if not line or not 0 < line.number <= len(lines):
             return ""
-        number = directive_before(lines, line.number, construct_of(name))
+        number = directive_above(lines, line.number)
         end = after_directive(lines, number)
         return " ".join(COMMENT.sub("", one).strip().rstrip("\\") for one in lines[number - 1:end - 1])
 

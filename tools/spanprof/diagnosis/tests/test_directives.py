@@ -1,7 +1,7 @@
 import unittest
 
-from spanprof.diagnosis.directives import (block_around, construct_of, directive_line, ends_a_turn, is_between_halves,
-                                           is_of_some_turns, own_item)
+from spanprof.diagnosis.directives import (block_around, construct_of, directive_above, directive_line, ends_a_turn,
+                                           is_between_halves, is_of_some_turns, own_item)
 
 BATCHES = """int main() {
     for (int i = 0; i < 50; i++) {
@@ -39,6 +39,11 @@ class Directives(unittest.TestCase):
 
     def test_a_line_after_the_directive(self):
         self.assertEqual(directive_line(BATCHES, 7, "task"), 3)
+
+    def test_the_directive_right_above_a_statement(self):
+        lines = ["#pragma omp for \\", "    schedule(dynamic)", " // rows", "for (;;) work();", "more();", "for (;;) work();"]
+        self.assertEqual([directive_above(lines, number) for number in (4, 6)], [1, 6])
+        self.assertEqual(directive_above(lines[3:], 1), 1)
 
     def test_a_directive_of_another_function_is_none(self):
         self.assertEqual(directive_line(BATCHES[9:], 4, "taskgroup"), 4)
