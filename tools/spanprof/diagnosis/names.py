@@ -161,7 +161,7 @@ class Names:
         return bool(line) and is_needless(self.lines_of(line.file), line.number)
 
     def directive(self, name, at):
-        """The directive of a place, its lines joined, without a comment behind it; clang gives a loop the line behind."""
+        """The directive of a place, its lines joined, without a comment. Clang gives a loop the line below it."""
         line = self.begin(name, at)
         lines = self.lines_of(line.file) if line else []
         if not line or not 0 < line.number <= len(lines):

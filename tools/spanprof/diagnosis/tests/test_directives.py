@@ -41,7 +41,7 @@ class Directives(unittest.TestCase):
         self.assertEqual(directive_line(BATCHES, 7, "task"), 3)
 
     def test_the_directive_right_above_a_statement(self):
-        lines = ["#pragma omp for \\", "    schedule(dynamic)", " // rows", "for (;;) work();", "more();", "for (;;) work();"]
+        lines = ["#pragma omp for \\", "    schedule(dynamic)", " // rows", "for (;;) work();", "more();", "for (;;) {"]
         self.assertEqual([directive_above(lines, number) for number in (4, 6)], [1, 6])
         self.assertEqual(directive_above(lines[3:], 1), 1)
 

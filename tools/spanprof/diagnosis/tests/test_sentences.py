@@ -423,7 +423,7 @@ class Sentences(unittest.TestCase):
     def test_what_to_do_for_an_uneven_loop(self):
         turns, dynamic = "turns of the loop at image.c:9", SimpleNamespace(
             lines_of=lambda name: ["#pragma omp for schedule(nonmonotonic: dynamic, 4)"] * 9)
-        before = SimpleNamespace(lines_of=lambda name: [""] * 7 + ["#pragma omp parallel for schedule(dynamic)", "  for"])
+        before = SimpleNamespace(lines_of=lambda name: [""] * 7 + ["#pragma omp for schedule(dynamic)", "  for"])
         for name, sources, change in (
                 (turns, SOURCES, "schedule(dynamic) at image.c:9, or smaller chunks"),
                 (turns, dynamic, "smaller chunks at image.c:9, the longest first"),
