@@ -18,6 +18,7 @@
 #include "log_modules.hpp"
 #include "own_stack.hpp"
 #include "path_numbers.hpp"
+#include "process_usage.hpp"
 #include "samples.hpp"
 #include "notice.hpp"
 #include "system_calls.hpp"
@@ -26,7 +27,7 @@ namespace {
 using log_form::Head;
 using log_form::Stopped;
 
-constexpr std::size_t cache_line = 64;
+constexpr std::size_t cache_line = 64, file_bytes = sizeof(Head) + sizeof(log_form::Usage);
 constexpr uint32_t numbers_at_once = 1024;
 // Counted without an order (relaxed): numbers must differ, and say nothing of what came first.
 alignas(cache_line) std::atomic<uint64_t> next_number{1};
@@ -58,15 +59,15 @@ Head *map_head(const std::string &path) {
   flock(file, LOCK_SH);
   locked = file;
   void *page = MAP_FAILED;
-  errno = posix_fallocate(file, 0, sizeof(Head));
-  if (!errno) page = mmap(nullptr, sizeof(Head), PROT_READ | PROT_WRITE, MAP_SHARED, file, 0);
+  errno = posix_fallocate(file, 0, file_bytes);
+  if (!errno) page = mmap(nullptr, file_bytes, PROT_READ | PROT_WRITE, MAP_SHARED, file, 0);
   return page == MAP_FAILED ? nullptr : static_cast<Head *>(page);
 }
 
 // Of the parent, which would be taken for one that runs as long as the child does: the file's map holds it as well. The
 // program may have closed the file, and use its number for another one.
 void release_head_lock() {
-  if (head) munmap(std::exchange(head, nullptr), sizeof(Head));
+  if (head) munmap(std::exchange(head, nullptr), file_bytes);
   struct stat open_there, own;
   std::string path = beginning.folder + log_form::head_file;
   bool is_own = locked >= 0 && !fstat(locked, &open_there) && !stat(path.c_str(), &own) &&
@@ -236,16 +237,27 @@ void stop_log(Stopped why) {
 void end_log(log_form::HowEnded how) {
   Moment now = moment_now();
   if (thread_log && !is_stopped()) thread_log->look_at_clocks(now);  // no record may follow
+  end_log_at_once(how);
+}
+
+void end_log_at_once(log_form::HowEnded how) {
   stop_log(Stopped::End);
   if (!head) return;
   head->end = read_pair();
   head->end_processor = processor_time();
   head->end_thread = thread_log ? thread_log->number : UINT32_MAX;
   head->how_ended = how;
+  note_usage();
 }
 
 void take_end_back() {
   if (head) head->how_ended = log_form::HowEnded::Not;
+  note_usage();
+}
+
+// Two threads may write at once: what they write are readings of the same moment.
+void note_usage() {
+  if (head) *reinterpret_cast<log_form::Usage *>(head + 1) = process_usage();
 }
 
 // Of all threads: `exit` asks whether any of them is in a region.

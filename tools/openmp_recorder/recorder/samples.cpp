@@ -192,12 +192,13 @@ void Samples::publish(RawSample &sample, const Began &began) {
   __atomic_store_n(&sample.at, read_time_stamp(After::Itself), __ATOMIC_RELEASE);
 }
 
-// The order matters: ask, stand in the way, read the clock, find room, write, and publish.
+// The order matters: ask, stand in the way, read the clock, find room, write, and publish. The usage may be anywhere.
 void Samples::take(const siginfo_t &signal, const ucontext_t &context) {
   // Nothing may touch the window before.
   if (!is_to_write(signal)) return;
   Busy busy(*this);
   Began began;
+  note_usage();
   if (!make_room()) return;
   RawSample &sample = sample_here(context);
   sample.slept = 0;

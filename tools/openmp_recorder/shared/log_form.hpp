@@ -126,5 +126,15 @@ struct Head {
   char program[256];  // its path
 };
 static_assert(sizeof(Head) == 400, "as LOG.md has it");
+
+// Behind the head: what the system counted of the process until its last sample or its end.
+struct Usage {
+  int64_t user, system;  // nanoseconds
+  int64_t faults;  // that read no file
+  int64_t peak;  // bytes of memory
+  int64_t given_up, taken;  // how often its threads lost their processors: by their own calls, to others
+  int64_t of_children;  // nanoseconds of those that it waited for
+};
+static_assert(sizeof(Usage) == 56, "as LOG.md has it");
 enum Unseen : uint32_t { unseen_detach = 1, unseen_target = 2, unseen_runtime = 4 };
 }  // namespace log_form

@@ -303,7 +303,7 @@ def stolen_share(host, elapsed):
 def used_by_others(host, usage):
     """Of the time in which the machine's processors were not idle; None where that is not known."""
     busy = host.get("busy_ns")
-    own = (usage.get("user_ns") or 0) + (usage.get("system_ns") or 0)
+    own = host.get("command_ns") or (usage.get("user_ns") or 0) + (usage.get("system_ns") or 0)
     return None if busy is None else max(0, busy - own) + (host.get("stolen_ns") or 0)
 
 

@@ -6,6 +6,9 @@ import re
 CGROUP = "/sys/fs/cgroup"
 
 
+MOST = 0.8      # of the command's processor time: what the processor counted of it says something of this process
+
+
 def usage_of(used):
     """Of what wait4 tells of the program and its own children."""
     return {"user_ns": round(used.ru_utime * 1e9), "system_ns": round(used.ru_stime * 1e9),
@@ -57,7 +60,14 @@ def facts_of_program(program):
     return {"threads": {"most": max((region.threads for region in program.regions), default=None) if program else None}}
 
 
-def facts_of_run(ended, variables, processors):
-    """With the names of recording.json. `ended` is how the program ended."""
+def processor_time(usage):
+    return usage.get("user_ns", 0) + usage.get("system_ns", 0)
+
+
+def facts_of_run(ended, usage, variables, processors):
+    """With the names of recording.json. `ended` is how the command ended, and `usage` that of the one process."""
+    own = {name: number for name, number in usage.items() if name != "children_ns"}
+    whole = processor_time(usage_of(ended.usage))
     return {"threads": {"asked": threads_asked(variables)}, "processors": processors, "elapsed_ns": ended.elapsed,
-            "usage": usage_of(ended.usage), "host": ended.host, "counters": ended.counters or None}
+            "usage": own or None, "children_ns": usage.get("children_ns"), "host": {**ended.host, "command_ns": whole},
+            "counters": ended.counters if ended.counters and processor_time(own) >= MOST * whole else None}

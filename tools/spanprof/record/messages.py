@@ -71,6 +71,12 @@ class Messages:
                          if isinstance(value, str) and value.startswith(old)), value)
         return Messages(self.loaded, [{name: new(value) for name, value in one.items()} for one in self.things])
 
+    def but_of(self, folders):
+        """Without those of these recordings."""
+        begins = tuple(folder + os.sep for folder in folders)
+        return Messages(self.loaded, [one for one in self.things if not any(
+            isinstance(value, str) and (value + os.sep).startswith(begins) for value in one.values())])
+
     @property
     def is_cut(self):
         """Whether the recorder stopped before the program did."""

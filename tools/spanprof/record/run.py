@@ -10,7 +10,6 @@ from typing import NamedTuple
 from spanprof.errors import NOT_EXECUTABLE, Fault
 from spanprof.record.host import facts_of_host, host_now
 
-OF_CHILDREN = slice(13, 15)     # of the numbers behind the name in /proc/PROCESS/stat
 PASSED_ON = (signal.SIGTERM, signal.SIGHUP, signal.SIGQUIT)
 
 
@@ -92,26 +91,13 @@ class PassedOn:
 
 class Ended(NamedTuple):
     """`status` is the exit status, or less than 0 the signal; `elapsed` is in nanoseconds; `host` is of the machine;
-    `counters` are of the processor, where they were asked for. `children` is the processor time of the programs that it
-    started, in nanoseconds."""
+    `counters` are of the processor, where they were asked for. `usage` is that of the programs that it started too."""
     status: int
     elapsed: int
     usage: resource.struct_rusage
     host: dict = {}
     counters: dict = {}
     process: int = 0
-    children: int = 0
-
-
-def time_of_children(process):
-    """Of those that it waited for, once it has ended; in nanoseconds, in whole ticks of the kernel's clock."""
-    os.waitid(os.P_PID, process, os.WEXITED | os.WNOWAIT)
-    try:
-        with open("/proc/%d/stat" % process, "rb") as file:
-            user, system = file.read().rpartition(b")")[2].split()[OF_CHILDREN]
-    except OSError:
-        return 0
-    return (int(user) + int(system)) * 10**9 // os.sysconf("SC_CLK_TCK")
 
 
 def begun(path, words, variables):
@@ -129,13 +115,11 @@ def watched(path, words, variables):
         before, since = host_now(), time.perf_counter_ns()
         process = begun(path, words, variables)
         passed_on.to(process.pid)
-        children = time_of_children(process.pid)
         _, status, usage = os.wait4(process.pid, 0)
         passed_on.to(None)
         elapsed = time.perf_counter_ns() - since
         process.returncode = os.waitstatus_to_exitcode(status)
-        return Ended(process.returncode, elapsed, usage, facts_of_host(before, host_now()),
-                     process=process.pid, children=children)
+        return Ended(process.returncode, elapsed, usage, facts_of_host(before, host_now()), process=process.pid)
 
 
 def signal_name(status):

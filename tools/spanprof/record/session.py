@@ -9,9 +9,10 @@ from spanprof.converting import convert_into, converter, has_failed, recorder_li
 from spanprof.errors import Fault
 from spanprof.record.console import say, tell
 from spanprof.record.counters import Counters
-from spanprof.record.facts import facts_of_run, processors_there_are
+from spanprof.record.facts import facts_of_run, processors_there_are, usage_of
 from spanprof.record.files import check_file, check_folder
 from spanprof.record.linkage import linkage
+from spanprof.record.log_head import process_of, usage_in_log
 from spanprof.record.messages import Messages
 from spanprof.record.meta import old_meta, write_meta
 from spanprof.record.ranks import is_launcher, of_rank, rank_of
@@ -19,8 +20,12 @@ from spanprof.record.run import environment, signal_name, watched
 from spanprof.record.runtime import choose, refuse_targets, what_it_lacks
 from spanprof.record.runtime_name import note_of
 from spanprof.record.target import find, launched
+<<<<<<< HEAD
 from spanprof.record.unrecorded import Failed
 from spanprof.record.work import Work, process_of, taken
+=======
+from spanprof.record.work import Work, taken
+>>>>>>> real
 from spanprof.recording import ENDING, LOG, META, TEXT, open_recording
 
 
@@ -127,9 +132,10 @@ class Session:
             return ended._replace(counters=counters.read())
 
     def facts_of(self, ended, out, folder):
-        """What a recording tells of its run; of children that of the process that they are children of."""
-        children = ended.children if process_of(folder) == ended.process else 0
-        return {**facts_of_run(ended, self.variables(out), processors_there_are()), "children_ns": children,
+        """What a recording tells of its run, and the system of its own process alone: the command may start others."""
+        is_started = process_of(folder) == ended.process
+        usage = usage_in_log(folder) or (usage_of(ended.usage) if is_started else {})
+        return {**facts_of_run(ended, usage, self.variables(out), processors_there_are()),
                 "arguments": self.options.command}
 
     def write(self, folder, out, ended):

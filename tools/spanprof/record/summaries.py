@@ -11,7 +11,9 @@ from spanprof.diagnosis.output import output_of
 from spanprof.errors import Fault
 from spanprof.record.console import tell
 from spanprof.record.counters import words_of
-from spanprof.record.ranks import is_child
+from spanprof.record.facts import processor_time
+from spanprof.record.meta import old_meta
+from spanprof.record.ranks import is_child, rank_in
 from spanprof.record.summary import named, other_region, summary
 from spanprof.record.waits import reported as told_of_waits, waited_for, waits_of
 from spanprof.recording import open_recording
@@ -20,6 +22,7 @@ from spanprof.run_json import run_json, write_json
 from spanprof.time_breakdown import recorded_breakdown
 
 MORE = "spanprof-report %s"
+OF_SEVERAL = "%s used the most processor time of %d recorded processes"
 
 
 def answered(recording):
@@ -85,10 +88,20 @@ def print_measured(session, pairs, news, is_cut):
     show(["rank  " + ranks] if ranks else [])
 
 
+def chosen(folders):
+    """Of these recordings of one command those to report: of ranks all, and else that with the most processor time."""
+    ranks = [folder for folder in folders if not is_child(folder) and rank_in(folder) is not None]
+    return ranks or [max(folders, key=lambda folder: processor_time(old_meta(folder).get("usage") or {}))]
+
+
 def print_summaries(session, recorded):
-    """Of the program and its ranks; children are reported of as recordings that are there."""
-    found = [open_recording(folder) for folder in recorded.found if not is_child(folder)]
+    """Of the program and its ranks, or of one process of several."""
+    folders, others = chosen(recorded.found), []
+    if len(folders) == 1 and len(recorded.found) > 1:
+        others = [OF_SEVERAL % (os.path.basename(folders[0]), len(recorded.found))]
+    found = [open_recording(folder) for folder in folders]
     pairs = [(one, answered(one)) for one in found]
     remarks = {remark for _, answers in pairs for remark in answers.head.remarks}
-    news = session.notes + recorded.said.news(session.out, [one.text for one in found], remarks)
+    said = recorded.said.but_of(set(recorded.found) - set(folders))
+    news = others + session.notes + said.news(session.out, [one.text for one in found], remarks)
     print_measured(session, pairs, news, recorded.said.is_cut)

@@ -5,14 +5,13 @@ import itertools
 import os
 import re
 import shutil
-import struct
 
 from spanprof.converting import logs_in
 from spanprof.errors import Fault
-from spanprof.recording import ENDING, LOG
+from spanprof.record.log_head import begun_at
+from spanprof.recording import ENDING
 
 PART = ".part"
-BEGAN, PROCESS = slice(64, 72), slice(80, 84)   # of a log's head
 
 
 def taken(name):
@@ -92,25 +91,6 @@ class Work:
     def close(self):
         """What was not published by then, since something went wrong, keeps its log, which can be converted."""
         return self.publish() if os.path.isdir(self.part) else {}
-
-
-def in_head(folder, form, where):
-    """A number of the head of its log; 0 where there is none."""
-    try:
-        with open(os.path.join(folder, LOG, "head"), "rb") as file:
-            return struct.unpack(form, file.read(where.stop)[where])[0]
-    except (OSError, struct.error):
-        return 0
-
-
-def begun_at(folder):
-    """When the process began that wrote this log."""
-    return in_head(folder, "=q", BEGAN)
-
-
-def process_of(folder):
-    """The number of the process that wrote this log."""
-    return in_head(folder, "=I", PROCESS)
 
 
 def ends(folders, stem):

@@ -106,6 +106,7 @@ class Recorded(unittest.TestCase):
         usage = {"user_ns": 70, "system_ns": 20}
         self.assertEqual(used_by_others({"busy_ns": 100, "stolen_ns": 5}, usage), 15)
         self.assertEqual(used_by_others({"busy_ns": 80}, usage), 0)
+        self.assertEqual(used_by_others({"busy_ns": 100, "command_ns": 97}, usage), 3)
         self.assertIsNone(used_by_others({"stolen_ns": 5}, usage))
 
     def test_the_threads_that_a_run_could_have_had(self):

@@ -50,11 +50,16 @@ class Threads(unittest.TestCase):
 
 class Facts(unittest.TestCase):
     def test_of_a_run(self):
-        found = facts_of_run(ENDED, {"OMP_NUM_THREADS": "8"}, 4)
+        found = facts_of_run(ENDED, usage_of(USED), {"OMP_NUM_THREADS": "8"}, 4)
         self.assertEqual((found["threads"], found["processors"], found["elapsed_ns"], found["host"]),
-                         ({"asked": 8}, 4, 5000, {"suspended_ns": 0}))
-        self.assertEqual(found["counters"], {"cycles": 7})
-        self.assertIsNone(facts_of_run(ENDED._replace(counters={}), {}, 4)["counters"])
+                         ({"asked": 8}, 4, 5000, {"suspended_ns": 0, "command_ns": 1750000000}))
+        self.assertEqual((found["counters"], found["usage"]), ({"cycles": 7}, usage_of(USED)))
+        self.assertIsNone(facts_of_run(ENDED._replace(counters={}), usage_of(USED), {}, 4)["counters"])
+
+    def test_of_one_process_among_others(self):
+        found = facts_of_run(ENDED, {"user_ns": 1000000000, "system_ns": 0, "children_ns": 7}, {}, 4)
+        self.assertEqual((found["usage"], found["children_ns"], found["counters"]),
+                         ({"user_ns": 1000000000, "system_ns": 0}, 7, None))
 
     def test_of_a_program(self):
         self.assertEqual(facts_of_program(PROGRAM)["threads"], {"most": 4})

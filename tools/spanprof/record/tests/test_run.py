@@ -57,16 +57,7 @@ class Ends(unittest.TestCase):
         self.assertGreater(ended.elapsed, 50000000)
         self.assertGreater(ended.usage.ru_utime + ended.usage.ru_stime, 0)
         self.assertGreater(ended.usage.ru_minflt, 100)
-
-    def test_the_time_of_the_programs_that_it_started(self):
-        alone = "for _ in range(3000000): pass"
-        outer = "import subprocess, sys; subprocess.run([sys.executable, '-c', %r])" % alone
-        own, others = (watched(sys.executable, [sys.executable, "-c", code], dict(os.environ))
-                       for code in (alone, outer))
-        self.assertEqual(own.children, 0)
-        self.assertGreater(others.children, 0)
-        self.assertLess(others.children, 1.1e9 * (others.usage.ru_utime + others.usage.ru_stime))
-        self.assertGreater(others.process, 0)
+        self.assertGreater(ended.process, 0)
 
     def test_a_file_that_is_no_program(self):
         with tempfile.NamedTemporaryFile(suffix=".txt") as file:

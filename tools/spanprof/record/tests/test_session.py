@@ -3,7 +3,6 @@ import contextlib
 import io
 import os
 import resource
-import struct
 import unittest
 from unittest import mock
 
@@ -15,6 +14,7 @@ from spanprof.record.runs import record_often
 from spanprof.record.runtime import Chosen
 from spanprof.record.session import Recorded
 from spanprof.recording import open_recording
+from spanprof.record.tests.log_heads import log_head
 from spanprof.tests.in_folder import InFolder
 from spanprof.tests.recordings import TEXT, recording, write
 
@@ -108,15 +108,17 @@ class Runs(InFolder):
         self.assertEqual((meta["unit"], meta["threads"], meta["elapsed_ns"]), ("us", {"asked": 3}, 30))
         self.assertEqual((meta["usage"]["minor_faults"], self.names()), (410, ["mine.spanprof"]))
 
-    def test_the_time_of_children_is_of_their_parent(self):
-        made = self.session([])
-        for number, children in ((7, 50), (8, 0)):
-            folder = os.path.join(self.folder, "mine%d.spanprof" % number)
-            os.makedirs(os.path.join(folder, "log"))
-            with open(os.path.join(folder, "log", "head"), "wb") as file:
-                file.write(bytes(80) + struct.pack("=I", number))
-            facts = made.facts_of(Ended(0, 9, USED, process=7, children=50), "mine", folder)
-            self.assertEqual(facts["children_ns"], children)
+    def test_usage_is_that_of_the_process(self):
+        """Of the program that was started, without a usage in its log, it is what the system tells at the end."""
+        made, ended = self.session([]), Ended(0, 9, USED, process=7, counters={"cycles": 5})
+        counted = (1600000000, 1, 2, 3, 4, 5, 6)
+        for number, usage, faults, children in ((7, (), 410, None), (8, (), None, None), (8, counted, 2, 6)):
+            folder = os.path.join(self.folder, "mine%d%d.spanprof" % (number, len(usage)))
+            log_head(folder, number, usage)
+            facts = made.facts_of(ended, "mine", folder)
+            self.assertEqual(((facts["usage"] or {}).get("minor_faults"), facts["children_ns"]), (faults, children))
+            self.assertEqual(facts["host"]["command_ns"], 1750000000)
+            self.assertEqual(facts["counters"], {"cycles": 5} if faults else None)
 
     def test_a_name_that_is_taken(self):
         self.record(self.session([0]))

@@ -104,9 +104,18 @@ class Printed(InFolder):
                                     "mine.spanprof: the disk was full 1.5 ms after recording began, and what followed "
                                     "is not recorded", "mine.spanprof: no diagnosis"])
 
-    def test_children_have_no_summary(self):
-        reported = self.reported(recording(self.folder), recording(self.folder, "mine.child1"))
-        self.assertEqual([line for line in reported if "child1" in line], [])
+    def test_of_several_processes_that_with_the_most_processor_time(self):
+        """None need be of the program that was started."""
+        small, large = ({"usage": {"user_ns": time, "system_ns": 1}} for time in (5, 7))
+        folders = [recording(self.folder, "mine.child%d" % number, facts=facts)
+                   for number, facts in ((1, small), (2, large), (3, {}))]
+        remark = dict(message="remark", name=os.path.join(folders[0], "program"), remark=TURNS)
+        reported = self.reported(*folders, things=[remark])
+        self.assertTrue(reported[0].startswith("mine.child2.spanprof, the whole program"))
+        self.assertIn("mine.child2.spanprof used the most processor time of 3 recorded processes", "\n".join(reported))
+        self.assertNotIn("chunk with", "\n".join(reported))
+        main = recording(self.folder, facts={"usage": {"user_ns": 9}})
+        self.assertTrue(self.reported(main, *folders)[0].startswith("mine.spanprof, the whole program"))
 
     def test_each_process_of_mpi_tells_a_line(self):
         self.assertEqual(self.reported(recording(self.folder, "mine.rank1"), rank=1), [

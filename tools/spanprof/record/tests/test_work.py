@@ -1,9 +1,9 @@
 """Under which names recordings are made."""
 import os
-import struct
 import unittest
 
 from spanprof.errors import Fault
+from spanprof.record.tests.log_heads import log_head
 from spanprof.record.work import Work
 from spanprof.tests.in_folder import InFolder
 from spanprof.tests.recordings import recording
@@ -21,10 +21,7 @@ class Names(InFolder):
         """A recording whose processes wrote logs with these ends of names, in this order."""
         work = Work(self.out, force)
         for began, end in enumerate(ends or [""]):
-            log = os.path.join(work.stem + end + ".spanprof", "log")
-            os.makedirs(log)
-            with open(os.path.join(log, "head"), "wb") as file:
-                file.write(struct.pack("=64xq", began))
+            log_head(work.stem + end + ".spanprof", began=began)
         return work
 
     def test_nothing_but_the_recording_is_left(self):
