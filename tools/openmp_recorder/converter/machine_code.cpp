@@ -83,16 +83,13 @@ int written_register(const std::string &instruction) {
   return writes_last(name, all.size()) || begins_with(name, {"lea"}) ? register_of(all.back()) : -1;
 }
 
-std::optional<MemoryUse> memory_use(const std::string &instruction) {
-  std::string rest, name = name_of(instruction, &rest);
-  if (begins_with(name, {"lea", "nop", "prefetch"}) || goes_elsewhere(instruction)) return std::nullopt;
-  std::vector<std::string> all = operands_of(rest);
-  auto found = std::find_if(all.begin(), all.end(), is_memory);
-  if (found == all.end()) return std::nullopt;
+namespace {
+// That of an operand such as `0x10(%rax,%rcx,8)`.
+std::optional<MemoryUse> address_in(const std::string &operand, const std::string &instruction) {
   MemoryUse use{0};
-  size_t bracket = std::min(found->find('('), found->size());
-  use.displacement = std::strtoull(found->c_str(), nullptr, 16);
-  std::string inside = bracket < found->size() ? found->substr(bracket + 1, found->find(')') - bracket - 1) : "";
+  size_t bracket = std::min(operand.find('('), operand.size());
+  use.displacement = std::strtoull(operand.c_str(), nullptr, 16);
+  std::string inside = bracket < operand.size() ? operand.substr(bracket + 1, operand.find(')') - bracket - 1) : "";
   use.of_file = inside == "%rip";
   if (size_t comment = instruction.find("# "); use.of_file) {
     if (comment == std::string::npos) return std::nullopt;
@@ -104,6 +101,57 @@ std::optional<MemoryUse> memory_use(const std::string &instruction) {
     if (parts.size() > 2) use.scale = static_cast<unsigned>(std::atoi(parts[2].c_str()));
     if ((!parts[0].empty() && use.base < 0) || (parts.size() > 1 && use.index < 0)) return std::nullopt;
   }
+  return use;
+}
+
+// What a register grows by: a number such as `$0x10`, or another register; how often.
+std::optional<Step> step_by(const std::string &operand, int64_t times) {
+  if (operand[0] == '$')
+    return Step{times * static_cast<int64_t>(std::strtoull(operand.c_str() + 1, nullptr, 16)), -1, times};
+  int by = register_of(operand);
+  return by < 0 ? std::nullopt : std::optional<Step>({0, by, times});
+}
+}  // namespace
+
+std::optional<Step> step_of(const std::string &instruction, int of) {
+  std::string rest, name = name_of(instruction, &rest);
+  std::vector<std::string> all = operands_of(rest);
+  bool is_less = begins_with(name, {"sub", "dec"});
+  if (begins_with(name, {"inc", "dec"})) return Step{is_less ? -1 : 1, -1, 1};
+  if (begins_with(name, {"add", "sub"}) && all.size() == 2) return step_by(all[0], is_less ? -1 : 1);
+  std::optional<MemoryUse> sum;
+  if (begins_with(name, {"lea"})) sum = address_in(all[0], instruction);
+  if (!sum || sum->of_file || (sum->base != of && (sum->index != of || sum->scale != 1))) return std::nullopt;
+  bool is_base = sum->base == of;
+  return Step{static_cast<int64_t>(sum->displacement), is_base ? sum->index : sum->base, is_base ? sum->scale : 1};
+}
+
+std::optional<uint64_t> jump_target(const std::string &instruction) {
+  std::string rest, name = name_of(instruction, &rest);
+  size_t at = rest.find_first_not_of(" \t");
+  if (name[0] != 'j' || at == std::string::npos || rest[at] == '*') return std::nullopt;
+  return std::strtoull(rest.c_str() + at, nullptr, 16);
+}
+
+std::optional<Compared> compared(const std::string &instruction) {
+  std::string rest, name = name_of(instruction, &rest);
+  if (!begins_with(name, {"cmp", "add", "sub", "inc", "dec", "test"})) return std::nullopt;
+  std::vector<std::string> all = operands_of(rest);
+  auto number = [](const std::string &operand) {
+    return operand[0] == '$' ? static_cast<int64_t>(std::strtoull(operand.c_str() + 1, nullptr, 16)) : 0;
+  };
+  bool is_with_other = begins_with(name, {"cmp"}) && all.size() == 2;  // all others end at 0
+  return Compared{register_of(all.back()), is_with_other ? register_of(all[0]) : -1, is_with_other ? number(all[0]) : 0};
+}
+
+std::optional<MemoryUse> memory_use(const std::string &instruction) {
+  std::string rest, name = name_of(instruction, &rest);
+  if (begins_with(name, {"lea", "nop", "prefetch"}) || goes_elsewhere(instruction)) return std::nullopt;
+  std::vector<std::string> all = operands_of(rest);
+  auto found = std::find_if(all.begin(), all.end(), is_memory);
+  std::optional<MemoryUse> known = found == all.end() ? std::nullopt : address_in(*found, instruction);
+  if (!known) return std::nullopt;
+  MemoryUse use = *known;
   use.writes = found + 1 == all.end() && writes_last(name, all.size());
   use.is_atomic = begins_with(instruction, {"lock", "xchg"});
   return use;

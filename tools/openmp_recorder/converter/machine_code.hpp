@@ -24,6 +24,22 @@ std::optional<MemoryUse> memory_use(const std::string &instruction);
 int written_register(const std::string &instruction);  // -1 where it writes none, or none that is known
 bool goes_elsewhere(const std::string &instruction);  // as jumps and calls do
 
+// How an instruction changes a register: by a number of bytes, and by another register so often.
+struct Step {
+  int64_t bytes = 0;
+  int by = -1;
+  int64_t times = 1;
+};
+std::optional<Step> step_of(const std::string &instruction, int of);  // nothing where it sets it otherwise
+
+// What a conditional jump looks at: a register, and another one, or a number.
+struct Compared {
+  int one = -1, other = -1;
+  int64_t number = 0;
+};
+std::optional<Compared> compared(const std::string &instruction);
+std::optional<uint64_t> jump_target(const std::string &instruction);  // where that is known
+
 using Instructions = std::map<uint64_t, std::string>;  // by their addresses in the file
 Instructions disassembled(const ModuleOfRun &module, uint64_t first, uint64_t end);
 // What a thread used that was interrupted before an instruction, by the few around it: the last one before it first.

@@ -6,12 +6,13 @@
 #include <set>
 
 #include "machine_code.hpp"
+#include "strides.hpp"
 
 namespace {
 constexpr unsigned line_bits = 6;
 constexpr int64_t at_once = 20000000;  // nanoseconds, five samples of a thread
 constexpr size_t most_functions = 16;
-constexpr uint64_t longest = 1 << 14, most_bytes = 128;  // of a function, and of a loop that waits
+constexpr uint64_t longest = 1 << 14, most_bytes = 512;  // of a function, and of what follows a sample in its loop
 constexpr uint64_t least = 100;  // of all sampled time, the part of a function that is looked at
 constexpr double least_met = 5;  // uses on the same line, below which they say nothing
 constexpr size_t most_pairs = 1 << 22;  // of uses that are compared: more tell no more
@@ -184,12 +185,14 @@ std::map<const void *, double> shared_parts(std::vector<Used> all) {
 std::vector<Contended> contending(const Stacks &stacks, const ModulesOfRun &modules) {
   std::vector<Used> all;
   std::vector<Contended> waits(stacks.interrupted.size());
+  std::map<size_t, uint64_t> wide;
   std::vector<std::pair<Function, Found>> functions = longest_of(functions_of(stacks, modules));
   for (auto &[function, found] : functions) {
     const ModuleOfRun &module = *function.first;
     Instructions code = disassembled(module, function.second, found.end);
     found.instructions = between(code, found, stacks, module);
     std::map<uint64_t, const void *> waited = waiting(code, found, stacks, module);
+    Strides strides(code);
     for (size_t i : found.samples) {
       const Interrupted &one = stacks.interrupted[i];
       if (const void *place = waited[in_file(one, module)]) {
@@ -200,8 +203,10 @@ std::vector<Contended> contending(const Stacks &stacks, const ModulesOfRun &modu
         auto *place = reinterpret_cast<const void *>(module.base + use.code + 1);
         uint64_t address = address_of(use, one.registers, module);
         all.push_back({i, address, one.thread, one.wall, use.writes, place, use.is_atomic});
+        strides.meet(i, use, one.registers);
       }
     }
+    wide.merge(strides.wide());
   }
   std::vector<Contended> out = std::move(waits);
   std::vector<bool> contended = are_contended(all);
@@ -209,5 +214,6 @@ std::vector<Contended> contending(const Stacks &stacks, const ModulesOfRun &modu
     if (contended[i]) out[all[i].sample] = {all[i].place, 1, all[i].is_atomic};
   add_unmet(all, stacks, out);
   for (auto &[function, found] : functions) set_beyond(found, stacks, out);
+  for (auto [sample, bytes] : wide) out[sample].stride = bytes;
   return out;
 }

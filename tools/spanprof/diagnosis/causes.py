@@ -64,7 +64,7 @@ TABLE = (
           "{system} % of the processor time is spent in the kernel: {kernel} in {where}", "{less_kernel}", OR_LESS),
     Cause("sleep", "asleep", 0.1, "{sleeper} waits {in_what}",
           "wait less at {sleeps_at}: start it earlier, or {sooner}", OR_LESS),
-    Cause("too_few_threads", "too few threads", 0.1, "{got} in the region at {where}{others}: {usable} can run",
+    Cause("too_few_threads", "too few threads", 0.1, "{got} in the region at {where}{others}",
           "{more_threads}"),
     Cause("too_many_threads", "too many threads", 0.1, "{threads} threads on {processors}, {in_region}", "{fewer}"),
     Cause("affinity", "affinity", 0.1, "threads share processors while others are idle, {in_region}",

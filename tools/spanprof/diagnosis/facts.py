@@ -365,11 +365,13 @@ def nested_threads(program):
 
 def denied_time(program, usable):
     """By place of regions inside others that asked for several threads and got one: the time of threads that no order
-    of these wins back, since the longest one lasts longer than all of them would divided."""
+    of these wins back, since the longest one lasts longer than all of them would divided, or the team is small."""
     found = Counter()
-    for _, *inner in regions_inside(program, lambda region: region.threads == 1 < region.asked):
+    for around, *inner in regions_inside(program, lambda region: region.threads == 1 < region.asked):
         longest = max(inner, key=lambda region: region.elapsed)
-        found[longest.place] += max(0, usable * longest.elapsed - sum(region.elapsed for region in inner))
+        missing = (usable - around.threads) * union((region.begin, region.end) for region in inner)
+        uneven = usable * longest.elapsed - sum(region.elapsed for region in inner)
+        found[longest.place] += max(0, missing, uneven)
     return dict(+found)
 
 

@@ -238,8 +238,9 @@ def words_of_region(facts, names, name):
     for region in facts.regions + facts.inner:
         if region.place == name:
             out.update(got=several(region.threads, "thread"))
+    out["others"] += ": %d can run" % facts.usable
     if name in facts.denied:
-        out.update(got="1 thread", others=", as nested parallelism is off")
+        out.update(got="1 thread", others=": nested parallelism is off")
     return out
 
 

@@ -394,7 +394,7 @@ class Sentences(unittest.TestCase):
         run = facts([tone()], denied={"image.c:9": 200 * MS})
         step = Step("too_few_threads", "image.c:9", 100 * MS, 50 * MS, 40 * MS, 60 * MS)
         self.assertEqual(lost_sentence(run, Names(run, None), Loss("too_few_threads", "image.c:9", MS)),
-                         "1 thread in the region at image.c:9, as nested parallelism is off: 4 can run")
+                         "1 thread in the region at image.c:9: nested parallelism is off")
         self.assertEqual(change_sentence(run, Names(run, None), step),
                          "allow nesting at image.c:9: omp_set_max_active_levels(2)")
 

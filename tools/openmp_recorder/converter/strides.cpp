@@ -1,0 +1,106 @@
+#include "strides.hpp"
+
+#include <algorithm>
+#include <cstdlib>
+
+namespace {
+constexpr uint64_t line_bytes = 64, lines_near = 512;  // of a processor's first cache, of 32 KB or little more
+constexpr unsigned most_between = 4;  // instructions between a loop's comparison and its jump
+
+using Steps = std::vector<std::pair<int, int64_t>>;
+
+struct Loop {
+  Instructions::const_iterator first, last;  // the last one jumps back to the first
+};
+
+std::optional<Loop> innermost_loop(const Instructions &code, uint64_t at) {
+  std::optional<Loop> found;
+  for (auto last = code.lower_bound(at); last != code.end(); ++last) {
+    std::optional<uint64_t> target = jump_target(last->second);
+    auto first = target && *target <= at ? code.find(*target) : code.end();
+    if (first != code.end() && (!found || found->first->first < first->first)) found = Loop{first, last};
+  }
+  return found;
+}
+
+bool is_written(const Loop &loop, int number) {
+  return std::any_of(loop.first, loop.last, [&](auto &one) { return written_register(one.second) == number; });
+}
+
+// Adds how a register goes on in a turn, so often; false where that is not known.
+bool add_steps(const Loop &loop, int of, int64_t times, int64_t &bytes, Steps &by) {
+  for (auto one = loop.first; one != loop.last && of >= 0; ++one) {
+    if (written_register(one->second) != of) continue;
+    std::optional<Step> step = step_of(one->second, of);
+    if (!step || (step->by >= 0 && is_written(loop, step->by))) return false;
+    bytes += times * step->bytes;
+    if (step->by >= 0) by.emplace_back(step->by, times * step->times);
+  }
+  return true;
+}
+
+unsigned uses_in(const Loop &loop, const MemoryUse &use) {
+  bool by_base = use.base >= 0 && is_written(loop, use.base), by_index = use.index >= 0 && is_written(loop, use.index);
+  auto is_same = [&](auto &one) {
+    std::optional<MemoryUse> other = memory_use(one.second);
+    return other && (!by_base || other->base == use.base) && (!by_index || other->index == use.index);
+  };
+  return static_cast<unsigned>(std::count_if(loop.first, loop.last, is_same));
+}
+
+void set_end(const Loop &loop, Walk &walk) {
+  auto one = loop.last;
+  for (unsigned i = 0; i < most_between && one != loop.first; i++) {
+    std::optional<Compared> found = compared((--one)->second);
+    if (!found) continue;
+    if (!is_written(loop, found->one)) std::swap(found->one, found->other);
+    if (add_steps(loop, found->one, 1, walk.end_bytes, walk.end_by)) walk.end = *found;
+    return;
+  }
+}
+
+int64_t value_of(int64_t bytes, const Steps &by, const Registers &registers) {
+  for (auto [number, times] : by) bytes += times * static_cast<int64_t>(registers[static_cast<size_t>(number)]);
+  return bytes;
+}
+}  // namespace
+
+std::optional<Walk> walk_of(const Instructions &code, const MemoryUse &use) {
+  std::optional<Loop> loop = innermost_loop(code, use.code);
+  Walk walk;
+  if (!loop || !add_steps(*loop, use.base, 1, walk.bytes, walk.by) ||
+      !add_steps(*loop, use.index, use.scale, walk.bytes, walk.by))
+    return std::nullopt;
+  walk.uses = std::max(1u, uses_in(*loop, use));
+  set_end(*loop, walk);
+  return walk;
+}
+
+int64_t stride_of(const Walk &walk, const Registers &registers) {
+  return value_of(walk.bytes, walk.by, registers) / walk.uses;
+}
+
+uint64_t turns_left(const Walk &walk, const Registers &registers) {
+  auto value = [&](int number) { return number < 0 ? 0 : static_cast<int64_t>(registers[static_cast<size_t>(number)]); };
+  int64_t step = value_of(walk.end_bytes, walk.end_by, registers);
+  if (walk.end.one < 0 || step == 0) return 0;
+  int64_t left = (walk.end.number + value(walk.end.other) - value(walk.end.one)) / step;
+  return static_cast<uint64_t>(std::max<int64_t>(0, left));
+}
+
+void Strides::meet(size_t sample, const MemoryUse &use, const Registers &registers) {
+  auto [walk, is_new] = walks.try_emplace(use.code);
+  if (is_new) walk->second = walk_of(code, use);
+  if (!walk->second) return;
+  uint64_t &most = longest[use.code];
+  most = std::max(most, turns_left(*walk->second, registers) * walk->second->uses);
+  met.push_back({sample, use.code, static_cast<uint64_t>(std::llabs(stride_of(*walk->second, registers)))});
+}
+
+std::map<size_t, uint64_t> Strides::wide() const {
+  std::map<size_t, uint64_t> out;
+  for (const Met &one : met)
+    if (one.bytes >= line_bytes && longest.at(one.code) >= lines_near)
+      out[one.sample] = std::max(out[one.sample], one.bytes);
+  return out;
+}

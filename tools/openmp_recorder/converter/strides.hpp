@@ -1,0 +1,41 @@
+// How far apart the memory is that a loop uses from turn to turn, by its instructions and the registers of samples. Where
+// that is a cache line or more, each element costs a line; and where it are more lines than the first cache has, each
+// is gone before what is next to its element is used.
+#pragma once
+#include <map>
+#include <optional>
+#include <utility>
+#include <vector>
+
+#include "machine_code.hpp"
+
+// How the address that an instruction uses goes on in the innermost loop around it.
+struct Walk {
+  int64_t bytes = 0;  // of a turn
+  std::vector<std::pair<int, int64_t>> by;  // and by registers, so often
+  unsigned uses = 0;  // of the same registers in a turn
+  Compared end;  // what ends the loop, and how that goes on
+  int64_t end_bytes = 0;
+  std::vector<std::pair<int, int64_t>> end_by;
+};
+std::optional<Walk> walk_of(const Instructions &code, const MemoryUse &use);
+int64_t stride_of(const Walk &walk, const Registers &registers);  // of one use
+uint64_t turns_left(const Walk &walk, const Registers &registers);  // 0 where that is not known
+
+// The walks of a function's uses, each read once, and how many turns the longest of its loops lasts.
+class Strides {
+ public:
+  explicit Strides(const Instructions &code) : code(code) {}
+  void meet(size_t sample, const MemoryUse &use, const Registers &registers);
+  std::map<size_t, uint64_t> wide() const;  // by sample, the greatest stride of those that cost a line for each element
+
+ private:
+  struct Met {
+    size_t sample;
+    uint64_t code, bytes;
+  };
+  const Instructions &code;
+  std::map<uint64_t, std::optional<Walk>> walks;
+  std::map<uint64_t, uint64_t> longest;  // turns, by use
+  std::vector<Met> met;
+};
