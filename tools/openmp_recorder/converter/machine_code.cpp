@@ -141,7 +141,8 @@ std::optional<Compared> compared(const std::string &instruction) {
     return operand[0] == '$' ? static_cast<int64_t>(std::strtoull(operand.c_str() + 1, nullptr, 16)) : 0;
   };
   bool is_with_other = begins_with(name, {"cmp"}) && all.size() == 2;  // all others end at 0
-  return Compared{register_of(all.back()), is_with_other ? register_of(all[0]) : -1, is_with_other ? number(all[0]) : 0};
+  return Compared{register_of(all.back()), is_with_other ? register_of(all[0]) : -1,
+                  is_with_other ? number(all[0]) : 0};
 }
 
 std::optional<MemoryUse> memory_use(const std::string &instruction) {
@@ -179,22 +180,14 @@ Instructions disassembled(const ModuleOfRun &module, uint64_t first, uint64_t en
 namespace {
 using Place = Instructions::const_iterator;
 
-bool is_jump(const std::string &instruction) { return begins_with(name_of(instruction), {"j"}); }
-
-uint64_t target_of(const std::string &jump) {
-  std::string rest;
-  name_of(jump, &rest);
-  return std::strtoull(rest.c_str(), nullptr, 16);
-}
-
 // The jump behind this instruction that goes back to it or to one before it; the end where none is near.
 Place jump_back(const Instructions &all, Place here) {
   uint64_t code = here->first;
   for (unsigned i = 0; i < longest_wait && here != all.end(); i++, ++here) {
     if (!goes_elsewhere(here->second)) continue;
-    if (!is_jump(here->second)) break;
-    if (target_of(here->second) <= code) return here;
-    if (name_of(here->second) == "jmp") break;
+    std::optional<uint64_t> target = jump_target(here->second);
+    if (target && *target <= code) return here;
+    if (!target || name_of(here->second) == "jmp") break;
   }
   return all.end();
 }
@@ -221,7 +214,7 @@ bool changes_nothing(const std::string &instruction) {
   std::string rest, name = name_of(instruction, &rest);
   if (name == "xor") return is_constant(name, operands_of(rest));
   if (name == "xchg") return memory_use(instruction).has_value();
-  return is_jump(instruction) || is_fence(instruction) ||
+  return jump_target(instruction) || is_fence(instruction) ||
          (begins_with(name, {"mov", "cmp", "test", "and", "set", "pause", "nop", "lfence", "mfence"}) &&
           rest.find("%es:") == std::string::npos);
 }
@@ -235,7 +228,7 @@ std::optional<uint64_t> waits_in_loop(const Instructions &all, uint64_t code) {
   auto here = all.find(code);
   Place jump = here == all.end() ? here : jump_back(all, here);
   if (jump == all.end()) return std::nullopt;
-  Place begin = all.find(target_of(jump->second)), end = std::next(jump);
+  Place begin = all.find(*jump_target(jump->second)), end = std::next(jump);
   if (begin == all.end() || std::distance(begin, end) > longest_wait) return std::nullopt;
   std::vector<int> written;
   for (Place one = begin; one != end; ++one) written.push_back(written_register(one->second));

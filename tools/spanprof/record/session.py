@@ -20,12 +20,8 @@ from spanprof.record.run import environment, signal_name, watched
 from spanprof.record.runtime import choose, refuse_targets, what_it_lacks
 from spanprof.record.runtime_name import note_of
 from spanprof.record.target import find, launched
-<<<<<<< HEAD
 from spanprof.record.unrecorded import Failed
-from spanprof.record.work import Work, process_of, taken
-=======
 from spanprof.record.work import Work, taken
->>>>>>> real
 from spanprof.recording import ENDING, LOG, META, TEXT, open_recording
 
 

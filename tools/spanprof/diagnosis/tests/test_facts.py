@@ -216,7 +216,8 @@ class Starting(unittest.TestCase):
                  enumerate(((60, 4), (12, 4), (8, 4), (70, 1)))]
         self.assertEqual(denied_time(Program(100, [outer, *inner]), 4), {"a.c:9": 4 * 60 - 80})
         self.assertEqual(denied_time(Program(100, [outer, *[inner[0]._replace(number=i) for i in range(8)]]), 4), {})
-        few = [outer._replace(threads=2), *[inner[0]._replace(number=i, begin=i * 10, end=i * 10 + 9) for i in range(8)]]
+        few = [outer._replace(threads=2),
+               *(inner[0]._replace(number=i, begin=i * 10, end=i * 10 + 9) for i in range(8))]
         self.assertEqual(denied_time(Program(100, few), 4), {"a.c:9": 2 * 72})
         self.assertEqual(denied_time(None, 4), {})
 

@@ -54,9 +54,10 @@ class Kept:
             raise Fault("spanprof %s: %s" % (words[0], answer))
         return answer
 
-    def of_times(self, words, file):
+    @staticmethod
+    def of_times(read, words, file, *more):
         """What spanprof_large account answers on a timed document."""
-        return self(["account", *words], document(file))
+        return read(["account", *words], document(file), *more)
 
 
 def true_times_beside(answers):
@@ -72,7 +73,7 @@ class Patched:
     def __init__(self):
         kept = Kept()
         self.patches = [mock.patch("spanprof.client.ask", kept), mock.patch("spanprof.client.pieces", pieces_of(kept)),
-                        mock.patch("spanprof.time_breakdown.ask", kept.of_times),
+                        mock.patch("spanprof.time_breakdown.answered", kept.of_times),
                         mock.patch("spanprof.report.view.true_times_beside", true_times_beside),
                         mock.patch("spanprof.report.view.diagnosis_of", return_value=None)]
 
