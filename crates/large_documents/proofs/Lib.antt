@@ -1,5 +1,7 @@
+pub mod Handing
 mod Members
 mod OneAccount
+mod OneChange
 mod OneFault
 mod OnePath
 pub mod OneRest
