@@ -7,6 +7,7 @@ mod OnePath
 pub mod OneRest
 mod SomeAccount
 mod SomeFault
+mod SomeVerdict
 mod ListSteps
 mod ListWords
 mod OneList

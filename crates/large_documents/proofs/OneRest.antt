@@ -44,4 +44,4 @@ some_report WhatIf program rest marks reading =
 some_report Places program rest marks reading =
     some_places program rest marks (whole_marks marks reading)
 some_report Relaxation program rest marks reading =
-    some_change program rest (table_of marks) (whole_marks marks reading).sound
+    some_change program rest (table_of marks) (whole_marks marks reading).sound.in_place

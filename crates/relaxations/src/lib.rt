@@ -8,6 +8,3 @@ mod verdict;
 
 pub use judging::judge;
 pub use verdict::Verdict;
-
-#[cfg(test)]
-mod tests;

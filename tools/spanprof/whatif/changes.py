@@ -11,8 +11,8 @@ from spanprof.marks import MOST, as_statements
 
 
 class Change:
-    """`what` says it with its count and place."""
-    what = ""
+    """`what` says it with its count and place. `relaxes` those that keep all segments, and have them wait for no more."""
+    what, relaxes = "", False
 
     def __init__(self, place):
         self.place, self.count = place, 0
@@ -67,6 +67,7 @@ class DropWait(Change):
 
 class OfTasks(Change):
     """Tasks are written otherwise: `instead` is a task, and how much of it is changed; None where it stays."""
+    relaxes = True
 
     def made_of(self, found):
         others, times = {}, {}
