@@ -151,7 +151,7 @@ def relaxed(rng, text):
 
 def compare_relaxations(large, text, rng):
     """A text with changed ones, before them and behind them."""
-    for _ in range(4):
+    for _ in range(2):
         texts = [text, relaxed(rng, text)]
         for old, new in (texts, reversed(texts)):
             large.compare("relaxation", f"{old}\n---\n{new}")
