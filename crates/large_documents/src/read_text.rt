@@ -28,15 +28,10 @@ pub fn read_table(
     let mut meter = TextMeter::with_rows(alloc, key)?;
     take_text(&mut meter, text)?;
     match meter.finish_table() {
-        Ok(Some(table)) => Ok(Ok(table)),
-        // There are more rows than are numbered.
-        Ok(None) => Err(AllocFault),
-        Err(fault) => {
-            if fault.kind == ReadKind::OutOfMemory {
-                return Err(AllocFault);
-            }
-            Ok(Err(fault))
-        }
+        // Without a table there are more rows than are numbered.
+        Ok(table) => Ok(Ok(table.ok_or(AllocFault)?)),
+        Err(fault) if fault.kind == ReadKind::OutOfMemory => Err(AllocFault),
+        Err(fault) => Ok(Err(fault)),
     }
 }
 

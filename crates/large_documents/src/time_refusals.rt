@@ -60,12 +60,7 @@ pub(crate) fn of_segment(alloc: Global, word: &str, segment: u32) -> Result<Repo
     Ok(Report::new(text.into_bytes(), Status::Refused))
 }
 
-pub(crate) fn refused_pair(
-    alloc: Global,
-    word: &str,
-    s: u32,
-    t: u32,
-) -> Result<Report, AllocFault>
+pub(crate) fn refused_pair(alloc: Global, word: &str, s: u32, t: u32) -> Result<Report, AllocFault>
     ensures { IfOk result (λ report. report ≡ refused_pair word.now s t) }
 {
     let text = format!(in alloc; "error: {word} {s} {t}\n")?;
