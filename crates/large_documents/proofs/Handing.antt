@@ -1,5 +1,5 @@
 -- Parts of a text that fits, and a text that is handed to a meter piece by piece.
-use Rattle.std.proofs.Common.{◌≡◌, ◌+◌, ◌≤◌, ◌++◌, ◌∙◌, ℕ, List, ap, arith, append_assoc, length}
+use Rattle.std.proofs.Common.{◌≡◌, ◌++◌, ◌∙◌, ℕ, List, ap, arith, append_assoc}
 use Rattle.std.proofs.Common.{subst, sym}
 use Rattle.std.proofs.lemmas.List.{length-append}
 use Rattle.large_text.specs.LargeTexts.{FitsText}

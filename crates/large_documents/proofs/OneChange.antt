@@ -4,7 +4,6 @@ use Rattle.large_text.proofs.LoopReading.{one_reading}
 use Rattle.large_text.proofs.ReadingTexts.{nested_of}
 use Rattle.large_text.specs.Measured.{IsTableOfText}
 use Rattle.relaxations.specs.Verdicts.{IsVerdict}
-use Rattle.relaxations.specs.declared.verdict.Verdict.{Verdict}
 use Rattle.task_program.specs.ProgramMarks.{ProgramMarks}
 use Rattle.task_segments.specs.InPlace.{IsReadInPlace}
 use Rattle.task_segments.specs.Table.{Table, table_of}

@@ -3,7 +3,7 @@ from spanprof import client, proof
 from spanprof.errors import Fault
 from spanprof.text_file import Document, TextFile
 
-PROVED = "proved of both texts: the same segments, and no more to wait for"
+PROVED = "proved of the text as changed: the same segments, no more to wait for"
 
 
 def proof_of(made, old, new):

@@ -44,7 +44,7 @@ class Commands(InFolder):
         self.assertEqual(self.reported("--drop-wait", "taskwait"), (0, """\
 changed: 1 wait dropped: taskwait at sort.c:10
 whether the program stays right without it is for you to judge: no text says what its tasks read and write
-proved of both texts: the same segments, and no more to wait for
+proved of the text as changed: the same segments, no more to wait for
 in us                                text       changed text
 segments                                8                  8    +0.0 %
 work                                    5                  5    +0.0 %
