@@ -9,6 +9,7 @@ The programs are those in SPANPROF and SPANPROF_LARGE, or else those that CI has
 """
 import os
 import random
+import re
 import shutil
 import subprocess
 import sys
@@ -39,7 +40,9 @@ WORDS = (
     "whatif 1=2=3", "whatif 1=2 1", "whatif -- 1=2 0=3", "whatif 1=18446744073709551616", "whatif -1=2",
     "whatif --listed", "whatif --listed 1=2", "whatif 1=2 --listed", "whatif --listed --listed", "account --row",
     "account --rows --path", "account --rows=1", "account -- --rows", "graph --rows", "replay 1", "check --", "places",
-    "places 1", "x")
+    "places 1", "relaxation", "relaxation 1", "x")
+CHANGES = (("taskwait", "taskgroup { }", 0.3), (r"if\(0\)", "", 0.3), (r"depend\(\w+: [\w, ]*\)", "", 0.3),
+           ("inout:", "in:", 0.3), ("work [0-9]", "work 3", 0.02))   # pattern, what stands instead, how often
 BYTES = b"\0\n #09aek}{[]+-:,)(\xff"
 WORKED = "omptasks 1\nwork 5 task { work 3 } work 2 taskwait work 1\n"
 
@@ -136,6 +139,24 @@ def compare_text(small, large, text, seed):
     for rest in (f"---\n{places}", f"---\r\n{places.replace(' ', chr(10))}\n\n", f"---\n{places} 0", "---\n0 x",
                  f"---\n{segments}", "---\n" + "0 " * segments, ""):
         large.compare("places", text + rest)
+    compare_relaxations(large, text, rng)
+
+
+def relaxed(rng, text):
+    """The text with some things changed, most of which leave less to wait for."""
+    for pattern, instead, share in CHANGES:
+        text = re.sub(pattern, lambda found: instead if rng.random() < share else found[0], text)
+    return text
+
+
+def compare_relaxations(large, text, rng):
+    """A text with changed ones, before them and behind them."""
+    for _ in range(2):
+        texts = [text, relaxed(rng, text)]
+        for old, new in (texts, reversed(texts)):
+            large.compare("relaxation", f"{old}\n---\n{new}")
+    for rest in ("", "---", "---\n" + text[:-9], "---\r\nomptasks 1"):
+        large.compare("relaxation", f"{text}\n{rest}")
 
 
 def with_places(document):

@@ -100,6 +100,7 @@ def large(program):
     yield [program, "replay"], WORKED + EVENTS
     yield [program, "whatif", "--listed"], WORKED + b"---\n2=4\n1=5\n"
     yield [program, "check"], WORKED + CLAIM
+    yield [program, "relaxation"], WORKED + b"---\n" + WORKED
     yield from (([program, "places"], WORKED + b"---\n0 1 0 0\n" + more) for more in (b"", TIMES))
 
 

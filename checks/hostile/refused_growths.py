@@ -183,6 +183,7 @@ def large(refuser, program):
     replay(refuser, program)
     listed(refuser, program)
     places(refuser, program)
+    relaxation(refuser, program)
     check_any_size(refuser, program)
 
 
@@ -199,6 +200,15 @@ def places(refuser, program):
                  f"{WORKED}---\n0 1 0\n", f"{WORKED}---\n0 1 0 0\n---\n{TIMES}\n",
                  f"{WORKED}---\n0 1 0 0\n---\ntimes 2 0 14\n"):
         command(refuser, program, ["places"], text)
+
+
+def relaxation(refuser, program):
+    """Changed programs: one that waits for no more, and every kind of refusal."""
+    for old, new in ((WORKED, f"---\n{WORKED}"), (WORKED, ""), ("omptasks 1\ntask {", ""),
+                     (WORKED, "---\nomptasks 1\ntask {"), (WORKED, "---\nomptasks 1\n"),
+                     (WORKED, f"---\n{WORKED.replace('work 5', 'work 4')}"),
+                     (WORKED, f"---\n{WORKED.replace('task {', 'task if(0) {')}")):
+        command(refuser, program, ["relaxation"], f"{old}\n{new}")
 
 
 def check_any_size(refuser, program):

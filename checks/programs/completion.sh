@@ -53,6 +53,7 @@ spanprof_large account --r|--rows
 spanprof_large whatif --|--listed
 spanprof_large rep|replay
 spanprof_large pl|places
+spanprof_large rel|relaxation
 spanprof_large cer|certify
 spanprof-record --uni|--unit
 spanprof-record --clock c|cpu
@@ -74,7 +75,7 @@ LINES
 
 every=$(in_bash 'spanprof ')
 for command in record report whatif predict path graph convert import test span show slack greedy curve certify check \
-    run replay bounds account places; do
+    run replay bounds account places relaxation; do
     [[ " $every " = *" $command "* ]] || { echo "  bash: no $command"; wrong=$((wrong + 1)); }
 done
 for name in record report path whatif import; do

@@ -17,7 +17,8 @@ PICTURE = TOP / "docs" / "crates.svg"
 LEFT_OUT = re.compile(r"_tests$|^(refused_growths|limit_tests|calling)$")
 LAYERS = (  # from the texts up to the programs; each crate has to stand in one
     ("texts and programs", "#e3eefb", ("program_text", "loop_text", "task_program", "large_text", "time_text")),
-    ("segments and what waits for what", "#e5f5e3", ("task_segments", "online_span", "depend_table", "open_segments")),
+    ("segments and what waits for what", "#e5f5e3",
+     ("task_segments", "online_span", "depend_table", "open_segments", "relaxations")),
     ("runs and graphs", "#fdf1d8", ("dispatch_core", "worker_run", "exclusive_tasks")),
     ("questions about a graph", "#f6e6f7",
      ("span_analysis", "greedy_sim", "time_accounts", "whatif_costs", "span_cert")),

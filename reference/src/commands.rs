@@ -13,6 +13,7 @@ use crate::places::places;
 use crate::program::Program;
 use crate::read::read;
 use crate::refusal::{refused, Refusal};
+use crate::relaxation::relaxation;
 use crate::replay::replay;
 use crate::reports;
 use crate::run::run;
@@ -24,9 +25,10 @@ const SPANPROF: [&str; 10] = [
 ];
 
 /// The first one needs no name.
-const SPANPROF_LARGE: [&str; 14] = [
+const SPANPROF_LARGE: [&str; 15] = [
     " --upto P", "span", "bounds --upto P", "slack", "greedy --threads P", "curve --upto P",
     "whatif SEG=COST [--listed]", "graph", "show", "certify", "account [--rows] [--path]", "places", "replay", "check",
+    "relaxation",
 ];
 
 const HELP: &str = include_str!("help.txt");
@@ -74,6 +76,7 @@ fn answer(name: &str, found: &Found, input: &[u8], limits: &Limits) -> Result<Ve
         "check" => check(&document, limits),
         "replay" => replay(&document, limits),
         "account" => account(&graph_of(&read(document.program, limits)?)?, &document, found.flag.as_deref()),
+        "relaxation" => relaxation(&document, limits),
         "places" => places(&graph_of(&read(document.program, limits)?)?, &document),
         "whatif" if found.flag.is_some() => what_if_listed(graph_of(&read(document.program, limits)?)?, &document),
         _ => answer_of(name, found, &read(input, limits)?),

@@ -3,8 +3,8 @@
 //! with the proved programs.
 //!
 //! A text goes through these modules: `tokens`, `grammar` and `read` make a `program`, `cut` its segments,
-//! `siblings` and `graph` the kept edges. `reports`, `certificate`, `replay`, `changes`, `account` and `places`
-//! answer.
+//! `siblings` and `graph` the kept edges. `reports`, `certificate`, `replay`, `changes`, `account`, `places` and
+//! `relaxation` answer.
 
 pub mod account;
 pub mod analysis;
@@ -27,6 +27,7 @@ pub mod program;
 pub mod read;
 pub mod refusal;
 mod relation;
+mod relaxation;
 mod replay;
 pub mod reports;
 mod run;

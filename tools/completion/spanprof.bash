@@ -41,7 +41,8 @@ _spanprof() {
         bounds) _spanprof_among "$current" --upto ;;
         spanprof | */spanprof | help)
             _spanprof_among "$current" record report whatif predict path graph convert import test \
-                span show slack greedy curve certify check run replay bounds account places help ;;
+                span show slack greedy curve certify check run replay bounds account places \
+                relaxation help ;;
         --dot) _spanprof_files "$current" .tasks ;;
         greedy) _spanprof_among "$current" --threads ;;
         curve) _spanprof_among "$current" --upto ;;
@@ -55,7 +56,7 @@ _spanprof_large() {
         '<' | '>') _spanprof_files "$current" ;;
         spanprof_large | */spanprof_large)
             _spanprof_among "$current" span bounds slack greedy curve whatif graph show certify account places \
-                replay check --upto --help --version ;;
+                replay check relaxation --upto --help --version ;;
         account) _spanprof_among "$current" --rows --path ;;
         whatif) _spanprof_among "$current" --listed ;;
         greedy) _spanprof_among "$current" --threads ;;

@@ -81,6 +81,18 @@ def largest(statements, place):
     return max(one.cost for one in statements if one.kind == "work" and one.name == place)
 
 
+def without_empty_groups(statements):
+    """Without what stands in place of a dropped wait."""
+    begun = None
+    for one in statements:
+        is_empty = begun and one.of == "taskgroup"
+        if begun and not is_empty:
+            yield begun
+        begun = one if one.kind == "taskgroup" else None
+        if not begun and not is_empty:
+            yield one
+
+
 def shape(statements):
     """What a text has beside costs: names of depend items by their first mention, and no places."""
     names = {}

@@ -21,7 +21,7 @@ sys.path.insert(0, TOOLS)
 sys.path.append(os.path.join(TOP, "checks", "llvm"))
 sys.dont_write_bytecode = True
 
-from comparing import ends, first_difference, largest, least, shape
+from comparing import ends, first_difference, largest, least, shape, without_empty_groups
 from programs import PROGRAMS, TUTORIAL
 from recording import RECORDER, made_texts, remove
 from spanprof.whatif.texts import Text, write
@@ -92,7 +92,8 @@ def faults(rewrite, text, rewritten):
             row.append("%d threads %s" % (threads, found))
             out += [found.fault] if found.fault else []
         if rewrite.is_whole:
-            differ = first_difference(shape(Text(changed, 1).statements()), shape(Text(rewritten, 1).statements()))
+            changed_shape = shape(without_empty_groups(Text(changed, 1).statements()))
+            differ = first_difference(changed_shape, shape(Text(rewritten, 1).statements()))
             out += [differ] if differ else []
             row.append("another shape" if differ else "the same shape")
     print("%-8s %-12s %s" % ("DIFFERS" if out else "ok", rewrite.name, "; ".join(row)))

@@ -12,7 +12,8 @@ use Rattle.command_words.specs.Request.{is_accepted, number_at}
 use Rattle.command_words.specs.declared.large.AccountRequest.{AccountRequest}
 use Rattle.command_words.specs.declared.large.AccountRequest.TheVariants.{Sums, Rows, Path}
 use Rattle.command_words.specs.declared.large.DocumentRequest.TheVariants.{Account, Check}
-use Rattle.command_words.specs.declared.large.DocumentRequest.TheVariants.{Places, Replay}
+use Rattle.command_words.specs.declared.large.DocumentRequest.TheVariants.{Places, Relaxation}
+use Rattle.command_words.specs.declared.large.DocumentRequest.TheVariants.{Replay}
 use Rattle.command_words.specs.declared.large.DocumentRequest.TheVariants as of_document
 use Rattle.command_words.specs.declared.large.LargeRequest.{LargeRequest}
 use Rattle.command_words.specs.declared.large.LargeRequest.TheVariants.{OfDocument, OfMeter, OfTable}
@@ -79,7 +80,8 @@ with_documents app =
     let account = and_then app account_app in
     let replay = and_then account (plain_app (codes "replay")) in
     let check = and_then replay (plain_app (codes "check")) in
-    and_then check (plain_app (codes "places"))
+    let places = and_then check (plain_app (codes "places")) in
+    and_then places (plain_app (codes "relaxation"))
 
 unfoldable pub large_program : App
 large_program =
@@ -144,6 +146,7 @@ large_request_named name rows =
     else if bytes_eq name (codes "replay") then Some (OfDocument Replay)
     else if bytes_eq name (codes "check") then Some (OfDocument Check)
     else if bytes_eq name (codes "places") then Some (OfDocument Places)
+    else if bytes_eq name (codes "relaxation") then Some (OfDocument Relaxation)
     else None
 
 -- the option stands before no command

@@ -74,6 +74,8 @@ pub enum DocumentRequest {
     WhatIf,
     /// The sums of each place, by the places of its segments.
     Places,
+    /// Whether the text behind the divider waits for no more.
+    Relaxation,
 }
 
 /// What is asked of the times of a run.
@@ -182,6 +184,7 @@ fn large_request_named(
         "replay" => Ok(LargeRequest::OfDocument(DocumentRequest::Replay)),
         "check" => Ok(LargeRequest::OfDocument(DocumentRequest::Check)),
         "places" => Ok(LargeRequest::OfDocument(DocumentRequest::Places)),
+        "relaxation" => Ok(LargeRequest::OfDocument(DocumentRequest::Relaxation)),
         _ => Err(WordsFault::WrongWords),
     }
 }

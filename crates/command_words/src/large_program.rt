@@ -82,7 +82,8 @@ fn with_documents<'a>(alloc: Global, command: Command<'a>) -> Result<Command<'a>
     let command = with_command(command, account_command(alloc)?)?;
     let command = with_command(command, Command::new(alloc, "replay"))?;
     let command = with_command(command, Command::new(alloc, "check"))?;
-    with_command(command, Command::new(alloc, "places"))
+    let command = with_command(command, Command::new(alloc, "places"))?;
+    with_command(command, Command::new(alloc, "relaxation"))
 }
 
 /// The account of a run, with its two flags.

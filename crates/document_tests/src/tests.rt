@@ -1,4 +1,5 @@
 //! Documents of the worked program, and the reports on them.
+mod changed;
 mod checks;
 mod lists;
 mod long;

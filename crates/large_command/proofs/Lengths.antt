@@ -11,6 +11,7 @@ use Rattle.large_command.specs.declared.text_input.TheConstants.{PIECE}
 use Rattle.large_command.specs.Lengths.{IsReadInTime, IsTooLong}
 use Rattle.large_text.specs.LargeTexts.{FitsText, HasNoLineFeed}
 use Rattle.large_command.specs.TextInput.{EndsInLine, HasRoom}
+use Rattle.large_documents.proofs.Handing.{fits_front}
 use Rattle.large_command.proofs.Lines.{Further, before_feed, cut_lengths, feeds-append, feeds_of}
 use Rattle.large_command.proofs.Lines.{first_longest, further, is_inside, length_of, part_within}
 use Rattle.large_command.proofs.Lines.{ends_in_line, line_begins, line_goes_on}
@@ -126,17 +127,7 @@ has_long_line text bytes room h long =
       );
     })
 
--- ---- fronts of a text
-
-pub fits_front : (front later : List ℕ) → FitsText (front ++ later) → FitsText front
-fits_front front later h = record {
-  short = omega (arith, h.short, length-append front later);
-  lines = λ before line behind all none.
-      h.lines before line (behind ++ later)
-      (ap (λ (a : List ℕ). a ++ later) all
-      ∙ append_assoc before (line ++ behind) later
-      ∙ ap (λ (a : List ℕ). before ++ a) (append_assoc line behind later)) none;
-}
+-- ---- what is read in time
 
 pub is_in_time : (text : List ℕ) → FitsText text → IsReadInTime text
 is_in_time text h = λ front later all long.

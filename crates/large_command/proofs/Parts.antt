@@ -1,17 +1,13 @@
--- The parts of a document: its program begins it, and neither part is longer than it. How a text is handed
--- to a meter.
-use Rattle.std.proofs.Common.{◌≡◌, ◌+◌, ◌<◌, ◌≤◌, ◌++◌, ◌∙◌, ℕ, zero, suc, List, [], ◌∷◌, length, Bool}
+-- The parts of a document: its program begins it, and both parts fit.
+use Rattle.std.proofs.Common.{◌≡◌, ◌+◌, ◌<◌, ◌++◌, ◌∙◌, ℕ, zero, suc, List, [], ◌∷◌, length, Bool}
 use Rattle.std.proofs.Common.{IfSome, true, false, take, drop, ap, sym, subst, arith, refl}
 use Rattle.std.proofs.Common.{append-nil, append_assoc, rules}
-use Rattle.std.proofs.lemmas.List.{length-append}
 use Rattle.std.proofs.lemmas.List.Splits.{join_with_byte-slice_split}
 use Rattle.std.specs.List.{join_with_byte}
 use Rattle.program_text.specs.Document.{has_divider, lines_before, lines_of, program_part}
 use Rattle.program_text.specs.Document.{rest_part, text_of_lines}
 use Rattle.large_text.specs.LargeTexts.{FitsText}
-use Rattle.large_text.specs.Streamed.{CanTakeBytes, HasTaken, TakesBytes}
-use Rattle.large_text.specs.declared.stream.TextMeter.{TextMeter}
-use Rattle.large_command.proofs.Lengths.{fits_front}
+use Rattle.large_documents.proofs.Handing.{fits_back, fits_front}
 
 record BeginsWith (document program : List ℕ) : Type 0 where
   behind : List ℕ
@@ -53,75 +49,33 @@ fits_program document fits =
     fits_front (program_part document) front.behind
     (subst (λ (bytes : List ℕ). FitsText bytes) front.all fits)
 
--- lines of which the last few are left
-back_within : (lines : List (List ℕ)) (n : ℕ)
-    → length (join_with_byte 10 (drop n lines)) ≤ length (join_with_byte 10 lines)
-back_within lines zero = omega arith
-back_within [] (suc n) = omega arith
-back_within (line ∷ []) (suc n) =
-    let later : length (join_with_byte 10 (drop n [])) ≤ length (join_with_byte 10 []) =
-    back_within [] n in
-    omega (arith, later)
-back_within (line ∷ next ∷ lines) (suc n) =
-    let later : length (join_with_byte 10 (drop n (next ∷ lines)))
-    ≤ length (join_with_byte 10 (next ∷ lines)) = back_within (next ∷ lines) n in
-    omega (arith, later, length-append line (10 ∷ join_with_byte 10 (next ∷ lines)))
+-- the same lines without the first few
+back_of : (lines : List (List ℕ)) (n : ℕ)
+    → (before : List ℕ) × (join_with_byte 10 lines ≡ before ++ join_with_byte 10 (drop n lines))
+back_of lines zero = ([], refl)
+back_of [] (suc n) = ([], refl)
+back_of (line ∷ []) (suc n) =
+    let later = back_of [] n in (
+      line ++ later.0,
+      sym (append-nil line) ∙ ap (λ (a : List ℕ). line ++ a) later.1
+          ∙ sym (append_assoc line later.0 (join_with_byte 10 (drop n []))),
+    )
+back_of (line ∷ next ∷ lines) (suc n) =
+    let later = back_of (next ∷ lines) n in (
+      line ++ 10 ∷ later.0,
+      ap (λ (a : List ℕ). line ++ 10 ∷ a) later.1
+          ∙ sym (append_assoc line (10 ∷ later.0) (join_with_byte 10 (drop n (next ∷ lines)))),
+    )
 
-rest_by : (document : List ℕ) (most : ℕ) (divided : Bool) → has_divider document ≡ divided
-    → length document < most
-    → IfSome (rest_part document) (λ bytes. length bytes < most)
-rest_by document most true e fits =
-    rw e (omega (
-      arith,
-      fits,
-      back_within (lines_of document) (lines_before (lines_of document) + 1),
-      ap (λ (bytes : List ℕ). length bytes) (whole document),
-    ))
-rest_by document most false e fits = rw e tt
+rest_by : (document : List ℕ) (divided : Bool) → has_divider document ≡ divided
+    → FitsText document
+    → IfSome (rest_part document) FitsText
+rest_by document true e fits =
+    let lines = lines_of document in
+    let back = back_of lines (lines_before lines + 1) in
+    rw e (fits_back back.0 (join_with_byte 10 (drop (lines_before lines + 1) lines))
+    (subst (λ (bytes : List ℕ). FitsText bytes) (sym (whole document) ∙ back.1) fits))
+rest_by document false e fits = rw e tt
 
-pub rest_within : (document : List ℕ) (most : ℕ) → length document < most
-    → IfSome (rest_part document) (λ bytes. length bytes < most)
-rest_within document most fits = rest_by document most (has_divider document) refl fits
-
--- ---- a text that is handed to a meter piece by piece
-
--- the meter has taken what stands before the rest
-pub record IsTakenUpTo (text rest : List ℕ) (text_meter : TextMeter) : Type 0 where
-  pub front : List ℕ
-  pub all : text ≡ front ++ rest
-  pub taken : HasTaken front text_meter
-
-piece_fits : (text front rest piece later : List ℕ)
-    → FitsText text
-    → text ≡ front ++ rest
-    → piece ++ later ≡ rest
-    → FitsText (front ++ piece)
-piece_fits text front rest piece later fits all cut =
-    let grouped : text ≡ (front ++ piece) ++ later =
-    all ∙ ap (λ (bytes : List ℕ). front ++ bytes) (sym cut)
-    ∙ sym (append_assoc front piece later) in
-    fits_front (front ++ piece) later (subst (λ (bytes : List ℕ). FitsText bytes) grouped fits)
-
-pub can_take_piece : (text rest piece later : List ℕ) (text_meter : TextMeter)
-    → FitsText text
-    → IsTakenUpTo text rest text_meter
-    → piece ++ later ≡ rest
-    → CanTakeBytes piece text_meter
-can_take_piece text rest piece later text_meter fits h cut = record {
-  bytes = h.front;
-  taken = h.taken;
-  fits = piece_fits text h.front rest piece later fits h.all cut;
-}
-
-pub takes_piece : (text rest piece later : List ℕ) (text_meter next : TextMeter)
-    → FitsText text
-    → IsTakenUpTo text rest text_meter
-    → piece ++ later ≡ rest
-    → TakesBytes piece text_meter next
-    → IsTakenUpTo text later next
-takes_piece text rest piece later text_meter next fits h cut takes = record {
-  front = h.front ++ piece;
-  all = h.all ∙ ap (λ (bytes : List ℕ). h.front ++ bytes) (sym cut)
-      ∙ sym (append_assoc h.front piece later);
-  taken = takes h.front (piece_fits text h.front rest piece later fits h.all cut) h.taken;
-}
+pub fits_rest : (document : List ℕ) → FitsText document → IfSome (rest_part document) FitsText
+fits_rest document fits = rest_by document (has_divider document) refl fits

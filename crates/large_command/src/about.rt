@@ -26,6 +26,7 @@ Questions about a document, which is a program text, a line ---, and more:
   account --path        the path that the run's elapsed time lay on
   places                each place's work, path and least slack; with times its busy and idle time
   whatif --listed       work and span with a list of other costs
+  relaxation            whether a second program text waits for no more than the first
   replay                what a run recorded, by its events
   check                 whether a certificate holds
 

@@ -1,19 +1,15 @@
 //! What the program answers to a document.
-ghost use Rattle.std.specs.Prelude.{◌≡◌, ◌-◌, ◌<◌, ◌^◌, [], IfOk, IfSome, MatchResult, OnOk, length};
+ghost use Rattle.std.specs.Prelude.{◌≡◌, ◌-◌, ◌<◌, ◌^◌, IfOk, IfSome, length};
 ghost use Rattle.std.specs.Option.{option_copied};
 ghost use Rattle.command_words.specs.declared.large.LargeRequest.TheVariants.{OfDocument};
-ghost use Rattle.large_text.specs.Measured.{IsTableOfText};
 ghost use Rattle.large_text.specs.LargeTexts.{FitsText};
-ghost use Rattle.large_text.specs.Streamed.{HasTaken};
 ghost use Rattle.spanprof_command.specs.Replaying.{bad_form};
 ghost use Rattle.large_command.specs.DocumentReports.{TellsBehind, TellsRest};
-ghost use Rattle.large_command.specs.LargeReports.{Answers, RefusesText};
+ghost use Rattle.large_command.specs.LargeReports.{Answers};
 
-use crate::meter_answers::table_or_refusal;
-use crate::text_input::PIECE;
+use crate::meter_answers::text_refusal;
 use command_words::large::DocumentRequest;
-use large_documents::tell_rest;
-use large_text::TextMeter;
+use large_documents::{read_table, tell_rest};
 use spanprof_command::{Report, Status};
 use std::alloc::Global;
 use task_program::AllocFault;
@@ -34,56 +30,27 @@ pub(crate) fn answer_document(
 {
     let Document { program, rest } = split_document(document);
     match read_table(alloc, key, program)? {
-        Ok(table) => tell_document(alloc, asked, program, rest, table),
-        Err(report) => Ok(report),
+        Ok(table) => tell_document(alloc, key, asked, program, rest, table),
+        Err(fault) => text_refusal(alloc, fault),
     }
-}
-
-/// The table of a text, or the line of its first fault.
-fn read_table(
-    alloc: Global,
-    key: NameKey,
-    text: &[u8],
-) -> Result<Result<LargeTable, Report>, AllocFault>
-    requires { FitsText text.now }
-    ensures { IfOk result (λ read.
-        MatchResult read (IsTableOfText text.now) (RefusesText text.now)) }
-{
-    let mut meter = TextMeter::with_rows(alloc, key)?;
-    take_text(&mut meter, text)?;
-    table_or_refusal(alloc, meter)
-}
-
-/// Hands a text to a meter, piece by piece.
-fn take_text(meter: &mut TextMeter, text: &[u8]) -> Result<(), AllocFault>
-    requires fits { FitsText text.now }
-    requires first { HasTaken [] meter.old }
-    ensures { OnOk result (HasTaken text.now meter.new) }
-{
-    let mut rest = text;
-    'pieces: while !rest.is_empty() {
-        let (piece, later) = rest.split_at(rest.len().min(PIECE));
-        meter.take(piece)?;
-        rest = later;
-    }
-    Ok(())
 }
 
 /// The report on a program with this text and this table, and on what stands behind it.
 fn tell_document(
     alloc: Global,
+    key: NameKey,
     asked: DocumentRequest,
     program: &[u8],
     rest: Option<&[u8]>,
     table: LargeTable,
 ) -> Result<Report, AllocFault>
     requires program { length program.now < 2 ^ 63 - 1 }
-    requires rest { IfSome (option_copied rest) (λ bytes. length bytes < 2 ^ 63) }
+    requires rest { IfSome (option_copied rest) FitsText }
     ensures { IfOk result (λ report.
         TellsBehind asked program.now (option_copied rest.entry) table report) }
 {
     match rest {
-        Some(rest) => tell_behind(alloc, asked, program, rest, table),
+        Some(rest) => tell_behind(alloc, key, asked, program, rest, table),
         None => bad_form(alloc),
     }
 }
@@ -96,16 +63,17 @@ fn bad_form(alloc: Global) -> Result<Report, AllocFault>
 
 fn tell_behind(
     alloc: Global,
+    key: NameKey,
     asked: DocumentRequest,
     program: &[u8],
     rest: &[u8],
     table: LargeTable,
 ) -> Result<Report, AllocFault>
     requires program { length program.now < 2 ^ 63 - 1 }
-    requires rest { length rest.now < 2 ^ 63 }
+    requires rest { FitsText rest.now }
     ensures { IfOk result (λ report. TellsRest asked program.now rest.now table report) }
 {
     // Does nothing when it runs: its clauses say how many rows there are at most.
     task_segments::laws::within_rows(&table);
-    tell_rest(alloc, asked, program, rest, table)
+    tell_rest(alloc, key, asked, program, rest, table)
 }

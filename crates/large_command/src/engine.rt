@@ -46,9 +46,10 @@ use task_program::name_key::NameKey;
 /// `curve`, `whatif`, `show` and `certify` write what the commands of `spanprof` of these names write,
 /// and so do `replay` and `check` of a document. `graph` writes the recorded graph. `account` reads a
 /// document of a text and the times of a run of it, and writes where the time of the run's threads
-/// went; `places` one of a text and places of its segments, and writes the sums of each. `--help` and
-/// `--version` write a text about the program. Other words, and numbers of threads but those from 1
-/// to 1,024, are refused. Nothing is read then.
+/// went; `places` one of a text and places of its segments, and writes the sums of each; `relaxation`
+/// one of two texts, and writes whether the second waits for no more. `--help` and `--version` write
+/// a text about the program. Other words, and numbers of threads but those from 1 to 1,024, are
+/// refused. Nothing is read then.
 ///
 /// An input with a line of more than [`LARGEST_LINE`] bytes is refused, and so is one of more than
 /// [`LARGEST_TEXT`] bytes. Reads and writes that are interrupted are tried again, together at most

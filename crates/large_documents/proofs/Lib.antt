@@ -1,10 +1,13 @@
+pub mod Handing
 mod Members
 mod OneAccount
+mod OneChange
 mod OneFault
 mod OnePath
 pub mod OneRest
 mod SomeAccount
 mod SomeFault
+mod SomeVerdict
 mod ListSteps
 mod ListWords
 mod OneList

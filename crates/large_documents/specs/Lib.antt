@@ -9,6 +9,7 @@ pub mod PlaceSteps
 pub mod TimedPlaces
 pub mod PlaceReports
 pub mod PlaceLaws
+pub mod ChangeReports
 pub mod RestReports
 pub mod OneRest
 pub mod TimesOfEach

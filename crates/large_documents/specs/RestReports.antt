@@ -2,12 +2,14 @@
 use Rattle.std.specs.Prelude.{ℕ, List, Some}
 use Rattle.command_words.specs.declared.large.DocumentRequest.{DocumentRequest}
 use Rattle.command_words.specs.declared.large.DocumentRequest.TheVariants.{Account, Check}
-use Rattle.command_words.specs.declared.large.DocumentRequest.TheVariants.{Places, Replay, WhatIf}
+use Rattle.command_words.specs.declared.large.DocumentRequest.TheVariants.{Places, Relaxation, Replay}
+use Rattle.command_words.specs.declared.large.DocumentRequest.TheVariants.{WhatIf}
 use Rattle.task_segments.specs.Table.{Table}
 use Rattle.spanprof_command.specs.Certificates.{AnswersClaim}
 use Rattle.spanprof_command.specs.Replaying.{SaysOfEvents}
 use Rattle.spanprof_command.specs.Report.{Report}
 use Rattle.large_documents.specs.AccountReports.{SaysOfAccount}
+use Rattle.large_documents.specs.ChangeReports.{SaysOfChange}
 use Rattle.large_documents.specs.ListReports.{SaysOfList}
 use Rattle.large_documents.specs.PlaceReports.{SaysOfPlaces}
 use Rattle.large_documents.specs.declared.rest.TheConstants.{MOST_LARGE_EVENTS}
@@ -19,3 +21,4 @@ SaysOfRest Replay program rest table output = SaysOfEvents MOST_LARGE_EVENTS (So
 SaysOfRest Check program rest table output = AnswersClaim table rest output
 SaysOfRest WhatIf program rest table output = SaysOfList program rest table output
 SaysOfRest Places program rest table output = SaysOfPlaces program rest table output
+SaysOfRest Relaxation program rest table output = SaysOfChange program rest table output

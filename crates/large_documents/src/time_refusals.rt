@@ -53,14 +53,14 @@ pub(crate) fn refused_as(alloc: Global, word: &str) -> Result<Report, AllocFault
     Ok(Report::new(text.into_bytes(), Status::Refused))
 }
 
-fn of_segment(alloc: Global, word: &str, segment: u32) -> Result<Report, AllocFault>
+pub(crate) fn of_segment(alloc: Global, word: &str, segment: u32) -> Result<Report, AllocFault>
     ensures { IfOk result (λ report. report ≡ of_segment word.now segment) }
 {
     let text = format!(in alloc; "error: {word} {segment}\n")?;
     Ok(Report::new(text.into_bytes(), Status::Refused))
 }
 
-fn refused_pair(alloc: Global, word: &str, s: u32, t: u32) -> Result<Report, AllocFault>
+pub(crate) fn refused_pair(alloc: Global, word: &str, s: u32, t: u32) -> Result<Report, AllocFault>
     ensures { IfOk result (λ report. report ≡ refused_pair word.now s t) }
 {
     let text = format!(in alloc; "error: {word} {s} {t}\n")?;
@@ -82,7 +82,7 @@ pub(crate) fn at_line(
     numbered(alloc, number, word)
 }
 
-fn numbered(alloc: Global, number: u128, word: &str) -> Result<Report, AllocFault>
+pub(crate) fn numbered(alloc: Global, number: u128, word: &str) -> Result<Report, AllocFault>
     ensures { IfOk result (λ report. report ≡ numbered number word.now) }
 {
     let text = format!(in alloc; "error: line {number}: {word}\n")?;

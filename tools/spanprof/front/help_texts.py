@@ -33,6 +33,7 @@ Ask about a text of any size; spanprof_large has all commands above but `run`, t
   account       where the time of a run's threads went
   graph         each segment's task, cost and predecessors
   places        each place's work, its part of the critical path and its least slack
+  relaxation    whether a changed program waits for no more
 
 spanprof help COMMAND describes a command, spanprof --version prints the version.
 """
@@ -60,6 +61,8 @@ USAGES = {
                 "The time breakdown of a timed document, its rows, or the run's own path."),
     "places": ("spanprof places" + FILE, "A table (CSV) of places: their segments, work, part of the critical path and "
                "least slack;\nwith times busy and idle time, too."),
+    "relaxation": ("spanprof relaxation" + FILE,
+                   "Whether the second program of a document has the segments of the first and waits for no more."),
     "graph": ("spanprof graph" + FILE, "A table (CSV) of the segments: task, cost, and predecessors with blanks "
               "between them.\n`spanprof graph --dot FILE` writes it for Graphviz."),
 }

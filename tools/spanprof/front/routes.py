@@ -6,7 +6,7 @@ from typing import List
 
 PROGRAM, LARGE, TOOL, HELP, VERSION = "program", "large", "tool", "help", "version"
 COMMANDS = ("span", "show", "slack", "greedy", "curve", "whatif", "certify", "check", "run", "replay")
-LARGE_COMMANDS = ("bounds", "account", "graph", "places")     # that spanprof_large has alone
+LARGE_COMMANDS = ("bounds", "account", "graph", "places", "relaxation")   # that spanprof_large has alone
 TOOLS = {
     "record": "spanprof.record.command", "convert": "spanprof.record.convert_command",
     "report": "spanprof.report.command", "path": "spanprof.path.command", "whatif": "spanprof.whatif.command",

@@ -6,13 +6,16 @@ A change counts in `count` what it has changed.
 from array import array
 from collections import Counter
 
-from spanprof.program_text import BLOCKS
+from spanprof.program_text import BLOCKS, Statement
 from spanprof.marks import MOST, as_statements
+
+DROPPED = "a dropped wait"      # as an empty group in its place is named
 
 
 class Change:
-    """`what` says it with its count and place."""
-    what = ""
+    """`what` says it with its count and place. `relaxes` those that leave all segments and their costs, and have them
+    wait for no more."""
+    what, relaxes = "", False
 
     def __init__(self, place):
         self.place, self.count = place, 0
@@ -44,29 +47,46 @@ class Factor(Change):
 
 
 class DropWait(Change):
-    """A `taskwait`, or the begin and the end of a `taskgroup`, is left out."""
-    what = "%d wait%s dropped: %s"
+    """An empty group, which waits for nothing, stands in place of a `taskwait`, or of the end of a `taskgroup`, so that
+    the segments stay."""
+    what, relaxes = "%d wait%s dropped: %s", True
 
-    def made_of(self, found):
+    def empty(self, found, one):
+        comment = one.comment + ", dropped" if one.comment else "dropped"
+        ends = Statement("end", DROPPED, of="taskgroup")
+        return found.number(Statement("taskgroup", DROPPED, comment=comment)), found.number(ends)
+
+    def instead(self, found):
+        """Of each statement where something else stands now, and what: nothing for the beginning of a group."""
         dropped = found.of_kind(lambda one: one.name == self.place and one.kind in ("taskwait", "taskgroup"))
+        empty = {number: self.empty(found, found.known[-number]) for number in dropped}
         begins, ends = (found.of_kind(lambda one, kinds=kinds: one.kind in kinds) for kinds in (BLOCKS, ("end",)))
-        kept, is_dropped = bytearray(b"\1") * len(found), []     # the second of each open block
+        of_open = []
         for i, number in enumerate(found.row):
             if number >= 0:
                 continue
-            if number in ends:
-                kept[i] = not is_dropped.pop()
-                continue
-            if number in dropped:
-                kept[i] = 0
-                self.count += 1
             if number in begins:
-                is_dropped.append(number in dropped)
-        return found.only(kept)
+                of_open.append(empty.get(number))
+            made = of_open.pop() if number in ends else empty.get(number)
+            if made:
+                yield i, () if number in begins else made
+
+    def made_of(self, found):
+        row, at, before = array("q"), array("I"), 0
+        for i, made in self.instead(found):
+            row.extend(found.row[before:i])
+            at.extend(found.at[before:i])
+            row.extend(made)
+            at.extend([found.at[i]] * len(made))
+            before, self.count = i + 1, self.count + bool(made)
+        row.extend(found.row[before:])
+        at.extend(found.at[before:])
+        return found.changed(row, at)
 
 
 class OfTasks(Change):
     """Tasks are written otherwise: `instead` is a task, and how much of it is changed; None where it stays."""
+    relaxes = True
 
     def made_of(self, found):
         others, times = {}, {}

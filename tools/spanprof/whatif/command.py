@@ -19,6 +19,7 @@ from spanprof.whatif.creating import costs_for
 from spanprof.whatif.listing import listing
 from spanprof.whatif.numbers import numbers_of
 from spanprof.whatif.output import as_json, lines, notes
+from spanprof.whatif.relaxation import proof_of
 from spanprof.whatif.requests import OPTIONS, Request, applied, changes
 from spanprof.whatif.survey import survey
 from spanprof.whatif.texts import Text, version_of, write
@@ -71,7 +72,7 @@ def compare(chosen, text, before, path):
     if idle:
         raise Fault("this changes nothing: %s" % idle[0].words())
     after = numbers_of(TextFile(path), threads)
-    reported = list(notes(chosen.requests, made, costs, text.head, threads))
+    reported = [*notes(chosen.requests, made, costs, text.head, threads), *proof_of(made, chosen.text, path)]
 
     def changed(region):
         return as_text(applied(statements(region.splitlines()), asked()))

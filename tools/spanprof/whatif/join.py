@@ -3,6 +3,7 @@ from dataclasses import dataclass, field
 from typing import List
 
 from spanprof.program_text import Statement
+from spanprof.whatif.changes import DROPPED
 from spanprof.whatif.shapes import Restructured
 
 
@@ -51,7 +52,7 @@ class Join(Restructured):
 
     def statements(self, stream):
         levels = [Level()]      # of each open task
-        for one in stream:
+        for one in (one for one in stream if one.name != DROPPED):
             level = levels[-1]
             if one.kind == "work" and level.joined:
                 level.joined.after.append(one)

@@ -88,7 +88,7 @@ class Tries(unittest.TestCase):
     def test_a_change_on_top_of_others(self):
         wait = single("drop-wait", "taskwait at image.c:30")
         alone = self.bench.tries([wait])[0].end
-        self.assertEqual(alone, self.bench.end([]) - 2000)      # what stood before and after it is one piece
+        self.assertEqual(alone, self.bench.end([]) + 1000)      # an empty group has two lines
         split = (Request("split", TASKS + "=2"),)
         self.assertGreater(self.bench.tries([wait], split)[0].end, alone)
 

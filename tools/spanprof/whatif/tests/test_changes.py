@@ -1,5 +1,6 @@
 import unittest
 
+from spanprof.marks import as_text, statements
 from spanprof.whatif.changes import DropDepend, DropName, DropWait, Factor, ReadOnly
 from spanprof.whatif.tests.made_up import ROW, SORT, changed
 
@@ -18,19 +19,27 @@ class OneThing(unittest.TestCase):
 
     def test_a_taskwait_is_dropped(self):
         drop = DropWait("taskwait at sort.c:10")
-        self.assertIn("task { work 20 task { work 6 } work 3 } work 2 }", changed(SORT, drop))
+        self.assertIn("task { work 20 task { work 6 } taskgroup { } work 3 } work 2 }", changed(SORT, drop))
         self.assertEqual(drop.words(), "1 wait dropped: taskwait at sort.c:10")
 
     def test_a_group_is_dropped_with_its_end(self):
         drop = DropWait("taskgroup at sort.c:7")
         self.assertEqual(changed(SORT, drop), "work 4 task { work 10 } work 1 task { work 20 task { work 6 } taskwait "
-                                              "work 3 } work 32")
+                                              "work 3 } work 2 taskgroup { } work 30")
         self.assertEqual(drop.count, 1)
 
     def test_a_group_in_a_group_stays(self):
         text = "omptasks 1\ntaskgroup { # a\ntaskgroup { # b\nwork 1\n}\n}\nwork 2\n"
-        self.assertEqual(changed(text, DropWait("taskgroup at a")), "taskgroup { work 1 } work 2")
-        self.assertEqual(changed(text, DropWait("taskgroup at b")), "taskgroup { work 1 } work 2")
+        self.assertEqual(changed(text, DropWait("taskgroup at a")), "taskgroup { work 1 } taskgroup { } work 2")
+        self.assertEqual(changed(text, DropWait("taskgroup at b")), "taskgroup { work 1 taskgroup { } } work 2")
+
+    def test_a_wait_is_dropped_once(self):
+        once, again = DropWait("taskwait at sort.c:10"), DropWait("taskwait at sort.c:10")
+        changed(SORT, once, again)
+        self.assertEqual((once.count, again.count), (1, 0))
+        text = as_text(once(statements(SORT.splitlines(True))))
+        self.assertEqual(changed(text, again), changed(SORT, once))
+        self.assertEqual(again.count, 0)
 
     def test_depend_items_of_a_place(self):
         drop = DropDepend("task at row.c:3")
@@ -69,7 +78,7 @@ class OneThing(unittest.TestCase):
 
     def test_changes_one_after_the_other_go_by_the_places_of_the_text(self):
         after = changed(SORT, DropWait("taskwait at sort.c:10"), Factor("after taskwait at sort.c:10", 2))
-        self.assertIn("task { work 6 } work 6 } work 2 }", after)
+        self.assertIn("task { work 6 } taskgroup { } work 6 } work 2 }", after)
 
 
 if __name__ == "__main__":

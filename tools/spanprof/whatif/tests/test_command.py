@@ -44,9 +44,10 @@ class Commands(InFolder):
         self.assertEqual(self.reported("--drop-wait", "taskwait"), (0, """\
 changed: 1 wait dropped: taskwait at sort.c:10
 whether the program stays right without it is for you to judge: no text says what its tasks read and write
+proved of the text as changed: the same segments, no more to wait for
 in us                                text       changed text
 segments                                8                  8    +0.0 %
-work                                    5                  4   -20.0 %
+work                                    5                  5    +0.0 %
 span                                   60                 60    +0.0 %
 2 threads, least                       60                 60    +0.0 %
 2 threads, end                         65                 65    +0.0 %

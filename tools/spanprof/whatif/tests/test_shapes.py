@@ -1,6 +1,7 @@
 import unittest
 
 from spanprof.marks import as_text, statements
+from spanprof.whatif.changes import DropWait
 from spanprof.whatif.join import Join
 from spanprof.whatif.shapes import Cutoff, Grain, OwnTask, Split
 from spanprof.whatif.tests.made_up import LOOPS, ROW, SORT, changed
@@ -82,6 +83,11 @@ class Fewer(unittest.TestCase):
     def test_a_wait_between_keeps_them_apart(self):
         text = ROWS.replace("work 3\n", "taskwait\n")
         self.assertEqual(changed(text, Join("task at a", 2, 0)), changed(text))
+
+    def test_a_dropped_wait_does_not(self):
+        text = ROWS.replace("work 3\n", "taskwait # x\n")
+        drop, join = DropWait("taskwait at x"), Join("task at a", 2, 0)
+        self.assertEqual(changed(text, drop, join), changed(text.replace("taskwait", ""), join))
 
     def test_they_have_the_items_of_them_all(self):
         self.assertEqual(changed(ROW, Join("task at row.c:3", 3, 0)),

@@ -12,5 +12,6 @@ returns c =
     in
     let replay = c.in_ok-command-2.ensures ∙ ap₂ and_then account c.new.ensures.app in
     let check = c.in_ok-command-3.ensures ∙ ap₂ and_then replay c.new-2.ensures.app in
-    IfOk-weaker c.with_command-4.result _ _ (λ command added. added
-    ∙ ap₂ and_then check c.new-3.ensures.app) c.with_command-4.ensures
+    let places = c.in_ok-command-4.ensures ∙ ap₂ and_then check c.new-3.ensures.app in
+    IfOk-weaker c.with_command-5.result _ _ (λ command added. added
+    ∙ ap₂ and_then places c.new-4.ensures.app) c.with_command-5.ensures

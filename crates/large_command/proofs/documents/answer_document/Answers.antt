@@ -1,10 +1,10 @@
-use Rattle.std.proofs.Common.{◌<◌, ◌^◌, IfSome, List, Option, arith, inr, length, subst, sym, ℕ}
+use Rattle.std.proofs.Common.{IfSome, List, Option, arith, inr, subst, sym, ℕ}
 use Rattle.std.proofs.lemmas.Result.{IfOk-weaker}
 use Rattle.std.specs.Prelude.{MatchResult}
 use Rattle.large_text.specs.Measured.{IsTableOfText}
-use Rattle.large_text.specs.LargeTexts.{FitsText}
+use Rattle.large_text.specs.LargeTexts.{FitsText, IsLargeFault}
 use Rattle.large_command.specs.LargeReports.{RefusesText}
-use Rattle.large_command.proofs.Parts.{fits_program, rest_within}
+use Rattle.large_command.proofs.Parts.{fits_program, fits_rest}
 use Rattle.large_command.proofs.Told.{accepts_document}
 use Rattle.large_command.proofs.documents.answer_document.Goals as goal
 
@@ -21,16 +21,15 @@ tell_document-requires-clause-program c =
 
 pub tell_document-requires-clause-rest : goal.tell_document-requires-clause-rest
 tell_document-requires-clause-rest c =
-    subst (λ (rest : Option (List ℕ)). IfSome rest (λ bytes. length bytes < 2 ^ 63))
-    (sym c.split_document.ensures.rest)
-    (rest_within c.args.document.now (2 ^ 63) (omega (arith, c.requires.short)))
+    subst (λ (rest : Option (List ℕ)). IfSome rest FitsText) (sym c.split_document.ensures.rest)
+    (fits_rest c.args.document.now c.requires)
 
 pub returns-in-Ok : goal.returns-in-Ok
 returns-in-Ok c =
     let of : IsTableOfText c.split_document.result.program.now c.in-Ok.table =
     subst (λ read. MatchResult read
     (IsTableOfText c.split_document.result.program.now)
-    (RefusesText c.split_document.result.program.now)) c.in-Ok.is c.in_ok-table.ensures in
+    (IsLargeFault c.split_document.result.program.now)) c.in-Ok.is c.in_ok-table.ensures in
     IfOk-weaker c.tell_document.result _ _
     (λ report tells. accepts_document c.args.asked c.args.document.now _ _ c.in-Ok.table report
     c.split_document.ensures.program c.split_document.ensures.rest of tells)
@@ -38,9 +37,11 @@ returns-in-Ok c =
 
 pub returns-in-Err : goal.returns-in-Err
 returns-in-Err c =
-    let refused : RefusesText c.split_document.result.program.now c.in-Err.report =
+    let of : IsLargeFault c.split_document.result.program.now c.in-Err.fault =
     subst (λ read. MatchResult read
     (IsTableOfText c.split_document.result.program.now)
-    (RefusesText c.split_document.result.program.now)) c.in-Err.is c.in_ok-table.ensures in
-    inr (subst (λ (text : List ℕ). RefusesText text c.in-Err.report)
-    c.split_document.ensures.program refused)
+    (IsLargeFault c.split_document.result.program.now)) c.in-Err.is c.in_ok-table.ensures in
+    IfOk-weaker c.text_refusal.result _ _
+    (λ report says. inr (subst (λ (text : List ℕ). RefusesText text report)
+    c.split_document.ensures.program (record { fault = c.in-Err.fault; is_fault = of; says = says })))
+    c.text_refusal.ensures

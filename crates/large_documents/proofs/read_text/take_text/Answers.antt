@@ -1,7 +1,7 @@
 use Rattle.std.proofs.Common.{sym}
 use Rattle.large_text.proofs.PlainStreaming.{split_whole}
-use Rattle.large_command.proofs.Parts.{can_take_piece, takes_piece}
-use Rattle.large_command.proofs.documents.take_text.Goals as goal
+use Rattle.large_documents.proofs.Handing.{can_take_piece, takes_piece}
+use Rattle.large_documents.proofs.read_text.take_text.Goals as goal
 
 pub take-requires-clause-room : goal.take-requires-clause-room
 take-requires-clause-room c =

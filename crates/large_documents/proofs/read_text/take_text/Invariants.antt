@@ -1,6 +1,6 @@
 use Rattle.std.proofs.Common.{length}
-use Rattle.large_command.proofs.Parts.{IsTakenUpTo}
-use Rattle.large_command.proofs.documents.take_text.Given as goal
+use Rattle.large_documents.proofs.Handing.{IsTakenUpTo}
+use Rattle.large_documents.proofs.read_text.take_text.Given as goal
 
 -- the meter has taken what stands before the rest
 abbrev pub invariant-pieces : goal.invariant-pieces

@@ -1,0 +1,3 @@
+pub mod FirstOther
+pub mod Pairs
+pub mod Schedules

@@ -1,0 +1,3 @@
+pub mod Relaxation
+pub mod Verdicts
+pub mod PairLists
