@@ -1,14 +1,18 @@
--- Those of some ascending numbers that pass a test, one more at a time.
-use Rattle.std.proofs.Common.{ℕ, Bool, true, false, ◌+◌, ◌<◌, ◌≡◌, ◌↔◌, List, [], ◌∷◌, ◌++◌, Some}
-use Rattle.std.proofs.Common.{length, take, get_or, refl, sym, ◌∙◌, subst, arith, inl, inr}
-use Rattle.std.specs.Prelude.{slice_get, Contains, IsTrue, if◌then◌else◌}
+-- Those of some ascending numbers that wait for one more, and their counts lowered, one at a time.
+use Rattle.std.proofs.Common.{ℕ, Bool, true, false, ◌+◌, ◌-◌, ◌<◌, ◌≡◌, ◌≢◌, ◌↔◌, List, [], ◌∷◌, ◌++◌, Some}
+use Rattle.std.proofs.Common.{length, take, get_or, refl, sym, ap, ◌∙◌, subst, arith, inl, inr}
+use Rattle.std.specs.Prelude.{slice_get, slice_set, AllPairs, Contains, IsTrue, if◌then◌else◌}
 use Rattle.std.specs.List.Sorted.{IsStrictlyIncreasing}
 use Rattle.std.proofs.lemmas.Bool.{both_ways}
 use Rattle.std.proofs.lemmas.List.{get_or-take, get_or_default, length-take}
 use Rattle.std.proofs.lemmas.List.Kept.{AllPairs-from_increasing}
 use Rattle.depend_table.specs.Lists.{Lists}
 use Rattle.depend_table.proofs.Lists.{lists_push, lists_same}
-use Rattle.open_segments.proofs.Falls.{next_cases, next_has, still_has}
+use Rattle.std.proofs.lemmas.List.Elements.{Contains-get_or}
+use Rattle.std.proofs.lemmas.Option.{get_or_from_slice_get, slice_get_within}
+use Rattle.open_segments.specs.Counters.{AreLowered, IsCounted}
+use Rattle.open_segments.proofs.Falls.{differ_from_once, lower_step, next_cases, next_has, next_here}
+use Rattle.open_segments.proofs.Falls.{still_has}
 
 -- those before the next one are smaller
 below_next : (list : List ℕ) (k x m : ℕ)
@@ -52,3 +56,37 @@ freed_step counts list ready k x false up within is passes so_far =
       | inr same ↦ absurd (both_ways false refl
           (passes.1 (subst (λ (n : ℕ). slice_get counts n ≡ Some 1) same h.1)))
     ])
+
+once : (list : List ℕ) → IsStrictlyIncreasing list → AllPairs (λ a b. a ≢ b) list
+once list up = differ_from_once list (AllPairs-from_increasing list up)
+
+-- the next one is still counted
+pub next_counted : (before list now : List ℕ) (k x : ℕ)
+    → IsStrictlyIncreasing list
+    → k < length list
+    → x ≡ get_or list k x
+    → ((t : ℕ) → Contains list t → IsCounted before t)
+    → AreLowered before (Contains (take k list)) now
+    → IsCounted now x
+next_counted before list now k x up within is counted so_far =
+    let here = counted x
+    (subst (λ (n : ℕ). Contains list n) (sym is) (Contains-get_or list k x within)) in
+    record {
+      fewer = here.fewer;
+      is = next_here before list now k x here within is (once list up) so_far;
+    }
+
+-- and lowered
+pub next_lowered : (before list now : List ℕ) (k x count : ℕ)
+    → IsStrictlyIncreasing list
+    → k < length list
+    → x ≡ get_or list k x
+    → AreLowered before (Contains (take k list)) now
+    → IsCounted now x
+    → count ≡ get_or now x count
+    → AreLowered before (Contains (take (k + 1) list)) (slice_set now x (count - 1))
+next_lowered before list now k x count up within is so_far counted same =
+    let value = get_or_from_slice_get now x (counted.fewer + 1) count counted.is in
+    lower_step before list now k x count within is (once list up) so_far
+    (counted.is ∙ ap (λ (n : ℕ). Some n) (sym (same ∙ value)))
+    (slice_get_within now x (counted.fewer + 1) counted.is)

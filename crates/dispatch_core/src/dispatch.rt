@@ -17,7 +17,7 @@ use crate::event::{Event, FinishKind, FinishRefusal, MOST_WORKERS, StartRefusal}
 use crate::graph::Graph;
 use crate::kernel::{Kernel, SegResult};
 use crate::run_state::{first_state, flag, sum_at, worker_entry};
-use crate::waiting::{freed, lower, waits_for_none};
+use crate::waiting::{freed, lower, waits_for};
 use open_segments::entries::value_entry;
 use open_segments::flat_lists::FlatLists;
 use open_segments::opener::opener;
@@ -316,7 +316,7 @@ impl<K: Kernel, const SEGMENTS: u32, const TASKS: u32> BoundedCore<K, SEGMENTS, 
             ↔ ((pred : ℕ) → MustPrecede self.now.table pred segment
             → HasFinished self.now.history pred) }
     {
-        waits_for_none(self.counts.as_slice(), segment)
+        waits_for(self.counts.as_slice(), segment, 0)
     }
 
     /// The sum of the values of the segment's kept predecessors.

@@ -17,25 +17,17 @@ pub fn freed(alloc: Global, counts: &[u32], segments: &[u32]) -> Result<Vec<u32>
 {
     let mut ready = Vec::new(alloc);
     for segment in segments {
-        push_if(&mut ready, *segment, is_one(counts, *segment))?;
+        push_if(&mut ready, *segment, waits_for(counts, *segment, 1))?;
     }
     Ok(ready)
 }
 
-// It stands apart for the prover's sake: its caller owns a list and may fail.
-fn is_one(counts: &[u32], segment: u32) -> bool
+/// Whether the segment waits for so many.
+pub fn waits_for(counts: &[u32], segment: u32, number: u32) -> bool
     requires { segment < length counts.now }
-    ensures { IsTrue result ↔ (slice_get counts.now segment ≡ Some 1) }
+    ensures { IsTrue result ↔ (slice_get counts.now segment ≡ Some number) }
 {
-    counts[segment as usize] == 1
-}
-
-/// Whether the segment waits for none.
-pub fn waits_for_none(counts: &[u32], segment: u32) -> bool
-    requires { segment < length counts.now }
-    ensures { IsTrue result ↔ (slice_get counts.now segment ≡ Some 0) }
-{
-    counts[segment as usize] == 0
+    counts[segment as usize] == number
 }
 
 /// Lowers the count of each of the segments.
@@ -45,7 +37,6 @@ pub fn lower(counts: &mut Vec<u32>, segments: &[u32])
     ensures { AreLowered counts.old.items (Contains segments.now) counts.new.items }
 {
     for segment in segments {
-        let count = counts[*segment as usize];
-        counts[*segment as usize] = count - 1;
+        counts[*segment as usize] -= 1;
     }
 }

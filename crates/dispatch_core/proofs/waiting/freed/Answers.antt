@@ -7,8 +7,8 @@ use Rattle.open_segments.proofs.ListLemmas.{Lists-none}
 use Rattle.dispatch_core.proofs.Freed.{freed_step}
 use Rattle.dispatch_core.proofs.waiting.freed.Goals as goal
 
-pub is_one-requires : goal.is_one-requires
-is_one-requires c =
+pub waits_for-requires : goal.waits_for-requires
+waits_for-requires c =
     c.requires.known (slice_index_or c.args.segments.now c.loop-segment.segment-index 0)
     (Contains-get_or c.args.segments.now c.loop-segment.segment-index 0 c.loop-segment-test.true)
 
@@ -31,8 +31,8 @@ loop-segment-preserved c =
     (λ (l : List ℕ). Lists
     (λ t. Contains (take (place + 1) list) t × (slice_get c.args.counts.now t ≡ Some 1)) l)
     (sym c.in_ok-push_if.ensures.kept)
-    (freed_step c.args.counts.now list c.loop-segment.ready.items place segment c.is_one.result
-    c.requires.ascending within is c.is_one.ensures c.loop-segment.invariant)
+    (freed_step c.args.counts.now list c.loop-segment.ready.items place segment c.waits_for.result
+    c.requires.ascending within is c.waits_for.ensures c.loop-segment.invariant)
 
 pub returns : goal.returns
 returns c =

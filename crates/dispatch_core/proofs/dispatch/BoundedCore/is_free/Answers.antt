@@ -5,8 +5,8 @@ use Rattle.dispatch_core.specs.Run.{Run, HasFinished}
 use Rattle.dispatch_core.proofs.Unfinished.{none_counted}
 use Rattle.dispatch_core.proofs.dispatch.BoundedCore.is_free.Goals as goal
 
-pub waits_for_none-requires : goal.waits_for_none-requires
-waits_for_none-requires g c =
+pub waits_for-requires : goal.waits_for-requires
+waits_for-requires g c =
     let KnownHere : Run → Type 0 = λ run. c.args.segment < length run.table.segments in
     let known = subst KnownHere (sym c.self.view_is) c.requires in
     let each = c.self.invariant.waits.of_table.each in
@@ -31,7 +31,7 @@ returns g c =
     sound.waits (subst KnownHere (sym c.self.view_is) c.requires) in
     let Here : List ℕ → Type 0 = λ l. slice_get l c.args.segment ≡ Some 0 in (
       λ h. subst AfterHere c.self.view_is
-          (both.0 (subst Here c.as_slice.ensures.value (c.waits_for_none.ensures.0 h))),
-      λ all. c.waits_for_none.ensures.1 (subst Here (sym c.as_slice.ensures.value)
+          (both.0 (subst Here c.as_slice.ensures.value (c.waits_for.ensures.0 h))),
+      λ all. c.waits_for.ensures.1 (subst Here (sym c.as_slice.ensures.value)
           (both.1 (subst AfterHere (sym c.self.view_is) all))),
     )
