@@ -280,7 +280,8 @@ has_room_to_finish value_of table history capacity started running values graph 
 pub sound_after_finish : (value_of : ℕ → ℕ → ℕ → ℕ) (table : Table) (history : List Event)
     (capacity later : ℕ) (started : List Bool) (running : List (Option ℕ))
     (values : List (Option ℕ))
-    (graph : RecordedGraph) (successors : List (List ℕ)) (counts after : List ℕ) (worker : ℕ) (result : Computation) (value : ℕ)
+    (graph : RecordedGraph) (successors : List (List ℕ)) (counts after : List ℕ)
+    (worker : ℕ) (result : Computation) (value : ℕ)
     → IsSound value_of table history capacity started running values graph successors counts
     → MayFinish table history value_of worker result
     → value ≡ value_of result.segment result.cost result.input
