@@ -1,8 +1,8 @@
 -- What a core keeps is kept when a segment finishes.
-use Rattle.std.proofs.Common.{ℕ, ◌+◌, ◌<◌, ◌≤◌, ◌≡◌, ◌≢◌, Bool, List, [], ◌∷◌, ◌++◌, Option, Some}
+use Rattle.std.proofs.Common.{ℕ, ◌<◌, ◌≤◌, ◌≡◌, ◌≢◌, Bool, List, [], ◌∷◌, ◌++◌, Option, Some}
 use Rattle.std.proofs.Common.{None, length, take, refl, sym, ap, ◌∙◌, subst, arith, inl, inr}
 use Rattle.std.proofs.Common.{get_or}
-use Rattle.std.specs.Prelude.{slice_get, slice_set, Contains, count_by, is_some}
+use Rattle.std.specs.Prelude.{slice_get, slice_set, Contains, is_some}
 use Rattle.std.proofs.lemmas.Bool.{cases_eq}
 use Rattle.std.proofs.lemmas.Option.{slice_get-get_or, same_Some, none-some}
 use Rattle.std.proofs.lemmas.List.{length-set, length-append}
@@ -22,9 +22,8 @@ use Rattle.dispatch_core.specs.Values.IsValue.{Computes}
 use Rattle.dispatch_core.specs.Refusals.{IsCost, MayFinish}
 use Rattle.open_segments.specs.Entry.{entry}
 use Rattle.dispatch_core.specs.Sound.{IsSound, AreStarted, AreRunning, AreValues}
-use Rattle.open_segments.specs.declared.counters.Counters.{Counters}
-use Rattle.dispatch_core.specs.Sound.{TellFinished}
-use Rattle.open_segments.specs.UpToDate.{IsUpToDate}
+use Rattle.dispatch_core.specs.RecordedGraph.{RecordedGraph}
+use Rattle.dispatch_core.specs.Sound.{IsWaiting, TellFinished}
 use Rattle.open_segments.proofs.PlaceLemmas.{entry-set_same, entry-set_none, entry-set_other}
 use Rattle.open_segments.proofs.PlaceLemmas.{count_by-set, count_by_some_no}
 use Rattle.dispatch_core.proofs.Histories.{finished_kept, started_kept, finished_cases, started_was}
@@ -245,7 +244,7 @@ not_valued table history value_of values s are known unfinished =
     not_valued_at table history value_of values s (get_or values s None) are unfinished at
 
 -- a segment that is not finished has no value
-no_entry : (found : Option ℕ) → ((v : ℕ) → ¬ (found ≡ Some v)) → found ≡ None
+pub no_entry : (found : Option ℕ) → ((v : ℕ) → ¬ (found ≡ Some v)) → found ≡ None
 no_entry None none = refl
 no_entry (Some v) none = absurd (none v refl)
 
@@ -259,11 +258,11 @@ no_value table history value_of values s are unfinished =
 
 pub has_room_to_finish : (value_of : ℕ → ℕ → ℕ → ℕ) (table : Table) (history : List Event)
     (capacity : ℕ) (started : List Bool) (running : List (Option ℕ)) (values : List (Option ℕ))
-    (counters : Counters) (costs : List ℕ) (worker s : ℕ)
-    → IsSound value_of table history capacity started running values counters costs
+    (graph : RecordedGraph) (successors : List (List ℕ)) (counts : List ℕ) (worker s : ℕ)
+    → IsSound value_of table history capacity started running values graph successors counts
     → Runs history worker s
     → length history < capacity
-has_room_to_finish value_of table history capacity started running values counters costs worker s
+has_room_to_finish value_of table history capacity started running values graph successors counts worker s
     sound runs =
     let known = started_known table history worker s sound.legal runs.started in
     let off : slice_get values s ≡ Some None =
@@ -281,16 +280,17 @@ has_room_to_finish value_of table history capacity started running values counte
 pub sound_after_finish : (value_of : ℕ → ℕ → ℕ → ℕ) (table : Table) (history : List Event)
     (capacity later : ℕ) (started : List Bool) (running : List (Option ℕ))
     (values : List (Option ℕ))
-    (counters after : Counters) (costs : List ℕ) (worker : ℕ) (result : Computation) (value : ℕ)
-    → IsSound value_of table history capacity started running values counters costs
+    (graph : RecordedGraph) (successors : List (List ℕ)) (counts after : List ℕ)
+    (worker : ℕ) (result : Computation) (value : ℕ)
+    → IsSound value_of table history capacity started running values graph successors counts
     → MayFinish table history value_of worker result
     → value ≡ value_of result.segment result.cost result.input
-    → IsUpToDate table (slice_set values result.segment (Some value)) after
+    → IsWaiting table (slice_set values result.segment (Some value)) graph successors after
     → capacity ≤ later
     → IsSound value_of table (history ++ Finish worker result.segment ∷ []) later started
-    (slice_set running worker None) (slice_set values result.segment (Some value)) after costs
-sound_after_finish value_of table history capacity later started running values counters after costs
-    worker result value sound may is up_to_date more =
+    (slice_set running worker None) (slice_set values result.segment (Some value)) graph successors after
+sound_after_finish value_of table history capacity later started running values graph successors counts after
+    worker result value sound may is waits more =
     let finished : ℕ = result.segment in
     let known = started_known table history worker finished sound.legal may.runs.started in
     let off : slice_get values finished ≡ Some None =
@@ -304,8 +304,7 @@ sound_after_finish value_of table history capacity later started running values 
           sound.are_running may.runs;
       are_values = values_after_finish table history value_of values worker finished value known.1
           (computed_value table value_of history worker result value may is) sound.are_values;
-      up_to_date = up_to_date;
-      are_costs = sound.are_costs;
+      waits = waits;
       counted = omega (
         arith,
         sound.counted,
@@ -313,30 +312,6 @@ sound_after_finish value_of table history capacity later started running values 
         count_by-set is_some values finished (Some value) None off refl refl,
       );
       reserved = omega (arith, sound.reserved);
-    }
-
--- where the finish is refused, the record agrees with the same values
-pub sound_when_refused : (value_of : ℕ → ℕ → ℕ → ℕ) (table : Table) (history : List Event)
-    (capacity : ℕ) (started : List Bool) (running values later : List (Option ℕ))
-    (counters after : Counters) (costs : List ℕ)
-    → IsSound value_of table history capacity started running values counters costs
-    → later ≡ values
-    → IsUpToDate table later after
-    → IsSound value_of table history capacity started running later after costs
-sound_when_refused value_of table history capacity started running values later counters after costs
-    sound same up_to_date = record {
-      sound_table = sound.sound_table;
-      legal = sound.legal;
-      are_started = sound.are_started;
-      are_running = sound.are_running;
-      are_values = subst (λ (v : List (Option ℕ)). AreValues table history value_of v) (sym same)
-          sound.are_values;
-      up_to_date = up_to_date;
-      are_costs = sound.are_costs;
-      counted = subst
-          (λ (v : List (Option ℕ)). length history ≡ count_by (λ b. b) started + count_by is_some v)
-          (sym same) sound.counted;
-      reserved = sound.reserved;
     }
 
 -- the values after a finish

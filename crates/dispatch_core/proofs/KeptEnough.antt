@@ -1,31 +1,23 @@
--- What the counts show: when a segment becomes ready.
-use Rattle.std.proofs.Common.{ℕ, ◌-◌, ◌<◌, ◌≡◌, ◌⊎◌, ◌↔◌, suc, false, List, [], ◌∷◌, ◌++◌, Option}
-use Rattle.std.proofs.Common.{Some, None, length, get_or, refl, sym, ap, ◌∙◌, subst, arith, inl}
+-- When a segment becomes ready: what its kept predecessors show.
+use Rattle.std.proofs.Common.{ℕ, ◌-◌, ◌<◌, ◌≡◌, ◌⊎◌, suc, false, List, [], ◌∷◌, ◌++◌, Option}
+use Rattle.std.proofs.Common.{Some, None, length, refl, sym, ap, ◌∙◌, subst, arith, inl}
 use Rattle.std.proofs.Common.{inr}
-use Rattle.std.specs.Prelude.{slice_get, Contains, is_none}
-use Rattle.std.proofs.lemmas.Bool.{cases_eq, both_ways}
-use Rattle.std.proofs.lemmas.Option.{same_Some, slice_get-get_or}
-use Rattle.task_segments.specs.Table.{Table, segment}
-use Rattle.task_segments.specs.InPlace.{IsReadInPlace, IsOf}
+use Rattle.std.specs.Prelude.{slice_get, is_none}
+use Rattle.std.proofs.lemmas.Bool.{both_ways}
+use Rattle.std.proofs.lemmas.Option.{same_Some}
+use Rattle.task_segments.specs.Table.{Table}
 use Rattle.task_segments.specs.Precedence.{Continues, Creation, MustPrecede}
 use Rattle.task_segments.specs.Schedule.{IsChain}
 use Rattle.depend_table.specs.KeptEdges.{IsKeptEdge}
-use Rattle.depend_table.specs.Lists.{Lists}
-use Rattle.depend_table.proofs.Lists.{lists_same, cases_contains}
 use Rattle.dispatch_core.specs.declared.event.Event.{Event}
 use Rattle.dispatch_core.specs.declared.event.Event.TheVariants.{Finish}
-use Rattle.dispatch_core.specs.Run.{HasFinished, Runs, IsLegalRun, IsOpen, BecomesReady}
-use Rattle.open_segments.specs.declared.counters.Counters.{Counters}
-use Rattle.open_segments.specs.Counters.{AreKeptOf, GoesUp, HasValue, IsOpenBy, KeepsChains}
-use Rattle.open_segments.specs.Counters.{unfinished_count}
+use Rattle.dispatch_core.specs.Run.{HasFinished, Runs, IsLegalRun, BecomesReady}
+use Rattle.open_segments.specs.Counters.{GoesUp, KeepsChains}
 use Rattle.dispatch_core.specs.Sound.{TellFinished}
-use Rattle.open_segments.specs.NumberLists.{lists_of}
-use Rattle.open_segments.specs.UpToDate.{IsUpToDate, IsFreed}
 use Rattle.dispatch_core.proofs.Histories.{started_kept, finished_cases, started_was}
-use Rattle.dispatch_core.proofs.Histories.{started_before_finish, legal_push}
+use Rattle.dispatch_core.proofs.Histories.{started_before_finish}
 use Rattle.open_segments.specs.Entry.{entry}
 use Rattle.dispatch_core.proofs.FinishStep.{started_after_preds}
-use Rattle.open_segments.proofs.Falls.{none_left, all_counted}
 
 -- what must precede a finished segment is finished
 pub finished_before : (table : Table) (history : List Event) (s u : ℕ) → IsLegalRun table history
@@ -67,23 +59,6 @@ joined_finished table history R s t (x ∷ u ∷ rest) legal within all less lin
     subst (HasFinished history) (same_Some x s begins)
     (chain_finished table history R t legal within all x u rest linked
     (ap (λ (n : ℕ). slice_get (x ∷ u ∷ rest) n) (sym last) ∙ ends))
-
--- the earlier segments of the task of one that runs are finished
-pub earlier_finished : (table : Table) (history : List Event) (worker s t : ℕ)
-    → IsReadInPlace table
-    → IsLegalRun table history
-    → Runs history worker s
-    → s < length table.segments
-    → IsOf table (segment table s).task t
-    → t < s
-    → HasFinished history t
-earlier_finished table history worker s t facts legal runs known of_task less =
-    let joined = facts.between (segment table s).task t s of_task
-    (record { is_segment = known; of_task = refl }) less in
-    joined_finished table history (Continues table) t s joined.chain legal
-    (λ a b follows. inl follows)
-    (λ p follows. started_after_preds table history worker s legal runs.started p (inl follows))
-    less joined.linked joined.begins joined.ends
 
 -- where all its kept predecessors are finished, all that must precede it is
 pub kept_enough : (table : Table) (history : List Event) (t : ℕ)
@@ -146,7 +121,7 @@ kept_by_becomes table history worker s t proper chains legal (inr apart) becomes
           ]);
     }))
 
-entry_finished : (table : Table) (history : List Event) (values : List (Option ℕ)) (p : ℕ)
+pub entry_finished : (table : Table) (history : List Event) (values : List (Option ℕ)) (p : ℕ)
     (found : Option ℕ)
     → TellFinished (length table.segments) history values
     → entry values p ≡ found
@@ -157,182 +132,15 @@ entry_finished table history values p None are_values is some =
 entry_finished table history values p (Some value) are_values is some =
     are_values.is_finished p value is
 
-finished_entry : (table : Table) (history : List Event) (values : List (Option ℕ)) (p : ℕ)
+pub finished_entry : (table : Table) (history : List Event) (values : List (Option ℕ)) (p : ℕ)
     → TellFinished (length table.segments) history values
     → HasFinished history p
     → is_none (entry values p) ≡ false
 finished_entry table history values p are_values done =
     let value = are_values.has_value p done in ap (λ (o : Option ℕ). is_none o) value.1
 
--- the list that stands at an open segment is that of its kept predecessors
-pub kept_at : (table : Table) (is_open : ℕ → Type 0) (t : ℕ) (list : List ℕ)
-    → is_open t
-    → AreKeptOf table is_open t list
-    → Lists (λ p. IsKeptEdge table p t) list
-kept_at table is_open t list opened (inl here) = here.1
-kept_at table is_open t list opened (inr none) = absurd (none.0 opened)
-
-kept_with : (table : Table) (is_open : ℕ → Type 0) (t s : ℕ) (list : List ℕ)
-    → Contains list s
-    → AreKeptOf table is_open t list
-    → Lists (λ p. IsKeptEdge table p t) list
-kept_with table is_open t s list has (inl here) = here.1
-kept_with table is_open t s list has (inr none) =
-    let within = (subst (λ (l : List ℕ). Contains l s) none.1 has).1 in
-    absurd (omega (arith, within))
-
-pub has_value : (segments : ℕ) (history : List Event) (values : List (Option ℕ)) (s : ℕ)
-    → TellFinished segments history values
-    → HasFinished history s
-    → HasValue values s
-has_value segments history values s tell done =
-    let found = tell.has_value s done in record { value = found.0; is = found.1 }
-
--- open by the history is open by the values
-pub open_by_values : (table : Table) (history : List Event) (values : List (Option ℕ)) (t : ℕ)
-    → TellFinished (length table.segments) history values
-    → IsOpen table history t
-    → IsOpenBy table values t
-open_by_values table history values t tell (inl first) = inl first
-open_by_values table history values t tell (inr (p, by, done)) =
-    inr (p, by, has_value (length table.segments) history values p tell done)
-
 pub precedes_of : (table : Table) (p t : ℕ)
     → Continues table p t ⊎ Creation table p t
     → MustPrecede table p t
 precedes_of table p t (inl follows) = inl follows
 precedes_of table p t (inr creation) = inr (inl creation)
-
--- a segment is open where all that must precede it is finished
-pub open_after : (table : Table) (history : List Event) (values : List (Option ℕ)) (t : ℕ)
-    → GoesUp table
-    → TellFinished (length table.segments) history values
-    → t < length table.segments
-    → ((p : ℕ) → MustPrecede table p t → HasFinished history p)
-    → IsOpenBy table values t
-open_after table history values t up tell known all = elim (cases_eq t 0) [
-  | inl first ↦ inl first
-  | inr later ↦
-      let by = up.reached t (omega (arith, later)) known in
-      inr (
-        by.0,
-        by.1,
-        has_value (length table.segments) history values by.0 tell
-            (all by.0 (precedes_of table by.0 t by.1)),
-      )
-]
-
-pub opened_after : (table : Table) (history : List Event) (t : ℕ)
-    → GoesUp table
-    → t < length table.segments
-    → ((p : ℕ) → MustPrecede table p t → HasFinished history p)
-    → IsOpen table history t
-opened_after table history t up known all = elim (cases_eq t 0) [
-  | inl first ↦ inl first
-  | inr later ↦ let by = up.reached t (omega (arith, later)) known in
-      inr (by.0, by.1, all by.0 (precedes_of table by.0 t by.1))
-]
-
--- what has s among its recorded predecessors and none that is counted becomes ready by the finish
--- of s
-freed_becomes : (table : Table) (history : List Event) (values : List (Option ℕ))
-    (counters : Counters) (worker s t : ℕ)
-    → GoesUp table
-    → KeepsChains table
-    → IsLegalRun table history
-    → Runs history worker s
-    → TellFinished (length table.segments) (history ++ Finish worker s ∷ []) values
-    → IsUpToDate table values counters
-    → IsFreed s counters t
-    → BecomesReady table history (history ++ Finish worker s ∷ []) t
-freed_becomes table history values counters worker s t up chains legal runs tell state freed =
-    let list : List ℕ = freed.0.list in
-    let lists = kept_with table (IsOpenBy table values) t s list freed.0.has
-    (state.kept.lists t list freed.0.is_list) in
-    let edge : IsKeptEdge table s t = (lists.each s).0 freed.0.has in
-    let none : unfinished_count values list ≡ 0 = same_Some (unfinished_count values list) 0
-    (sym (state.counts.counted t list freed.0.is_list) ∙ freed.1) in
-    becomes_by_kept table history worker s t up chains legal
-    (legal_push table history (Finish worker s) legal runs) runs edge
-    (up.within s t (chains.within s t edge))
-    (λ p kept. entry_finished table (history ++ Finish worker s ∷ []) values p (entry values p) tell
-    refl (none_left values list none p ((lists.each p).1 kept)))
-
-becomes_freed : (table : Table) (history : List Event) (values : List (Option ℕ))
-    (counters : Counters) (worker s t : ℕ)
-    → GoesUp table
-    → KeepsChains table
-    → IsLegalRun table history
-    → TellFinished (length table.segments) (history ++ Finish worker s ∷ []) values
-    → IsUpToDate table values counters
-    → BecomesReady table history (history ++ Finish worker s ∷ []) t
-    → IsFreed s counters t
-becomes_freed table history values counters worker s t up chains legal tell state becomes =
-    let preds : List (List ℕ) = lists_of counters.preds.items in
-    let known : t < length preds =
-    let is_known = becomes.is_now.known in let each = state.kept.each in
-    omega (arith, is_known, each) in
-    let list : List ℕ = get_or preds t [] in
-    let there : slice_get preds t ≡ Some list = slice_get-get_or preds t [] known in
-    let opened = open_after table (history ++ Finish worker s ∷ []) values t up tell
-    becomes.is_now.known becomes.is_now.after in
-    let lists =
-    kept_at table (IsOpenBy table values) t list opened (state.kept.lists t list there) in
-    let decided : IsKeptEdge table s t ⊎ ¬ IsKeptEdge table s t = elim (cases_contains list s) [
-      | inl has ↦ inl ((lists.each s).0 has)
-      | inr absent ↦ inr (λ edge. absent ((lists.each s).1 edge))
-    ] in
-    let kept = kept_by_becomes table history worker s t up chains legal decided becomes in
-    let none = all_counted values list (λ p has. finished_entry table
-    (history ++ Finish worker s ∷ []) values p tell (kept.1 p ((lists.each p).0 has))) in (
-      record { list = list; is_list = there; has = (lists.each s).1 kept.0 },
-      state.counts.counted t list there ∙ ap (λ (n : ℕ). Some n) none,
-    )
-
-pub newly_listed : (table : Table) (history : List Event) (values : List (Option ℕ))
-    (counters : Counters) (worker s : ℕ) (ready : List ℕ)
-    → GoesUp table
-    → KeepsChains table
-    → IsLegalRun table history
-    → Runs history worker s
-    → TellFinished (length table.segments) (history ++ Finish worker s ∷ []) values
-    → IsUpToDate table values counters
-    → Lists (IsFreed s counters) ready
-    → Lists (BecomesReady table history (history ++ Finish worker s ∷ [])) ready
-newly_listed table history values counters worker s ready up chains legal runs tell state lists =
-    lists_same (IsFreed s counters) (BecomesReady table history (history ++ Finish worker s ∷ []))
-    ready lists
-    (λ t freed.
-    freed_becomes table history values counters worker s t up chains legal runs tell state freed)
-    (λ t becomes.
-    becomes_freed table history values counters worker s t up chains legal tell state becomes)
-
--- of an open segment, a count of 0 says that all that must precede it is finished
-pub none_counted : (table : Table) (history : List Event) (values : List (Option ℕ))
-    (counters : Counters) (t : ℕ)
-    → GoesUp table
-    → KeepsChains table
-    → IsLegalRun table history
-    → TellFinished (length table.segments) history values
-    → IsUpToDate table values counters
-    → t < length table.segments
-    → IsOpen table history t
-    → (slice_get counters.counts.items t ≡ Some 0)
-    ↔ ((p : ℕ) → MustPrecede table p t → HasFinished history p)
-none_counted table history values counters t up chains legal tell state known opened =
-    let preds : List (List ℕ) = lists_of counters.preds.items in
-    let list : List ℕ = get_or preds t [] in
-    let there : slice_get preds t ≡ Some list =
-    slice_get-get_or preds t [] (let each = state.kept.each in omega (arith, known, each)) in
-    let lists = kept_at table (IsOpenBy table values) t list
-    (open_by_values table history values t tell opened) (state.kept.lists t list there) in (
-      λ is.
-          let none : unfinished_count values list ≡ 0 = same_Some (unfinished_count values list) 0
-          (sym (state.counts.counted t list there) ∙ is) in
-          kept_enough table history t up chains legal (λ p edge. entry_finished table history values
-          p (entry values p) tell refl (none_left values list none p ((lists.each p).1 edge))),
-      λ all.
-          let none = all_counted values list (λ p has. finished_entry table history values p tell
-          (all p (chains.within p t ((lists.each p).0 has)))) in
-          state.counts.counted t list there ∙ ap (λ (n : ℕ). Some n) none,
-    )

@@ -18,3 +18,5 @@ pub mod FirstRefused
 pub use Rattle.open_segments.proofs.Ascending
 pub use Rattle.open_segments.proofs.ListLemmas
 pub mod Following
+pub mod Unfinished
+pub mod Freed

@@ -1,7 +1,7 @@
 -- What a core's lists say of its history.
 use Rattle.std.proofs.Common.{ℕ, ◌<◌, ◌≡◌, ◌%◌, ◌^◌, ◌↔◌, List, Option, Some, None, refl, sym, ◌∙◌}
 use Rattle.std.proofs.Common.{subst, length, sum_by}
-use Rattle.std.specs.Prelude.{slice_get, MatchOption, unwrap_or, is_some, IsTrue}
+use Rattle.std.specs.Prelude.{MatchOption, unwrap_or, is_some, IsTrue}
 use Rattle.std.proofs.lemmas.Option.{none-some}
 use Rattle.task_segments.specs.Table.{Table}
 use Rattle.task_segments.specs.Precedence.{MustPrecede}
@@ -11,11 +11,8 @@ use Rattle.dispatch_core.specs.Values.{IsValue, IsInput}
 use Rattle.open_segments.specs.Facts.{IsSoundTable}
 use Rattle.open_segments.specs.Entry.{entry}
 use Rattle.dispatch_core.specs.Sound.{AreRunning, AreValues}
-use Rattle.open_segments.specs.declared.counters.Counters.{Counters}
-use Rattle.open_segments.specs.Counters.{IsOpenBy}
-use Rattle.open_segments.specs.NumberLists.{lists_of}
-use Rattle.open_segments.specs.UpToDate.{IsUpToDate}
-use Rattle.dispatch_core.proofs.KeptEnough.{kept_at, open_after}
+use Rattle.dispatch_core.specs.Graph.{IsGraphOf}
+use Rattle.dispatch_core.specs.RecordedGraph.{RecordedGraph, predecessors_of}
 
 pub value_known : (table : Table) (history : List Event) (value_of : ℕ → ℕ → ℕ → ℕ)
     (values : List (Option ℕ)) (s : ℕ) (found : Option ℕ)
@@ -59,22 +56,19 @@ value_at table history value_of values s are finished =
     (are.is_value s found.0 found.1)
 
 pub input_known : (table : Table) (history : List Event) (value_of : ℕ → ℕ → ℕ → ℕ)
-    (values : List (Option ℕ)) (counters : Counters) (s : ℕ) (list : List ℕ)
+    (values : List (Option ℕ)) (graph : RecordedGraph) (s : ℕ)
     → IsSoundTable table
     → AreValues table history value_of values
-    → IsUpToDate table values counters
+    → IsGraphOf table graph
     → s < length table.segments
     → ((pred : ℕ) → MustPrecede table pred s → HasFinished history pred)
-    → slice_get (lists_of counters.preds.items) s ≡ Some list
     → (input : ℕ)
-    → input ≡ sum_by (λ at. unwrap_or (entry values at) 0) list % 2 ^ 64
+    → input ≡ sum_by (λ at. unwrap_or (entry values at) 0) (predecessors_of graph s) % 2 ^ 64
     → IsInput table value_of s input
-input_known table history value_of values counters s list sound are_values state known after is
-    input sums =
-    let opened = open_after table history values s sound.goes_up are_values.tell known after in
-    record {
-      preds = list;
-      are_preds = kept_at table (IsOpenBy table values) s list opened (state.kept.lists s list is);
+input_known table history value_of values graph s sound are_values of known after input
+    sums = record {
+      preds = predecessors_of graph s;
+      are_preds = of.predecessors s known;
       values = λ at. unwrap_or (entry values at) 0;
       are_values = λ pred kept. value_at table history value_of values pred are_values
           (after pred (sound.chains.within pred s kept));

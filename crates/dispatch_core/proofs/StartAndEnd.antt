@@ -4,7 +4,6 @@ use Rattle.std.proofs.Common.{[], ◌∷◌, Option, None, length, refl, sym, ap
 use Rattle.std.proofs.Common.{inl, inr, sum, sum_by, cond, get_or}
 use Rattle.std.specs.Prelude.{All}
 use Rattle.std.proofs.lemmas.List.Sums.{sum_by-le}
-use Rattle.std.proofs.lemmas.Option.{slice_get-get_or}
 use Rattle.open_segments.proofs.Ascending.{length_below, Lists-same}
 use Rattle.std.specs.Prelude.{replicate, Contains, is_some}
 use Rattle.std.proofs.lemmas.Bool.{cases_lt, both_ways}
@@ -17,17 +16,12 @@ use Rattle.task_segments.specs.declared.table.Segment.{Segment}
 use Rattle.task_segments.specs.Precedence.{Continues, Creation}
 use Rattle.dispatch_core.specs.declared.event.TheConstants.{MOST_WORKERS}
 use Rattle.dispatch_core.specs.declared.event.Event.{Event}
-use Rattle.dispatch_core.specs.Run.{HasStarted, HasFinished, Runs, IsFinished, IsOpen}
+use Rattle.dispatch_core.specs.Run.{HasStarted, HasFinished, Runs, IsOpen}
 use Rattle.open_segments.specs.Facts.{IsSoundTable}
-use Rattle.dispatch_core.specs.Sound.{IsSound}
-use Rattle.open_segments.specs.declared.counters.Counters.{Counters}
-use Rattle.open_segments.specs.Counters.{GoesUp, IsOpenBy}
-use Rattle.dispatch_core.specs.Sound.{TellFinished}
+use Rattle.dispatch_core.specs.Sound.{IsSound, IsWaiting}
 use Rattle.depend_table.specs.KeptEdges.{IsKeptEdge}
 use Rattle.open_segments.specs.KeptLists.{AreFirstLists}
-use Rattle.open_segments.specs.NumberLists.{lists_of}
-use Rattle.open_segments.specs.UpToDate.{IsUpToDate}
-use Rattle.dispatch_core.proofs.KeptEnough.{kept_at, open_after, precedes_of}
+use Rattle.dispatch_core.proofs.KeptEnough.{precedes_of}
 use Rattle.dispatch_core.specs.RecordedGraph.{RecordedGraph, IsGraph, Precedes, predecessors_of}
 use Rattle.dispatch_core.specs.Graph.{IsGraphOf}
 use Rattle.open_segments.proofs.AtFirst.{entry-replicate}
@@ -42,13 +36,14 @@ nothing_finished s h = let within = h.finished.1 in absurd (omega arith)
 nothing_runs : (worker s : ℕ) → ¬ Runs [] worker s
 nothing_runs worker s h = let within = h.started.1 in absurd (omega arith)
 
-pub sound_at_start : (value_of : ℕ → ℕ → ℕ → ℕ) (table : Table) (capacity : ℕ) (counters : Counters)
+pub sound_at_start : (value_of : ℕ → ℕ → ℕ → ℕ) (table : Table) (capacity : ℕ)
+    (graph : RecordedGraph) (successors : List (List ℕ)) (counts : List ℕ)
     → IsSoundTable table
     → 2 * length table.segments ≤ capacity
-    → IsUpToDate table (replicate (length table.segments) None) counters
+    → IsWaiting table (replicate (length table.segments) None) graph successors counts
     → IsSound value_of table [] capacity (replicate (length table.segments) false)
-    (replicate MOST_WORKERS None) (replicate (length table.segments) None) counters (costs_of table)
-sound_at_start value_of table capacity counters sound room state = record {
+    (replicate MOST_WORKERS None) (replicate (length table.segments) None) graph successors counts
+sound_at_start value_of table capacity graph successors counts sound room state = record {
   sound_table = sound;
   legal = λ k event h. absurd (none-some event h);
   are_started = record {
@@ -70,8 +65,7 @@ sound_at_start value_of table capacity counters sound room state = record {
     };
     is_value = λ s v h. absurd (entry-replicate (length table.segments) v s h);
   };
-  up_to_date = state;
-  are_costs = refl;
+  waits = state;
   counted = omega (
     arith,
     sum_by-replicate (λ (b : Bool). cond {A = ℕ} b 1 0) (length table.segments) false,
@@ -82,64 +76,40 @@ sound_at_start value_of table capacity counters sound room state = record {
 }
 
 pub sound_first : (value_of : ℕ → ℕ → ℕ → ℕ) (table : Table) (capacity : ℕ) (history : List Event)
-    (started : List Bool) (running values : List (Option ℕ)) (counters : Counters) (costs : List ℕ)
+    (started : List Bool) (running values : List (Option ℕ)) (graph : RecordedGraph)
+    (successors : List (List ℕ)) (counts : List ℕ)
     → IsSoundTable table
     → 2 * length table.segments ≤ capacity
     → history ≡ []
     → started ≡ replicate (length table.segments) false
     → running ≡ replicate MOST_WORKERS None
     → values ≡ replicate (length table.segments) None
-    → IsUpToDate table (replicate (length table.segments) None) counters
-    → costs ≡ costs_of table
-    → IsSound value_of table history capacity started running values counters costs
-sound_first value_of table capacity history started running values counters costs sound room h s r v
-    state c =
-    subst
-    (λ (x : List Event). IsSound value_of table x capacity started running values counters costs)
+    → IsWaiting table (replicate (length table.segments) None) graph successors counts
+    → IsSound value_of table history capacity started running values graph successors counts
+sound_first value_of table capacity history started running values graph successors counts sound
+    room h s r v state =
+    subst (λ (x : List Event). IsSound value_of table x capacity started running values graph
+    successors counts)
     (sym h)
-    (subst (λ (x : List Bool). IsSound value_of table [] capacity x running values counters costs)
+    (subst (λ (x : List Bool). IsSound value_of table [] capacity x running values graph successors
+    counts)
     (sym s)
     (subst
     (λ (x : List (Option ℕ)). IsSound value_of table [] capacity
-    (replicate (length table.segments) false) x values counters costs)
+    (replicate (length table.segments) false) x values graph successors counts)
     (sym r)
     (subst
     (λ (x : List (Option ℕ)). IsSound value_of table [] capacity
-    (replicate (length table.segments) false) (replicate MOST_WORKERS None) x counters costs)
+    (replicate (length table.segments) false) (replicate MOST_WORKERS None) x graph successors
+    counts)
     (sym v)
-    (subst
-    (λ (x : List ℕ). IsSound value_of table [] capacity (replicate (length table.segments) false)
-    (replicate MOST_WORKERS None) (replicate (length table.segments) None) counters x)
-    (sym c)
-    (sound_at_start value_of table capacity counters sound room state)))))
+    (sound_at_start value_of table capacity graph successors counts sound room state))))
 
 pub open_known : (table : Table) (history : List Event) (s : ℕ) → IsSoundTable table
     → IsOpen table history s → s < length table.segments
 open_known table history s sound (inl first) = let some = sound.some_segment in omega arith
 open_known table history s sound (inr (p, edge, done)) =
     sound.goes_up.within p s (precedes_of table p s edge)
-
--- when every segment is finished, all are open
-pub graph_at_end : (table : Table) (history : List Event) (values : List (Option ℕ))
-    (counters : Counters) (costs : List ℕ)
-    → GoesUp table
-    → TellFinished (length table.segments) history values
-    → IsFinished table history
-    → IsUpToDate table values counters
-    → costs ≡ costs_of table
-    → IsGraphOf table (record { costs = costs; predecessors = lists_of counters.preds.items })
-graph_at_end table history values counters costs up tell finished state same = record {
-  costs = same;
-  each = state.kept.each;
-  predecessors = λ t known.
-      let preds : List (List ℕ) = lists_of counters.preds.items in
-      let there =
-      slice_get-get_or preds t [] (let each = state.kept.each in omega (arith, known, each)) in
-      let opened = open_after table history values t up tell known
-      (λ p edge. finished p (let less = up.ascending p t edge in omega (arith, less, known))) in
-      kept_at table (IsOpenBy table values) t (get_or preds t []) opened
-      (state.kept.lists t (get_or preds t []) there);
-}
 
 -- a segment past the last has no predecessors
 pub no_more : (graph : RecordedGraph) (t s : ℕ)

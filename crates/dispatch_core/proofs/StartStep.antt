@@ -12,8 +12,8 @@ use Rattle.task_segments.specs.Table.{Table}
 use Rattle.dispatch_core.specs.declared.event.Event.{Event}
 use Rattle.dispatch_core.specs.declared.event.Event.TheVariants.{Start}
 use Rattle.dispatch_core.specs.Run.{HasStarted, HasFinished, Runs, MayStart, IsLegalRun}
-use Rattle.open_segments.specs.declared.counters.Counters.{Counters}
 use Rattle.open_segments.specs.Entry.{entry}
+use Rattle.dispatch_core.specs.RecordedGraph.{RecordedGraph}
 use Rattle.dispatch_core.specs.Sound.{IsSound, AreStarted, AreRunning, AreValues}
 use Rattle.open_segments.proofs.PlaceLemmas.{get-set_same, get-set_other, entry-set_same}
 use Rattle.open_segments.proofs.PlaceLemmas.{entry-set_other, count_by-set, count_by_some_no}
@@ -122,12 +122,12 @@ values_after table history value_of values worker s are = record {
 
 pub has_room : (value_of : ℕ → ℕ → ℕ → ℕ) (table : Table) (history : List Event) (capacity : ℕ)
     (started : List Bool) (running : List (Option ℕ)) (values : List (Option ℕ))
-    (counters : Counters) (costs : List ℕ) (s : ℕ)
-    → IsSound value_of table history capacity started running values counters costs
+    (graph : RecordedGraph) (successors : List (List ℕ)) (counts : List ℕ) (s : ℕ)
+    → IsSound value_of table history capacity started running values graph successors counts
     → s < length table.segments
     → ¬ HasStarted history s
     → length history < capacity
-has_room value_of table history capacity started running values counters costs s sound known
+has_room value_of table history capacity started running values graph successors counts s sound known
     not_started =
     let off : slice_get started s ≡ Some false =
     not_flagged table history started s sound.are_started known not_started in
@@ -144,13 +144,13 @@ has_room value_of table history capacity started running values counters costs s
 pub sound_after_start : (value_of : ℕ → ℕ → ℕ → ℕ) (table : Table) (history : List Event)
     (capacity later : ℕ) (started : List Bool) (running : List (Option ℕ))
     (values : List (Option ℕ))
-    (counters : Counters) (costs : List ℕ) (worker s : ℕ)
-    → IsSound value_of table history capacity started running values counters costs
+    (graph : RecordedGraph) (successors : List (List ℕ)) (counts : List ℕ) (worker s : ℕ)
+    → IsSound value_of table history capacity started running values graph successors counts
     → MayStart table history worker s
     → capacity ≤ later
     → IsSound value_of table (history ++ Start worker s ∷ []) later (slice_set started s true)
-    (slice_set running worker (Some s)) values counters costs
-sound_after_start value_of table history capacity later started running values counters costs worker
+    (slice_set running worker (Some s)) values graph successors counts
+sound_after_start value_of table history capacity later started running values graph successors counts worker
     s sound may more =
     let off : slice_get started s ≡ Some false =
     not_flagged table history started s sound.are_started may.ready.known may.ready.not_started in
@@ -161,8 +161,7 @@ sound_after_start value_of table history capacity later started running values c
           may.ready.not_started;
       are_running = running_after table history running worker s sound.legal sound.are_running may;
       are_values = values_after table history value_of values worker s sound.are_values;
-      up_to_date = sound.up_to_date;
-      are_costs = sound.are_costs;
+      waits = sound.waits;
       counted = omega (
         arith,
         sound.counted,

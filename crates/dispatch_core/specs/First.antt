@@ -1,9 +1,9 @@
 -- Carried out: what a core keeps at the start of a run.
 use Rattle.std.specs.Prelude.{◌*◌, ◌≤◌, ◌≡◌, false, None, [], length, replicate, vec_capacity}
-use Rattle.task_segments.specs.Table.{Table, costs_of}
+use Rattle.task_segments.specs.Table.{Table}
 use Rattle.dispatch_core.specs.declared.event.TheConstants.{MOST_WORKERS}
 use Rattle.dispatch_core.specs.declared.run_state.RunState.{RunState}
-use Rattle.open_segments.specs.UpToDate.{IsUpToDate}
+use Rattle.dispatch_core.specs.Sound.{IsWaiting}
 
 pub record AreFirst (table : Table) (state : RunState) : Type 0 where
   pub history : state.history.items ≡ []
@@ -11,5 +11,5 @@ pub record AreFirst (table : Table) (state : RunState) : Type 0 where
   pub started : state.started.items ≡ replicate (length table.segments) false
   pub running : state.running.items ≡ replicate MOST_WORKERS None
   pub values : state.values.items ≡ replicate (length table.segments) None
-  pub up_to_date : IsUpToDate table (replicate (length table.segments) None) state.counters
-  pub costs : state.costs.items ≡ costs_of table
+  pub waits : IsWaiting table (replicate (length table.segments) None) state.graph state.successors
+      state.counts.items

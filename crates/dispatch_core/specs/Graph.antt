@@ -1,13 +1,10 @@
 -- The graph of a program: its segments' costs, and the kept edges.
-use Rattle.std.specs.Prelude.{ℕ, ◌<◌, ◌≡◌, List, length}
+use Rattle.std.specs.Prelude.{ℕ, ◌<◌, ◌≡◌, length}
 use Rattle.task_segments.specs.Table.{Table, costs_of}
 use Rattle.depend_table.specs.KeptEdges.{IsKeptEdge}
 use Rattle.depend_table.specs.Lists.{Lists}
 use Rattle.dispatch_core.specs.RecordedGraph.{RecordedGraph, predecessors_of}
 use Rattle.dispatch_core.specs.declared.graph.Graph.TheInside.{Inside}
-use Rattle.dispatch_core.specs.declared.graph.Predecessors.{Predecessors}
-use Rattle.dispatch_core.specs.declared.graph.Predecessors.TheVariants.{Flat, Apart}
-use Rattle.open_segments.specs.NumberLists.{lists_of}
 
 -- it has the costs of the program's segments, and of each segment the kept predecessors
 pub record IsGraphOf (table : Table) (graph : RecordedGraph) : Type 0 where
@@ -17,12 +14,7 @@ pub record IsGraphOf (table : Table) (graph : RecordedGraph) : Type 0 where
       → t < length table.segments
       → Lists (λ s. IsKeptEdge table s t) (predecessors_of graph t)
 
--- the lists of predecessors, in whichever form they are kept
-abbrev pub predecessors_in : Predecessors → List (List ℕ)
-predecessors_in (Flat lists) = lists
-predecessors_in (Apart lists) = lists_of lists.items
-
 -- the graph that a graph's fields stand for
 abbrev pub graph_of_fields : Inside → RecordedGraph
 graph_of_fields
-    a = record { costs = a.costs.items; predecessors = predecessors_in a.predecessors }
+    a = record { costs = a.costs.items; predecessors = a.predecessors }

@@ -1,14 +1,16 @@
 -- Carried out: what a core keeps besides its history.
 use Rattle.std.specs.Prelude.{ℕ, ◌+◌, ◌*◌, ◌≤◌, ◌≡◌, Bool, true, List, Option, Some, length}
 use Rattle.std.specs.Prelude.{slice_get, count_by, is_some}
-use Rattle.task_segments.specs.Table.{Table, costs_of}
+use Rattle.task_segments.specs.Table.{Table}
 use Rattle.dispatch_core.specs.declared.event.TheConstants.{MOST_WORKERS}
 use Rattle.dispatch_core.specs.declared.event.Event.{Event}
-use Rattle.open_segments.specs.declared.counters.Counters.{Counters}
-use Rattle.open_segments.specs.UpToDate.{IsUpToDate}
+use Rattle.open_segments.specs.Counters.{AreCounts}
 use Rattle.open_segments.specs.Entry.{entry}
 use Rattle.open_segments.specs.Facts.{IsSoundTable}
+use Rattle.dispatch_core.specs.Graph.{IsGraphOf}
+use Rattle.dispatch_core.specs.RecordedGraph.{RecordedGraph}
 use Rattle.dispatch_core.specs.Run.{HasFinished, HasStarted, Runs, IsLegalRun}
+use Rattle.dispatch_core.specs.Successors.{AreSuccessors}
 use Rattle.dispatch_core.specs.Values.{IsValue}
 
 -- each of as many segments has a value exactly where it is finished
@@ -37,16 +39,25 @@ pub record AreValues (table : Table) (history : List Event) (value_of : ℕ → 
   pub tell : TellFinished (length table.segments) history values
   pub is_value : (s value : ℕ) → entry values s ≡ Some value → IsValue table value_of s value
 
+-- the graph of the table, the successors of each segment, and for each segment how many of its
+-- predecessors are not finished
+pub record IsWaiting (table : Table) (values : List (Option ℕ)) (graph : RecordedGraph)
+    (successors : List (List ℕ)) (counts : List ℕ)
+    : Type 0 where
+  pub of_table : IsGraphOf table graph
+  pub followed : AreSuccessors graph successors
+  pub counted : AreCounts values graph.predecessors counts
+
 pub record IsSound (value_of : ℕ → ℕ → ℕ → ℕ) (table : Table) (history : List Event) (capacity : ℕ)
     (started : List Bool)
-    (running : List (Option ℕ)) (values : List (Option ℕ)) (counters : Counters) (costs : List ℕ)
+    (running : List (Option ℕ)) (values : List (Option ℕ)) (graph : RecordedGraph)
+    (successors : List (List ℕ)) (counts : List ℕ)
     : Type 0 where
   pub sound_table : IsSoundTable table
   pub legal : IsLegalRun table history
   pub are_started : AreStarted table history started
   pub are_running : AreRunning history running
   pub are_values : AreValues table history value_of values
-  pub up_to_date : IsUpToDate table values counters
-  pub are_costs : costs ≡ costs_of table
+  pub waits : IsWaiting table values graph successors counts
   pub counted : length history ≡ count_by (λ b. b) started + count_by is_some values
   pub reserved : 2 * length table.segments ≤ capacity

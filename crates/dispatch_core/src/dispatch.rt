@@ -14,11 +14,12 @@ ghost use Rattle.dispatch_core.specs.Refusals.{IsFirstUnfinished};
 ghost use Rattle.dispatch_core.specs.Graph.{IsGraphOf};
 
 use crate::event::{Event, FinishKind, FinishRefusal, MOST_WORKERS, StartRefusal};
-use crate::graph::{Graph, Predecessors, make_graph};
+use crate::graph::Graph;
 use crate::kernel::{Kernel, SegResult};
 use crate::run_state::{first_state, flag, sum_at, worker_entry};
-use open_segments::counters::Counters;
+use crate::waiting::{freed, lower, waits_for};
 use open_segments::entries::value_entry;
+use open_segments::flat_lists::FlatLists;
 use open_segments::opener::opener;
 use open_segments::picked::push_if;
 use std::alloc::Global;
@@ -40,8 +41,12 @@ pub struct BoundedCore<K: Kernel, const SEGMENTS: u32, const TASKS: u32> {
     started: Vec<bool>,
     running: Vec<Option<u32>>,
     values: Vec<Option<u64>>,
-    counters: Counters,
-    costs: Vec<u64>,
+    // The costs and the kept predecessors of all segments, open or not.
+    graph: Graph,
+    // For each segment those that it is a kept predecessor of.
+    successors: FlatLists,
+    // How many of each segment's kept predecessors are not finished.
+    counts: Vec<u32>,
     by: PhantomData<K>,
 }
 
@@ -58,7 +63,7 @@ impl<K: Kernel, const SEGMENTS: u32, const TASKS: u32> Model for BoundedCore<K, 
     ghost view = { λ a. record { table = a.table; history = a.history.items } };
 
     ghost invariant = { λ a. IsSound K.value_of a.table a.history.items (vec_capacity a.history)
-        a.started.items a.running.items a.values.items a.counters a.costs.items };
+        a.started.items a.running.items a.values.items a.graph a.successors a.counts.items };
 }
 
 impl<K: Kernel, const SEGMENTS: u32, const TASKS: u32> BoundedCore<K, SEGMENTS, TASKS> {
@@ -81,8 +86,9 @@ impl<K: Kernel, const SEGMENTS: u32, const TASKS: u32> BoundedCore<K, SEGMENTS, 
                     started: state.started,
                     running: state.running,
                     values: state.values,
-                    counters: state.counters,
-                    costs: state.costs,
+                    graph: state.graph,
+                    successors: state.successors,
+                    counts: state.counts,
                     by: PhantomData,
                 })
             }
@@ -137,7 +143,7 @@ impl<K: Kernel, const SEGMENTS: u32, const TASKS: u32> BoundedCore<K, SEGMENTS, 
         if !self.is_open(segment) {
             return None;
         }
-        Some(self.counters.preds(segment))
+        Some(self.graph.preds(segment))
     }
 
     fn is_open(&self, segment: u32) -> bool
@@ -162,9 +168,7 @@ impl<K: Kernel, const SEGMENTS: u32, const TASKS: u32> BoundedCore<K, SEGMENTS, 
         if !self.is_finished() {
             return Err(BoundedUnfinished { core: self });
         }
-        let predecessors = Predecessors::Apart(self.counters.into_preds());
-        let graph = make_graph(self.costs, predecessors);
-        Ok((self.history, graph))
+        Ok((self.history, self.graph))
     }
 
     /// The program's graph, exactly where every segment is finished. If not, the core comes back.
@@ -304,18 +308,15 @@ impl<K: Kernel, const SEGMENTS: u32, const TASKS: u32> BoundedCore<K, SEGMENTS, 
         None
     }
 
-    /// Whether all that must precede the segment is finished: then it is open, and none of its kept
-    /// predecessors is counted.
+    /// Whether all that must precede the segment is finished: then none of its kept predecessors is
+    /// counted.
     fn is_free(&self, segment: u32) -> bool
         requires { segment < length self.now.table.segments }
         ensures { IsTrue result
             ↔ ((pred : ℕ) → MustPrecede self.now.table pred segment
             → HasFinished self.now.history pred) }
     {
-        if self.counters.count(segment) > 0 {
-            return false;
-        }
-        self.is_open(segment)
+        waits_for(self.counts.as_slice(), segment, 0)
     }
 
     /// The sum of the values of the segment's kept predecessors.
@@ -325,7 +326,7 @@ impl<K: Kernel, const SEGMENTS: u32, const TASKS: u32> BoundedCore<K, SEGMENTS, 
             → HasFinished self.now.history pred }
         ensures { IsInput self.now.table K.value_of segment result }
     {
-        sum_at(self.counters.preds(segment), self.values.as_slice())
+        sum_at(self.graph.preds(segment), self.values.as_slice())
     }
 
     fn enter_start(&mut self, worker: u32, segment: u32)
@@ -420,7 +421,7 @@ impl<K: Kernel, const SEGMENTS: u32, const TASKS: u32> BoundedCore<K, SEGMENTS, 
         Ok(())
     }
 
-    /// Enters a finish, and answers the segments that become ready by it. All allocations come before
+    /// Enters a finish, and answers the segments that become ready by it. The allocations come before
     /// the first change.
     fn enter_finish(&mut self, worker: u32, outcome: &SegResult<K>) -> Result<Vec<u32>, AllocFault>
         requires { MayFinish self.old.table self.old.history K.value_of worker outcome.now }
@@ -437,9 +438,13 @@ impl<K: Kernel, const SEGMENTS: u32, const TASKS: u32> BoundedCore<K, SEGMENTS, 
     {
         let segment = outcome.segment();
         let value = outcome.value();
-        let ready = self
-            .counters
-            .finish(self.alloc, &self.table, &mut self.values, segment, value)?;
+        let ready = freed(
+            self.alloc,
+            self.counts.as_slice(),
+            self.successors.list(segment),
+        )?;
+        self.values[segment as usize] = Some(value);
+        lower(&mut self.counts, self.successors.list(segment));
         self.running[worker as usize] = None;
         self.history
             .push_reserved(Event::Finish { worker, segment });

@@ -1,11 +1,11 @@
 //! Recorded graphs: segments with costs, each with its predecessors.
 ghost use Rattle.std.specs.Prelude.{◌≡◌, ◌<◌, ◌≤◌, length, sum, sum_by};
 ghost use Rattle.std.specs.Prelude.{slice_index_or, IfOk};
+ghost use Rattle.task_segments.specs.Table.{costs_of};
 ghost use Rattle.program_text.specs.declared.limits.TheConstants.{MOST_WORK};
-ghost use Rattle.dispatch_core.specs.Graph.{IsGraphOf, predecessors_in};
+ghost use Rattle.dispatch_core.specs.Graph.{IsGraphOf};
 ghost use Rattle.dispatch_core.specs.RecordedGraph.{RecordedGraph, IsGraph, predecessors_of};
 
-use crate::run_state::costs;
 use open_segments::flat_lists::FlatLists;
 use open_segments::predecessors::all_predecessors;
 use std::alloc::Global;
@@ -18,15 +18,7 @@ use task_segments::table::BoundedTable;
 #[derive(Drop)]
 pub struct Graph {
     costs: Vec<u64>,
-    predecessors: Predecessors,
-}
-
-/// For each segment its predecessors: made one after another, or as a run leaves them, which records
-/// them as segments open.
-#[derive(Drop)]
-pub(crate) enum Predecessors {
-    Flat(FlatLists),
-    Apart(Vec<Vec<u32>>),
+    predecessors: FlatLists,
 }
 
 impl Model for Graph {
@@ -50,19 +42,28 @@ pub fn graph_of<const SEGMENTS: u32, const TASKS: u32>(
 {
     open_segments::laws::serves_runs(table);
     let costs = costs(alloc, table)?;
-    let lists = all_predecessors(alloc, table)?;
-    let predecessors = Predecessors::Flat(lists);
+    let predecessors = all_predecessors(alloc, table)?;
     Ok(make_graph(costs, predecessors))
 }
 
+/// The costs of a program's segments.
+fn costs<const SEGMENTS: u32, const TASKS: u32>(
+    alloc: Global,
+    table: &BoundedTable<SEGMENTS, TASKS>,
+) -> Result<Vec<u64>, AllocFault>
+    ensures { IfOk result (λ list. list.items ≡ costs_of table.now) }
+{
+    let mut list = Vec::with_capacity(alloc, table.len() as usize)?;
+    for segment in 0..table.len() {
+        list.push(table.cost(segment))?;
+    }
+    Ok(list)
+}
+
 /// The graph with these costs and predecessors.
-pub(crate) fn make_graph(costs: Vec<u64>, predecessors: Predecessors) -> Graph
-    requires { IsGraph (record {
-      costs = costs.items;
-      predecessors = predecessors_in predecessors;
-    }) }
-    ensures { result
-        ≡ record { costs = costs.items; predecessors = predecessors_in predecessors } }
+fn make_graph(costs: Vec<u64>, predecessors: FlatLists) -> Graph
+    requires { IsGraph (record { costs = costs.items; predecessors = predecessors }) }
+    ensures { result ≡ record { costs = costs.items; predecessors = predecessors } }
 {
     Graph {
         costs,
@@ -99,10 +100,7 @@ impl Graph {
         requires { segment < length self.now.costs }
         ensures { result.now ≡ predecessors_of self.now segment }
     {
-        match &self.predecessors {
-            Predecessors::Flat(lists) => lists.list(segment),
-            Predecessors::Apart(lists) => lists[segment as usize].as_slice(),
-        }
+        self.predecessors.list(segment)
     }
 
     /// How many pairs of a predecessor and a segment there are.

@@ -10,3 +10,4 @@ pub mod laws;
 pub mod replay;
 mod run_state;
 pub mod successors;
+mod waiting;

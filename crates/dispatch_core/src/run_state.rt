@@ -2,13 +2,14 @@
 ghost use Rattle.std.specs.Prelude.{Some, ◌≡◌, ◌<◌, ◌%◌, ◌^◌, length, slice_get};
 ghost use Rattle.std.specs.Prelude.{sum_by, unwrap_or};
 ghost use Rattle.open_segments.specs.Entry.{entry};
-ghost use Rattle.task_segments.specs.Table.{costs_of};
-ghost use Rattle.std.specs.Prelude.{IfOk, replicate};
+ghost use Rattle.std.specs.Prelude.{IfOk, map, replicate};
 ghost use Rattle.dispatch_core.specs.First.{AreFirst};
 
 use crate::event::{Event, MOST_WORKERS};
-use open_segments::counters::Counters;
+use crate::graph::{Graph, graph_of};
+use crate::successors::successors_of;
 use open_segments::entries::value_entry;
+use open_segments::flat_lists::FlatLists;
 use std::alloc::Global;
 use task_program::AllocFault;
 use task_segments::table::BoundedTable;
@@ -46,8 +47,9 @@ pub struct RunState {
     pub started: Vec<bool>,
     pub running: Vec<Option<u32>>,
     pub values: Vec<Option<u64>>,
-    pub counters: Counters,
-    pub costs: Vec<u64>,
+    pub graph: Graph,
+    pub successors: FlatLists,
+    pub counts: Vec<u32>,
 }
 
 /// What a core keeps at the start of a run.
@@ -57,14 +59,19 @@ pub fn first_state<const SEGMENTS: u32, const TASKS: u32>(
 ) -> Result<RunState, AllocFault>
     ensures { IfOk result (AreFirst table.now) }
 {
+    open_segments::laws::serves_runs(table);
     let segments = table.len();
+    let graph = graph_of(alloc, table)?;
+    let successors = successors_of(alloc, &graph)?;
+    let counts = predecessor_counts(alloc, &graph)?;
     Ok(RunState {
         history: Vec::with_capacity(alloc, 2 * segments as usize)?,
         started: copies_of(alloc, false, segments)?,
         running: copies_of(alloc, None, MOST_WORKERS)?,
         values: copies_of(alloc, None, segments)?,
-        counters: Counters::new(alloc, table)?,
-        costs: costs(alloc, table)?,
+        graph,
+        successors,
+        counts,
     })
 }
 
@@ -79,16 +86,14 @@ fn copies_of<T: Copy + Drop>(alloc: Global, one: T, count: u32) -> Result<Vec<T>
     Ok(list)
 }
 
-/// The costs of a program's segments.
-pub fn costs<const SEGMENTS: u32, const TASKS: u32>(
-    alloc: Global,
-    table: &BoundedTable<SEGMENTS, TASKS>,
-) -> Result<Vec<u64>, AllocFault>
-    ensures { IfOk result (λ list. list.items ≡ costs_of table.now) }
+/// How many predecessors each segment of a graph has.
+fn predecessor_counts(alloc: Global, graph: &Graph) -> Result<Vec<u32>, AllocFault>
+    ensures { IfOk result (λ counts. counts.items ≡ map length graph.now.predecessors) }
 {
-    let mut list = Vec::with_capacity(alloc, table.len() as usize)?;
-    for segment in 0..table.len() {
-        list.push(table.cost(segment))?;
+    let count = graph.len();
+    let mut counts = Vec::with_capacity(alloc, count as usize)?;
+    for segment in 0..count {
+        counts.push(graph.preds(segment).len() as u32)?;
     }
-    Ok(list)
+    Ok(counts)
 }

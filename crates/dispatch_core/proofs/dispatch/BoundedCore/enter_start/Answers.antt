@@ -10,7 +10,7 @@ pub push_reserved-requires : goal.push_reserved-requires
 push_reserved-requires g c =
     let KnownHere : Run → Type 0 = λ run. c.args.segment < length run.table.segments in
     let FreshHere : Run → Type 0 = λ run. ¬ HasStarted run.history c.args.segment in
-    let room = has_room _ _ _ _ _ _ _ _ _ c.args.segment c.self.invariant
+    let room = has_room _ _ _ _ _ _ _ _ _ _ c.args.segment c.self.invariant
     (subst KnownHere (sym c.self.view_is) c.requires.ready.known)
     (subst FreshHere (sym c.self.view_is) c.requires.ready.not_started) in
     omega (arith, room)
@@ -23,7 +23,8 @@ invariant_of-self g c =
     (vec_capacity c.push_reserved.new.self)
     (slice_set c.self.inside.started.items c.args.segment true)
     (slice_set c.self.inside.running.items c.args.worker (Some c.args.segment))
-    c.self.inside.values.items c.self.inside.counters c.self.inside.costs.items in
+    c.self.inside.values.items c.self.inside.graph c.self.inside.successors
+    c.self.inside.counts.items in
     subst P (sym c.push_reserved.ensures.items)
-    (sound_after_start _ _ _ _ _ _ _ _ _ _ _ _ c.self.invariant
+    (sound_after_start _ _ _ _ _ _ _ _ _ _ _ _ _ c.self.invariant
     (subst MayHere (sym c.self.view_is) c.requires) (omega (arith, c.push_reserved.ensures.capacity)))

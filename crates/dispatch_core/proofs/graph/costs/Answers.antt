@@ -3,7 +3,7 @@ use Rattle.std.proofs.Common.{length}
 use Rattle.std.proofs.lemmas.List.{take_more, length-map, get_or-map}
 use Rattle.task_segments.specs.Table.{no_segment, costs_of}
 use Rattle.task_segments.specs.declared.table.Segment.{Segment}
-use Rattle.dispatch_core.proofs.run_state.costs.Goals as goal
+use Rattle.dispatch_core.proofs.graph.costs.Goals as goal
 
 pub loop-segment-preserved : goal.loop-segment-preserved
 loop-segment-preserved g c =
