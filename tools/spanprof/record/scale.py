@@ -22,8 +22,8 @@ SAID = "speedup: the median time on one thread over that on so many, the true on
 
 
 def scale_json(times, library=""):
-    """Elapsed times of the whole program in nanoseconds by number of threads, in the order of the runs; `library` is the
-    runtime that they were given, where it is not what the program is linked with."""
+    """Elapsed times of the whole program in nanoseconds by number of threads, in the order of the runs. They were given
+    the runtime `library`, where it is not what the program is linked with."""
     rows, one = [], statistics.median(times[1])
     for threads, taken in sorted(times.items()):
         low, middle, high = (one / max(time, 1) for time in (max(taken), statistics.median(taken), min(taken)))
@@ -65,8 +65,8 @@ def cost_on_one(session):
 
 
 def more_runs(session, folder):
-    """Runs the program on the numbers of threads that are asked for, or on that of the recording in a folder and on one,
-    and writes the scale there; answers more facts for its recording.json, as far as no run fails."""
+    """Runs the program on the numbers of threads that are asked for, or on one and on that of the recording in a
+    folder, and writes the scale there; answers more facts for its recording.json, as far as no run fails."""
     old, chosen, facts = old_meta(folder), session.options, {}
     threads = old.get("threads") or {}
     most = threads.get("most") or threads.get("asked") or old.get("processors") or 1
