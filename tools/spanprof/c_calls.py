@@ -99,7 +99,7 @@ def numpy():
     return found
 
 
-def reported(numbers):
+def for_caller(numbers):
     """Numbers as a caller gets them."""
     found = numpy()
     return numbers if found is None else found.frombuffer(numbers, dtype="u%d" % numbers.itemsize)

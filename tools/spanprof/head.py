@@ -272,7 +272,7 @@ def with_function(head, name):
     return "%s %s%s%s" % (creation, function, "," * bool(called) + called, callers) if function else name
 
 
-def said(text):
+def warning_lines(text):
     """The remarks and locks of a text's head as lines, so that no table stands without them."""
     head = read_head(text)
     return ["warning: " + remark for remark in head.remarks] + ["lock " + lock for lock in head.locks]

@@ -10,8 +10,8 @@ from typing import NamedTuple, Sequence
 
 from spanprof import c_calls
 from spanprof.c_calls import (MOST_THREADS, NO_THREAD, OF_LIMITS, Accounted, Analysed, Bounded, Certified, Measured,
-                              NoLibrary, Place, Refused, answering, bytes_of, called, count_of, numbers_of, passed,
-                              refuse, room, reported)
+                              NoLibrary, Place, Refused, answering, bytes_of, called, count_of, for_caller,
+                              numbers_of, passed, refuse, room)
 
 __all__ = ["MOST_THREADS", "NO_THREAD", "About", "Account", "Bounds", "Certificate", "NoLibrary", "Program", "Refused",
            "Run", "about", "check", "parse", "read"]
@@ -80,12 +80,12 @@ class Program:
     @property
     def tasks(self):
         """The task of each segment."""
-        return reported(self._segments[0][:])
+        return for_caller(self._segments[0][:])
 
     @property
     def costs(self):
         """The cost of each segment."""
-        return reported((self._given or self._segments[1])[:])
+        return for_caller((self._given or self._segments[1])[:])
 
     @functools.cached_property
     def _analysis(self):
@@ -96,28 +96,28 @@ class Program:
 
     def starts(self):
         """The earliest start of each segment."""
-        return reported(self._analysis[0][:])
+        return for_caller(self._analysis[0][:])
 
     def slack(self):
         """How long each segment may be put off, by itself, with the span as it is."""
-        return reported(self._analysis[1][:])
+        return for_caller(self._analysis[1][:])
 
     def path(self):
         """The segments of the critical path."""
-        return reported(self._analysis[2][:])
+        return for_caller(self._analysis[2][:])
 
     def greedy(self, threads):
         """The greedy schedule on so many threads."""
         starts, on, end = room("Q", self.segments), room("I", self.segments), ctypes.c_uint64()
         self._asked("spanprof_greedy", count_of(threads), *passed(starts), *passed(on), ctypes.byref(end))
-        return Run(reported(starts), reported(on), end.value)
+        return Run(for_caller(starts), for_caller(on), end.value)
 
     def curve(self, upto):
         """The ends of the greedy schedules on 1, 2, .. threads."""
         count_of(upto)
         ends = room("Q", upto)
         self._asked("spanprof_curve", *passed(ends))
-        return reported(ends)
+        return for_caller(ends)
 
     def bounds(self, threads):
         """Between which ends each greedy schedule on so many threads ends."""
@@ -156,7 +156,7 @@ class Program:
         found, ready = Accounted(), room("Q", self.segments)
         self._call("spanprof_account", count_of(count), ctypes.c_uint64(first), ctypes.c_uint64(last), *passed(threads),
                    *passed(begins), *passed(ends), *passed(ready), ctypes.byref(found))
-        return Account(found.busy, found.delayed, found.starved, found.outside, reported(ready))
+        return Account(found.busy, found.delayed, found.starved, found.outside, for_caller(ready))
 
 
 def about():

@@ -81,7 +81,9 @@ int64_t stride_of(const Walk &walk, const Registers &registers) {
 }
 
 uint64_t turns_left(const Walk &walk, const Registers &registers) {
-  auto value = [&](int number) { return number < 0 ? 0 : static_cast<int64_t>(registers[static_cast<size_t>(number)]); };
+  auto value = [&](int number) {
+    return number < 0 ? 0 : static_cast<int64_t>(registers[static_cast<size_t>(number)]);
+  };
   int64_t step = value_of(walk.end_bytes, walk.end_by, registers);
   if (walk.end.one < 0 || step == 0) return 0;
   int64_t left = (walk.end.number + value(walk.end.other) - value(walk.end.one)) / step;

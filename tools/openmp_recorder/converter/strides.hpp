@@ -1,6 +1,6 @@
-// How far apart the memory is that a loop uses from turn to turn, by its instructions and the registers of samples. Where
-// that is a cache line or more, each element costs a line; and where it are more lines than the first cache has, each
-// is gone before what is next to its element is used.
+// How far apart the memory is that a loop uses from turn to turn, by its instructions and the registers of samples.
+// Where that is a cache line or more, each element costs a line; and where it are more lines than the first cache has,
+// each is gone before what is next to its element is used.
 #pragma once
 #include <map>
 #include <optional>

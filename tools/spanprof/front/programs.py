@@ -43,7 +43,7 @@ def run(words, descriptor):
         signal.signal(signal.SIGINT, before)
 
 
-def reported(program, words, taken):
+def explanation(program, words, taken):
     """What the error means that the program has printed; it is asked again, since that has gone to standard output."""
     from spanprof.front.meaning import meaning      # only an error needs what explains it
 
@@ -65,7 +65,7 @@ def answer(words):
     program, taken = found("spanprof"), given(are_right(words))
     status = run(program + words, taken.descriptor)
     if status > 0:
-        show(reported(program, words, taken))
+        show(explanation(program, words, taken))
     return ended(status)
 
 

@@ -4,7 +4,7 @@ import sys
 
 from spanprof.answers import Answers
 from spanprof.command import Console, check_files, end_with
-from spanprof.head import head_text, said
+from spanprof.head import head_text, warning_lines
 from spanprof.path.table import lines, write_csv
 from spanprof.proof import proved
 from spanprof.recording import text_of
@@ -36,7 +36,7 @@ def show(options, numbers, found):
     if options.csv:
         write_csv(found, sys.stdout)
         return
-    reported = said(head_text(options.text)) + [title(numbers, found), proved(VERDICT)]
+    reported = warning_lines(head_text(options.text)) + [title(numbers, found), proved(VERDICT)]
     print(*reported, *lines(found, numbers["work"], numbers["span"]), sep="\n")
 
 

@@ -15,7 +15,7 @@ from spanprof.record.facts import processor_time
 from spanprof.record.meta import old_meta
 from spanprof.record.ranks import is_child, rank_in
 from spanprof.record.summary import named, other_region, summary
-from spanprof.record.waits import reported as told_of_waits, waited_for, waits_of
+from spanprof.record.waits import waited_for, waits_line, waits_of
 from spanprof.recording import open_recording
 from spanprof.regions import program_of
 from spanprof.run_json import run_json, write_json
@@ -81,7 +81,7 @@ def print_measured(session, pairs, news, is_cut):
         show([rank_line(*pair) for pair in pairs] + ["%s: %s" % (session.work.name, one) for one in news])
         return
     waits = list(filter(None, (waits_of(recording) for recording, _ in pairs)))
-    late, ranks = waited_for(waits), told_of_waits(waits)
+    late, ranks = waited_for(waits), waits_line(waits)
     first = max(pairs, key=lambda pair: (late is not None and waits_of(pair[0]) == late, pair[1].work))
     others = [rank_line(*pair) for pair in pairs if pair is not first]
     print_summary(session, *first, others, news, is_cut)

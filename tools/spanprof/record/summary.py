@@ -101,7 +101,7 @@ def elapsed_line(answers):
         costs(elapsed, answers.head), threads, answers.work / elapsed)
 
 
-def told_threads(answers):
+def threads_shown(answers):
     """The numbers of threads of which the text says something."""
     head = answers.head
     if is_of_one_thread(head):
@@ -132,7 +132,7 @@ def at_least_line(answers, reported):
 
 def threads_lines(answers):
     """What so many threads can give."""
-    reported = told_threads(answers)
+    reported = threads_shown(answers)
     if not reported:
         return [why_not_of_more_threads(answers.head)]
     others = [why_not_of_more_threads(answers.head)] if is_divided(answers.head) else []

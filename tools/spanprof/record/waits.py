@@ -47,7 +47,7 @@ def waited_for(waits):
     return first if usual - first.time > MUCH * sampled and usual > LONGER * first.time else None
 
 
-def reported(waits):
+def waits_line(waits):
     """In one line; empty where they do not wait much."""
     first = waited_for(waits)
     if first:

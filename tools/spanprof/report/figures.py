@@ -78,7 +78,7 @@ class Figures:
         """A quotient that is always reached, rounded down."""
         return self.data(rounded_down(above, below), above / below if below else 1.0, source, kind, "down")
 
-    def reported(self, name, words, sources, **attributes):
+    def with_sources(self, name, words, sources, **attributes):
         """An element, as of a picture, whose words have one number for each of the sources, in this order."""
         return tag(name, words, data_from="; ".join(sources), **attributes)
 

@@ -57,7 +57,7 @@ def grid(axes):
     return join(pieces)
 
 
-def reported(view, threads):
+def point_title(view, threads):
     """What the curve says at a point, in one line."""
     row, work, named = view.answers.curve[threads], view.answers.work, "curve %d " % threads
     times = work / row["end"] if row["end"] else 1
@@ -66,7 +66,7 @@ def reported(view, threads):
     for column, name in COLUMNS:
         words += "; %s %s" % (name, view.units.plain(row[column]))
         sources.append(named + column)
-    return view.figures.reported("title", words, sources)
+    return view.figures.with_sources("title", words, sources)
 
 
 def curve_lines(axes, view):
@@ -79,7 +79,7 @@ def curve_lines(axes, view):
     pieces = [tag("polygon", points=axes.points(fastest + low[::-1]), class_="band"),
               tag("polyline", points=axes.points(greedy), class_="curve")]
     for threads, speed_up in greedy:
-        pieces.append(tag("circle", reported(view, threads), cx=axes.x(threads), cy=axes.y(speed_up), r=3,
+        pieces.append(tag("circle", point_title(view, threads), cx=axes.x(threads), cy=axes.y(speed_up), r=3,
                           class_="dot"))
     return join(pieces)
 
@@ -97,7 +97,7 @@ def reached_mark(axes, view):
         return ""
     x, y = axes.x(threads), axes.y(reached(view))
     words = "%d threads: %.2f, %s" % (threads, reached(view), REACHED)
-    title = view.figures.reported("title", words, ["threads", "span work / elapsed"])
+    title = view.figures.with_sources("title", words, ["threads", "span work / elapsed"])
     return tag("path", title, d="M%g %gl7 7l-7 7l-7 -7z" % (x, y - 7), class_="reached")
 
 

@@ -36,7 +36,7 @@ def mark(axes, view, point):
     low, high = axes.y(point.least), axes.y(point.greatest)
     words = "%d threads: %.2f (%.2f to %.2f), %s" % (*point, SAID)
     sources = ["scale %d %s" % (point.threads, name.replace(" ", "-")) for name in NAMES]
-    return tag("g", view.figures.reported("title", words, sources),
+    return tag("g", view.figures.with_sources("title", words, sources),
                tag("path", d="M%g %gV%gM%g %gh8M%g %gh8" % (x, low, high, x - 4, low, x - 4, high)),
                tag("rect", x=x - 4, y=y - 4, width=8, height=8), class_="true")
 

@@ -257,7 +257,7 @@ class Arrays(unittest.TestCase):
     def test_numpy_where_it_is_there(self):
         if c_calls.numpy() is None:
             self.skipTest("numpy is missing")
-        numbers = c_calls.reported(array.array("Q", [2 ** 63, 1]))
+        numbers = c_calls.for_caller(array.array("Q", [2 ** 63, 1]))
         self.assertEqual((str(numbers.dtype), int(numbers[0])), ("uint64", 2 ** 63))
 
 

@@ -6,7 +6,7 @@ from unittest import mock
 
 from spanprof import client, folders
 from spanprof.errors import Fault
-from spanprof.head import OLDER, UNREAD, Head, read_head, said, with_function
+from spanprof.head import OLDER, UNREAD, Head, read_head, warning_lines, with_function
 from spanprof.program_text import has_loops
 from spanprof.tests.columns import segments_of
 
@@ -62,7 +62,7 @@ class Heads(unittest.TestCase):
         self.assertEqual((head.region, head.number, head.elapsed, head.nanoseconds), ("sort.c:48", "2 of 5", 900, 250))
         self.assertEqual(head.division, {"outside regions": 20, "in other regions": 30, "in parts without tasks": 4,
                                          "in tasks": 3000})
-        self.assertEqual(said(TEXT), [
+        self.assertEqual(warning_lines(TEXT), [
             "warning: dependence on all memory, left out, 12 times at sort.c:40: span too low",
             "lock critical at sort.c:9: 32 times, 19.2 us inside, 1.25 us waiting"])
 

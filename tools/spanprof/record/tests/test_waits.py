@@ -1,6 +1,6 @@
 import unittest
 
-from spanprof.record.waits import Waits, reported, waited_for, waits_of
+from spanprof.record.waits import Waits, waited_for, waits_line, waits_of
 from spanprof.recording import open_recording
 from spanprof.tests.in_folder import InFolder
 from spanprof.tests.recordings import recording
@@ -28,17 +28,17 @@ class Compared(unittest.TestCase):
     def test_one_that_hardly_waits(self):
         waits = of(500, 8, 400, 600)
         self.assertEqual(waited_for(waits), waits[1])
-        self.assertEqual(reported(waits), "the others wait for rank 1: 400 ms to 600 ms in calls of MPI, it 8.00 ms")
+        self.assertEqual(waits_line(waits), "the others wait for rank 1: 400 ms to 600 ms in calls of MPI, it 8.00 ms")
 
     def test_all_alike(self):
         self.assertIsNone(waited_for(of(500, 400, 550)))
-        self.assertEqual(reported(of(500, 400, 550)),
+        self.assertEqual(waits_line(of(500, 400, 550)),
                          "each waits in calls of MPI: 400 ms to 550 ms, none much less than the others")
 
     def test_little(self):
         for waits in of(40, 0, 30), of(0, 0), of(700), []:
             self.assertIsNone(waited_for(waits))
-            self.assertEqual(reported(waits), "")
+            self.assertEqual(waits_line(waits), "")
 
 
 if __name__ == "__main__":

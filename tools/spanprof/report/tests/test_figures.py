@@ -40,7 +40,7 @@ class Numbers(unittest.TestCase):
         self.assertIn(">1.00<", show.times_at_least(0, 0, source, PROVED))
 
     def test_words_with_several_numbers(self):
-        self.assertEqual(Figures().reported("title", "2 of 3", ["tasks", "span segments"]),
+        self.assertEqual(Figures().with_sources("title", "2 of 3", ["tasks", "span segments"]),
                          '<title data-from="tasks; span segments">2 of 3</title>')
 
 
