@@ -189,18 +189,10 @@ def read_chunks(head, reported):
     head.chunks[reported["at"]] = [chunks + number(reported["times"]), turns + number(reported["turns"])]
 
 
-def read_few_turns(head, reported):
-    head.few_turns[words(reported["at"])] = [number(reported["turns"]), number(reported["threads"])]
-
-
 def read_place(head, reported):
     function = "in " + words(reported["in"]) + "".join(", inlined into %s at %s" % (words(one["in"]), words(one["at"]))
                                                        for one in reported.get("inlined", []))
     head.functions.setdefault(words(reported["at"]), function)
-
-
-def read_source(head, reported):
-    head.sources[words(reported["file"])] = words(reported["path"])
 
 
 def read_lock(head, reported):
@@ -222,7 +214,8 @@ def difference(reported):
 LINES = {
     "recorded": read_recorded, "region": read_region, "whole program": read_whole, "covers": read_coverage,
     "divided": read_divided, "lock": read_lock, "place": read_place, "short chunks": read_chunks,
-    "few turns": read_few_turns, "source": read_source}
+    "few turns": lambda head, at: head.few_turns.update({words(at["at"]): [number(at["turns"]), number(at["threads"])]}),
+    "source": lambda head, at: head.sources.update({words(at["file"]): words(at["path"])})}
 # Those that are one field, and how it is read.
 FIELDS = {
     "clock reading": ("clock_reading", number), "untimed": ("untimed", number), "elapsed": ("elapsed", number),

@@ -74,17 +74,11 @@ def is_shared_out(words):
     return is_one_of((LOOP, SECTIONS), words)
 
 
-def lines_of(text):
-    """The tokens of each line, and its comment."""
-    for line in text.split("\n"):
-        code, _, comment = line.partition("#")
-        yield TOKEN.findall(code), comment.strip()
-
-
 def words_of(text):
     """The tokens of a text, each with the comment of its line."""
-    for words, comment in lines_of(text):
-        yield from ((word, comment) for word in words)
+    for line in text.split("\n"):
+        code, _, comment = line.partition("#")
+        yield from ((word, comment.strip()) for word in TOKEN.findall(code))
 
 
 def has_loops(text):

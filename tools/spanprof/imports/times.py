@@ -1,7 +1,9 @@
 """The times of tasks in order, as those of the text's segments: the root creates all of them at the first moment."""
-import heapq
+from array import array
 from dataclasses import dataclass, field
 from typing import List
+
+from spanprof.time_breakdown import Rows
 
 MOST_THREADS, LONGEST = 1024, 10 ** 15
 
@@ -27,22 +29,12 @@ class Run:
             yield "%d 0 0 0\n" % (2 * number + 2)
 
 
-def lanes(tasks):
-    """A thread for each task of unknown workers: the least that is free when it begins."""
-    out, free, busy = {}, [], []
-    for number in sorted(range(len(tasks)), key=lambda n: (tasks[n].begin, tasks[n].end)):
-        while busy and busy[0][0] <= tasks[number].begin:
-            heapq.heappush(free, heapq.heappop(busy)[1])
-        out[number] = heapq.heappop(free) if free else len(busy)
-        heapq.heappush(busy, (tasks[number].end, out[number]))
-    return out
-
-
 def threads_of(tasks):
-    """Of each task with code, by its number."""
+    """Of each task with code, by its number: of unknown workers one that is free."""
     timed = [number for number, task in enumerate(tasks) if task.begin is not None]
     if any(tasks[number].worker is None for number in timed):
-        return {timed[at]: lane for at, lane in lanes([tasks[number] for number in timed]).items()}
+        begin, end = (array("q", [getattr(tasks[number], name) for number in timed]) for name in ("begin", "end"))
+        return dict(zip(timed, Rows(begin, begin, begin, end).on_few_threads.thread))
     workers = {}
     return {number: workers.setdefault(tasks[number].worker, len(workers)) for number in timed}
 

@@ -40,6 +40,7 @@ class View:
     def __init__(self, path, threads=None, source=None, tell=None):
         self.answers = Answers(path, threads, tell)
         self.units = Units(self.answers.head)
+        self.name, self.unit, self.is_long = self.answers.name, self.units.name, self.answers.is_long
         self.figures = Figures(self.units)
         here = [os.path.dirname(os.path.abspath(folder_of(path) or path)), os.getcwd()]
         self.sources = Sources(source or here)
@@ -49,18 +50,6 @@ class View:
             rows, unit = self.account.rows, self.answers.head.nanoseconds
             self.run = RecordedRun([begin / unit for begin in rows.begin], [end / unit for end in rows.end],
                                    list(rows.thread), unit, self.account.threads)
-
-    @property
-    def is_long(self):
-        return self.answers.is_long
-
-    @property
-    def name(self):
-        return self.answers.name
-
-    @property
-    def unit(self):
-        return self.units.name
 
     @property
     def cost_kind(self):

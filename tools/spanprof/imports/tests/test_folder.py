@@ -37,7 +37,7 @@ class Folder(InFolder):
         self.assertIn("task depend(in: t0, t1) {  # link\nwork 1000\n}\n", text)
         self.assertEqual(times.split("\n")[0], "times 2 0 6000")
         reported = mock.Mock(side_effect=["threads 2\nelapsed 6000\nbusy 10000\ndelayed 0\nstarved 2000\noutside 0\n"])
-        with mock.patch("spanprof.time_breakdown.answered", reported):
+        with mock.patch("spanprof.client.ask", reported):
             self.assertEqual(breakdown_of(head_of(recording.text), 10000, document(recording)).code, 10000)
 
     def test_of_several_builds_there_are_no_times(self):

@@ -2,7 +2,7 @@
 import unittest
 
 from spanprof.imports.tasks import Task
-from spanprof.imports.times import lanes, run_of
+from spanprof.imports.times import run_of, threads_of
 
 
 def task(begin, end, *before, worker=None):
@@ -14,20 +14,20 @@ class Run(unittest.TestCase):
         run, why = run_of([task(100, 104), task(101, 106), Task(before=[0, 1]), task(106, 107, 2)])
         self.assertEqual(why, "")
         self.assertEqual("".join(run.lines()), "times 2 0 7\n0 0 0 0\n1 0 0 4\n2 0 0 0\n3 1 1 6\n4 0 0 0\n"
-                                               "5 1 6 6\n6 0 0 0\n7 0 6 7\n8 0 0 0\n")
+                                               "5 1 6 6\n6 0 0 0\n7 1 6 7\n8 0 0 0\n")
 
     def test_workers_are_threads(self):
         run, _ = run_of([task(0, 1, worker="b"), task(1, 2, worker="a"), task(2, 3, worker="b")])
         self.assertEqual([row[0] for row in run.rows], [0, 1, 0])
 
-    def test_the_least_free_thread(self):
-        tasks = [task(0, 9), task(0, 5), task(5, 6), task(7, 8), task(8, 20), task(8, 20)]
-        self.assertEqual(lanes(tasks), {0: 1, 1: 0, 2: 0, 3: 0, 4: 0, 5: 2})
+    def test_a_thread_that_is_free(self):
+        tasks = [task(0, 9), task(0, 5), task(5, 6), Task(before=[0]), task(7, 8), task(8, 20), task(8, 20)]
+        self.assertEqual(threads_of(tasks), {0: 0, 1: 1, 2: 1, 4: 1, 5: 1, 6: 2})
 
     def test_as_few_threads_as_run_at_once(self):
         tasks = [task(n * 7 % 50, n * 7 % 50 + 1 + n * 11 % 23) for n in range(200)]
         most = max(sum(one.begin <= moment < one.end for one in tasks) for moment in range(80))
-        self.assertEqual(max(lanes(tasks).values()) + 1, most)
+        self.assertEqual(max(threads_of(tasks).values()) + 1, most)
 
     def test_why_there_is_none(self):
         for tasks, why in (

@@ -18,7 +18,10 @@ TEXTS = ("mesh", "split", "plain", "odd")
 
 
 def key(words, text):
-    """Words, and a short name of the text, or of a document."""
+    """Words, and a short name of the text, or of a document, which may be an open file."""
+    if hasattr(text, "seek"):
+        text.seek(0)
+        text = text.read().decode()
     read = str(text) + getattr(text, "rest", "")
     return "%s < %s" % (" ".join(words), hashlib.sha256(read.encode()).hexdigest()[:12])
 
@@ -54,11 +57,6 @@ class Kept:
             raise Fault("spanprof %s: %s" % (words[0], answer))
         return answer
 
-    @staticmethod
-    def of_times(read, words, file, *more):
-        """What spanprof_large account answers on a timed document."""
-        return read(["account", *words], document(file), *more)
-
 
 def true_times_beside(answers):
     """A worked text is no recording: its scale stands beside it."""
@@ -73,7 +71,6 @@ class Patched:
     def __init__(self):
         kept = Kept()
         self.patches = [mock.patch("spanprof.client.ask", kept), mock.patch("spanprof.client.pieces", pieces_of(kept)),
-                        mock.patch("spanprof.time_breakdown.answered", kept.of_times),
                         mock.patch("spanprof.report.view.true_times_beside", true_times_beside),
                         mock.patch("spanprof.report.view.diagnosis_of", return_value=None)]
 
@@ -114,13 +111,13 @@ def page_text(name):
     return page(view_without_page(name))
 
 
-def noting(out, ask, key_of):
+def noting(out, ask):
     """A program's answers, which are kept by words and text."""
     def asked(words, text):
         try:
-            out[key_of(words, text)] = answer = ask(words, text)
+            out[key(words, text)] = answer = ask(words, text)
         except Fault as reported:
-            out[key_of(words, text)] = str(reported).partition(": ")[2]
+            out[key(words, text)] = str(reported).partition(": ")[2]
             raise
         return answer
     return asked
@@ -128,13 +125,11 @@ def noting(out, ask, key_of):
 
 def asked_now():
     """All that the pages and their comparison ask of spanprof and spanprof_large, with what they answer."""
-    from spanprof import client, time_breakdown
+    from spanprof import client
     from spanprof.report.tests.compare import differences
     out = {}
-    asked = noting(out, client.ask, key)
-    times = noting(out, time_breakdown.ask, lambda words, file: key(["account", *words], document(file)))
+    asked = noting(out, client.ask)
     with mock.patch("spanprof.client.ask", asked), mock.patch("spanprof.client.pieces", pieces_of(asked)), \
-            mock.patch("spanprof.time_breakdown.ask", times), \
             mock.patch("spanprof.report.view.true_times_beside", true_times_beside), \
             mock.patch("spanprof.report.view.diagnosis_of", return_value=None):
         for name in TEXTS:
