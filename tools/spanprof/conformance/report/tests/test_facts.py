@@ -33,7 +33,7 @@ class Facts(unittest.TestCase):
         self.assertEqual(found, {
             "compiler": "cc 1.0, flags `-O1 -fopenmp`", "runtime": "/lib/libgomp.so", "threads": "2, 4",
             "runs each": "3", "seed": "7", "setting free": "as the runtime is by itself",
-            "setting priorities": "priorities count: `OMP_MAX_TASK_PRIORITY=9`", "tasks": "tied",
+            "setting priorities": "priorities count: `OMP_MAX_TASK_PRIORITY=9 MALLOC_PERTURB_=170`", "tasks": "tied",
             "directed programs": "tree_*", "random programs": "9"})
 
     def test_delays_in_the_runtime(self):
