@@ -3,7 +3,7 @@
 #include "expect.h"
 
 #define NAMES 5
-#define ROUNDS 80
+#define ROUNDS 600
 static long written[NAMES];
 
 static void write_to(int name, long before, int slow) {
@@ -26,7 +26,7 @@ static void read_from(int name, long before, int slow) {
 static void stream(void) {
   for (int round = 0; round < ROUNDS; round++)
     for (int name = 0; name < NAMES; name++) {
-      const int slow = (round + name) % 6;
+      const int slow = (round + name) % 16;
       write_to(name, 3 * round, slow == 0);
       read_from(name, 3 * round + 1, slow == 1);
       write_to(name, 3 * round + 1, slow == 2);
@@ -35,7 +35,7 @@ static void stream(void) {
 }
 
 int main(void) {
-  for (int run = 0; run < 4; run++) {
+  for (int run = 0; run < 2; run++) {
     for (int name = 0; name < NAMES; name++) written[name] = 0;
 #pragma omp parallel
 #pragma omp single

@@ -18,7 +18,7 @@ from spanprof.conformance.judge.segments import Table
 from spanprof.conformance.judge.verdicts import Missing
 from spanprof.conformance.opening import entry_points, found_judge, open_bench, plan_of, program_in, unit_in
 from spanprof.conformance.report import store, tables
-from spanprof.conformance.report.facts import facts_of, of_mutants, tested
+from spanprof.conformance.report.facts import facts_of, tested
 from spanprof.conformance.report.publish import publish
 from spanprof.conformance.report.results import Results
 from spanprof.conformance.report.texts import Report
@@ -127,7 +127,8 @@ def try_built(options, bench):
     wrong = False
     print("\n".join(tables.table(tables.BUILT_HEADS, [])))
     with contextlib.ExitStack() as stack:
-        tested_there = of_mutants(options, bench, plan.settings)
+        limits = {"timeout": options.timeout, "seconds": options.seconds}
+        tested_there = {**tested(options, bench, plan.settings), **limits}
         journal = stack.enter_context(contextlib.closing(Journal(tested_there, options.built)))
         cases = list(cases_of_run(options, bench.toolchain.kinds)[0])
         campaigns = Campaigns(SparingBench(bench), cases, options, plan,

@@ -25,8 +25,8 @@ from spanprof.conformance.run.settings import without_harness
 from spanprof.conformance.run.toolchain import BuildFailed
 
 # Settings that programs take for the first of every two numbers of threads, by how their names begin.
-FAVOURED = {"priority": "priorities", "memory": "perturbed", "cancel": "cancellable", "many": "priorities",
-            "rounds": "interrupted", "pressure": "interrupted", "hurry": "hurried"}
+FAVOURED = {"priority": "priorities", "cancel": "cancellable", "many": "priorities", "rounds": "interrupted",
+            "pressure": "interrupted", "hurry": "hurried"}
 # The same of LLVM's runtime, whose full queues grow in this setting alone.
 FULL = {"pressure_throttled": "unthrottled", "pressure_queue": "unthrottled", "crowd": "unthrottled"}
 # Programs so short that so many times as many runs take no longer than those of others: in the setting that they
@@ -111,8 +111,8 @@ class Plan:
         first = zlib.crc32(case.name.encode()) + (self.seed + variant) * len(self.threads)
         settings = [usual[(first + number) % len(usual)] for number in range(len(self.threads))]
         favoured = next((setting for begin, setting in (*FULL.items(), *FAVOURED.items())
-                         if case.name.startswith(begin) and setting in self.settings), "")
-        if favoured in self.settings:
+                         if case.name.startswith(begin) and setting in usual), "")
+        if favoured:
             settings = [setting if (number + variant) % 2 else favoured for number, setting in enumerate(settings)]
         return [self.conditions_in(case, threads, setting) for threads, setting in zip(self.threads, settings)]
 

@@ -1,9 +1,7 @@
 """What a report says of the test itself, as pairs of a name and what is so."""
-import hashlib
 import os
 
 from spanprof.conformance.run.campaign import directed_cases
-from spanprof.conformance.generate.directed import FOLDER
 from spanprof.conformance.run.settings import SETTINGS
 
 # How the variables begin by which whoever calls tells runtimes and sanitizers something.
@@ -32,18 +30,6 @@ def tested(options, bench, settings):
              "random programs": str(options.programs),
              "left out, as the compiler lacks a kind of item": lacking(options, toolchain.kinds)}
     return {name: fact for name, fact in facts.items() if fact}
-
-
-def of_mutants(options, bench, settings):
-    """The same of campaigns on mutants."""
-    texts = b"".join(path.read_bytes() for path in sorted(FOLDER.glob("*.tasks")))
-    return {"compiler": bench.toolchain.version(), "flags": " ".join(bench.toolchain.shown_flags),
-            "settings": ", ".join(settings), "threads": ", ".join(map(str, options.threads)),
-            "runs each": str(options.runs), "seed": str(options.seed), "timeout": str(options.timeout),
-            "tasks": ", ".join(options.tasks), "random programs": str(options.programs),
-            "seeds of delays": str(options.perturb), "directed programs": options.match,
-            "texts of directed programs": hashlib.sha256(texts).hexdigest(),
-            "seconds": str(options.seconds)}
 
 
 def lacking(options, kinds):

@@ -16,27 +16,37 @@ class Setting:
         return f"{self.shows}: `{' '.join(filter(None, reported))}`" if any(reported) else self.shows
 
 
+# A library that reads memory before it writes it, or after it gave it back, finds no zeros there. The variable is that of
+# the C library of GNU.
+OVERWRITTEN = {"MALLOC_PERTURB_": "170"}
+
+
+def overwriting(shows, variables=(), **others):
+    """A setting in which memory that is allocated or freed is overwritten too."""
+    return Setting(shows, {**dict(variables), **OVERWRITTEN}, **others)
+
+
 SETTINGS = {
     "free": Setting("as the runtime is by itself"),
-    "priorities": Setting("priorities count", {"OMP_MAX_TASK_PRIORITY": "9"}),
-    "pinned": Setting("all threads on one processor", words=("taskset", "-c", "{processor}")),
-    "bound": Setting("each thread on its processor", {"OMP_PROC_BIND": "close", "OMP_PLACES": "threads"}),
-    "active": Setting("waiting threads spin", {"OMP_WAIT_POLICY": "active"}),
-    "passive": Setting("waiting threads sleep", {"OMP_WAIT_POLICY": "passive"}),
-    "sleepy": Setting("waiting threads sleep at once", {"GOMP_SPINCOUNT": "0", "KMP_BLOCKTIME": "0"}),
-    "perturbed": Setting("memory that is given back is overwritten", {"MALLOC_PERTURB_": "170"}),
-    "stacks": Setting("threads have small stacks", {"OMP_STACKSIZE": "1M"}),
+    "priorities": overwriting("priorities count", {"OMP_MAX_TASK_PRIORITY": "9"}),
+    "pinned": overwriting("all threads on one processor", words=("taskset", "-c", "{processor}")),
+    "bound": overwriting("each thread on its processor", {"OMP_PROC_BIND": "close", "OMP_PLACES": "threads"}),
+    "active": overwriting("waiting threads spin", {"OMP_WAIT_POLICY": "active"}),
+    "passive": overwriting("waiting threads sleep", {"OMP_WAIT_POLICY": "passive"}),
+    "sleepy": overwriting("waiting threads sleep at once", {"GOMP_SPINCOUNT": "0", "KMP_BLOCKTIME": "0"}),
+    "perturbed": overwriting("memory is overwritten when it is allocated or freed"),
+    "stacks": overwriting("threads have small stacks", {"OMP_STACKSIZE": "1M"}),
     "unlogged": Setting("threads share no counter of events; values and ends are judged", {"CONFORMANCE_LOG": "none"}),
     "hurried": Setting("threads share no counter of events, and sleep at once wherever they wait",
                        {"CONFORMANCE_LOG": "none", "GOMP_SPINCOUNT": "0", "KMP_BLOCKTIME": "0"}),
     "interrupted": Setting("threads are delayed at random moments, also inside the runtime",
                            {"CONFORMANCE_INTERRUPTS": "1", "GOMP_SPINCOUNT": "0", "KMP_BLOCKTIME": "0"}),
-    "orphaned": Setting("outside of any parallel region", {"CONFORMANCE_TEAM": "orphaned"}),
-    "nested": Setting("in a region inside another one", {"CONFORMANCE_TEAM": "nested"}),
-    "cancellable": Setting("cancelling counts; in a region that is cancelled at its end",
-                           {"OMP_CANCELLATION": "true", "CONFORMANCE_TEAM": "cancellable"}),
-    "unthrottled": Setting("queues of ready tasks grow", {"KMP_ENABLE_TASK_THROTTLING": "0"}, families=("kmp",)),
-    "unconstrained": Setting("threads take any task", {"KMP_TASK_STEALING_CONSTRAINT": "0"}, families=("kmp",)),
+    "orphaned": overwriting("outside of any parallel region", {"CONFORMANCE_TEAM": "orphaned"}),
+    "nested": overwriting("in a region inside another one", {"CONFORMANCE_TEAM": "nested"}),
+    "cancellable": overwriting("cancelling counts; in a region that is cancelled at its end",
+                               {"OMP_CANCELLATION": "true", "CONFORMANCE_TEAM": "cancellable"}),
+    "unthrottled": overwriting("queues of ready tasks grow", {"KMP_ENABLE_TASK_THROTTLING": "0"}, families=("kmp",)),
+    "unconstrained": overwriting("threads take any task", {"KMP_TASK_STEALING_CONSTRAINT": "0"}, families=("kmp",)),
 }
 
 

@@ -138,12 +138,17 @@ class Cases(unittest.TestCase):
         self.assertEqual((tally.runs, tally.judged), (2, 1))
 
     def test_settings_that_names_ask_for(self):
-        plan = Plan((1, 2, 4), 1, 1, 1, ("free", "perturbed", "priorities"))
-        for name, setting in (("memory_of_parents", "perturbed"), ("priority_flat", "priorities")):
+        plan = Plan((1, 2, 4), 1, 1, 1, ("free", "cancellable", "priorities"))
+        for name, setting in (("cancel_deep", "cancellable"), ("priority_flat", "priorities")):
             self.assertEqual([plan.conditions(case_of(name))[at].setting for at in (0, 2)], [setting, setting])
-        untied = plan.conditions(case_of("memory_of_parents", variant="untied"))
-        self.assertEqual(untied[1].setting, "perturbed")
-        self.assertEqual({at.setting for at in Plan((1, 2), 1, 1, 1).conditions(case_of("memory_x"))}, {"free"})
+        untied = plan.conditions(case_of("cancel_deep", variant="untied"))
+        self.assertEqual(untied[1].setting, "cancellable")
+        self.assertEqual({at.setting for at in Plan((1, 2), 1, 1, 1).conditions(case_of("cancel_deep"))}, {"free"})
+
+    def test_self_checking_programs_take_no_setting_of_the_harness(self):
+        plan = Plan((1, 2, 4), 1, 1, 1, ("free", "cancellable", "passive"))
+        taken = {at.setting for at in plan.conditions(case_of("cancel_loop", variant="self-checking"))}
+        self.assertEqual(taken, {"free", "passive"})
 
     def test_tied_and_untied_tasks_of_a_program_take_other_settings(self):
         plan = Plan((1, 2), 1, 1, 1, ("free", "pinned", "bound", "active", "passive", "sleepy"))

@@ -3,7 +3,7 @@ import types
 import unittest
 
 from spanprof.conformance.judge.cases import Tally
-from spanprof.conformance.report.facts import facts_of, of_mutants, tested, told_runtimes
+from spanprof.conformance.report.facts import facts_of, tested, told_runtimes
 from spanprof.conformance.report.results import Results
 from spanprof.conformance.tests.helpers import case_of, conditions
 
@@ -33,19 +33,11 @@ class Facts(unittest.TestCase):
         self.assertEqual(found, {
             "compiler": "cc 1.0, flags `-O1 -fopenmp`", "runtime": "/lib/libgomp.so", "threads": "2, 4",
             "runs each": "3", "seed": "7", "setting free": "as the runtime is by itself",
-            "setting priorities": "priorities count: `OMP_MAX_TASK_PRIORITY=9`", "tasks": "tied",
+            "setting priorities": "priorities count: `OMP_MAX_TASK_PRIORITY=9 MALLOC_PERTURB_=170`", "tasks": "tied",
             "directed programs": "tree_*", "random programs": "9"})
 
     def test_delays_in_the_runtime(self):
         self.assertEqual(facts(perturb=8)["seeds of delays in the runtime"], "8")
-
-    def test_of_mutants(self):
-        options = types.SimpleNamespace(threads=(2, 4), runs=3, seed=7, tasks=["tied"], match="*",
-                                        timeout=3, programs=20, seconds=60, perturb=8)
-        found = of_mutants(options, types.SimpleNamespace(toolchain=StubToolchain()), ["free"])
-        self.assertEqual((found["threads"], found["random programs"], found["settings"]), ("2, 4", "20", "free"))
-        self.assertEqual(found["seeds of delays"], "8")
-        self.assertEqual(len(found["texts of directed programs"]), 64)
 
     def test_what_is_left_out(self):
         self.assertIn("depend_two_sets", facts()["left out, as the compiler lacks a kind of item"])

@@ -7,7 +7,7 @@ import unittest
 import unittest.mock
 
 from spanprof.conformance.run.launch import Log, breakdown, command_of, launch, read_logs
-from spanprof.conformance.run.settings import SETTINGS
+from spanprof.conformance.run.settings import OVERWRITTEN, SETTINGS
 from spanprof.conformance.tests.helpers import conditions
 
 TEXT = """run 0 plain
@@ -59,13 +59,13 @@ class Commands(unittest.TestCase):
     def test_words_of_a_setting(self):
         words, variables = command_of("prog", conditions(4, "priorities"))
         self.assertEqual(words, ["prog", "4", "3", "1", "1000", "5"])
-        self.assertEqual(variables, {"OMP_MAX_TASK_PRIORITY": "9"})
+        self.assertEqual(variables, {"OMP_MAX_TASK_PRIORITY": "9", **OVERWRITTEN})
 
     def test_pinned_to_one_of_our_processors(self):
         words, variables = command_of("prog", conditions(4, "pinned"))
         self.assertEqual(words[:2] + words[3:4], ["taskset", "-c", "prog"])
         self.assertIn(int(words[2]), os.sched_getaffinity(0))
-        self.assertEqual(variables, {})
+        self.assertEqual(variables, OVERWRITTEN)
 
     def test_delays_in_the_runtime(self):
         _, variables = command_of("prog", dataclasses.replace(conditions(2), perturb="12:1a2b+"))
