@@ -4,7 +4,7 @@ from array import array
 from collections import Counter
 from dataclasses import dataclass
 from functools import cached_property
-from itertools import compress
+from itertools import compress, repeat
 from operator import add
 from typing import NamedTuple
 
@@ -128,12 +128,19 @@ class Answers:
         assert len(found[0]) == len(self.code), "the text was read otherwise"
         return Rows(self.code.cost, self.code.task, *found)
 
-    def sums(self, names):
-        """By name the row of `places`, where each kind of segments has one of these names."""
-        numbers = {name: number for number, name in enumerate(dict.fromkeys(names))}
-        of_kind = [numbers[name] for name in names]
+    @cached_property
+    def of_kinds(self):
+        """Of each kind of segments the row of `places`."""
         self.noted("spanprof_large places < " + self.name)
-        return dict(zip(numbers, zip(*client.places(self.path, map(of_kind.__getitem__, self.code.of)))))
+        return list(zip(*client.places(self.path, self.code.of)))
+
+    def sums(self, names):
+        """The same by name, where each kind of segments has one of these names: sums, and the least slack."""
+        out = {}
+        for name, (*sums, slack) in zip(names, self.of_kinds):
+            *before, least = out.get(name, (*repeat(0, len(sums)), slack))
+            out[name] = (*map(add, before, sums), min(least, slack))
+        return out
 
     def costs(self):
         """By place."""
@@ -156,19 +163,20 @@ class Answers:
 
     @cached_property
     def curve(self):
-        """Of each number of threads, from 1 on, the numbers of its row. Of a long text `end` is there on some alone."""
+        """Of each number of threads, from 1 on, the numbers of its row; of a long text without `end`."""
         if self.is_long:
-            return self.bounds()
+            return curve_in(self.ask("--upto", str(max(self.most_threads, LONGEST_CURVE))))
         enough = 2 * max(self.threads, self.work // max(self.span, 1))
         upto = max(self.most_threads, min(LONGEST_CURVE, max(16, enough)))
         return curve_in(self.ask("curve", "--upto", str(upto)))
 
-    def bounds(self):
-        out = curve_in(self.ask("--upto", str(max(self.most_threads, LONGEST_CURVE))))
-        for threads in {self.threads, self.head.threads} & set(out):
+    @cached_property
+    def schedules(self):
+        """The same, of a long text with the ends of greedy schedules on its threads: each takes seconds."""
+        for threads in {self.threads, self.head.threads} & set(self.curve) if self.is_long else ():
             made = self.greedy if threads == self.threads else self.greedy_on(threads)
-            out[threads].update({"end": made.end} if made else {})
-        return out
+            self.curve[threads].update({"end": made.end} if made else {})
+        return self.curve
 
     @cached_property
     def greedy(self):

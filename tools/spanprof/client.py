@@ -123,7 +123,9 @@ def columns(words, text, wanted):
 
 def places(path, numbers, wanted=SUMS, times=""):
     """Of the text in a file, of which each segment stands at the place of its number, these columns of `places`."""
-    rest = " ".join(map(str, numbers)) + ("\n%s\n%s" % (DIVIDER, times) if times else "")
+    numbers = list(numbers)
+    words = {number: str(number) for number in set(numbers)}
+    rest = " ".join(map(words.__getitem__, numbers)) + ("\n%s\n%s" % (DIVIDER, times) if times else "")
     return columns(["places"], Document(path, rest), wanted)
 
 
@@ -145,7 +147,7 @@ def numbers(text):
 
 
 @read_once
-def numbers_of_file(path):
+def numbers_of_file(path, *_):
     return numbers(TextFile(path))
 
 

@@ -79,16 +79,16 @@ class Document(TextFile):
 
 
 def read_once(read):
-    """Of a path; it is read again where the file has changed, or the words `by` are others."""
+    """Of a path, and what else is asked of it; it is read again where the file has changed."""
     @lru_cache(maxsize=2)
-    def kept(path, *_):
-        return read(path)
+    def kept(path, _, *by):
+        return read(path, *by)
 
     @wraps(read)
     def answer(path, *by):
         with naming(path):
             now = os.stat(path)
-        return kept(os.path.abspath(path), now.st_ino, now.st_size, now.st_mtime_ns, *by)
+        return kept(os.path.abspath(path), (now.st_ino, now.st_size, now.st_mtime_ns), *by)
     return answer
 
 

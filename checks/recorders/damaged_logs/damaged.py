@@ -26,15 +26,16 @@ from spanprof.errors import Fault  # noqa: E402
 
 SECONDS, MEGABYTES = 30, 1500
 BELOW_ZERO = re.compile(rb"^(?:# elapsed: -|\d+ \d+ (?:-|\d+ -))\d+", re.M)
+RUNS = ("wall",), ("cpu",), ("wall", "late"), ("cpu", "late")    # the clock, and the program's argument
 WAYS = ({"SPANPROF_TIMES": "1"}, {"SPANPROF_WHOLE": "1", "SPANPROF_TIMES": "1"})
 CHECKED = {"ASAN_OPTIONS": "detect_leaks=0:hard_rss_limit_mb=%d:allocator_may_return_null=0" % MEGABYTES,
            "UBSAN_OPTIONS": "print_stacktrace=1"}
 
 
-def record(program, out, clock):
+def record(words, out, clock):
     variables = dict(os.environ, OMP_NUM_THREADS="3", OMP_CANCELLATION="true", **LOADED,
                      SPANPROF_OUT=out, SPANPROF_QUIET="1", SPANPROF_CLOCK=clock, SPANPROF_CALL_PATHS="1")
-    subprocess.run([program], env=variables, stdout=subprocess.DEVNULL, check=True)
+    subprocess.run(words, env=variables, stdout=subprocess.DEVNULL, check=True)
 
 
 def limit():
@@ -105,9 +106,10 @@ def try_damage(converter, whole, seed, keep):
 def try_all(converter, count, seed, keep):
     with tempfile.TemporaryDirectory() as folder:
         program, wholes = build(os.path.join(HERE, "program.c"), folder), []
-        for clock in ("wall", "cpu"):
-            record(program, os.path.join(folder, clock), clock)
-            wholes.append(log_of(os.path.join(folder, clock)))
+        for i, (clock, *more) in enumerate(RUNS):
+            out = os.path.join(folder, str(i))
+            record([program, *more], out, clock)
+            wholes.append(log_of(out))
             if try_log(converter, wholes[-1], folder):
                 raise Wrong("a log without damage is refused")
         found = [try_damage(converter, wholes[i % len(wholes)], "%s.%d" % (seed, i), keep) for i in range(count)]

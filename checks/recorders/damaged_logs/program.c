@@ -1,5 +1,7 @@
-// A little of all that the recorder tells of, so that its log has records of every kind.
+// A little of all that the recorder tells of, so that its log has records of every kind. With an argument a thread of
+// the program's own meets regions late, too.
 #include <omp.h>
+#include <pthread.h>
 #include <stdio.h>
 
 static volatile int done;
@@ -68,9 +70,8 @@ static void inside(void) {
     }
 }
 
-int main(void) {
-    omp_init_lock(&lock);
-    for (int step = 0; step < 2; step++) {
+static void regions(int count) {
+    for (int step = 0; step < count; step++) {
 #pragma omp parallel
         {
 #pragma omp single
@@ -84,6 +85,25 @@ int main(void) {
 #pragma omp critical
             code(50);
         }
+    }
+}
+
+static void *late(void *count) {
+    regions(*(int *)count);
+    return NULL;
+}
+
+int main(int words, char **word) {
+    (void)word;
+    int count = 2;
+    omp_init_lock(&lock);
+    regions(count);
+    if (words > 1) {
+        pthread_t thread;
+        pthread_create(&thread, NULL, late, &count);
+        regions(count);
+        pthread_join(thread, NULL);
+        regions(count);
     }
     printf("%d\n", done);
     return 0;

@@ -39,9 +39,15 @@ bool has_known_words(const Head &head) {
          head.stopped <= log_form::Stopped::End;
 }
 
+// The child of a fork begins after its parent has read the clocks.
+int64_t latest_start(const Head &head) {
+  if (!head.is_child) return head.first.wall;
+  return head.end.wall ? head.end.wall : latest_wall;
+}
+
 bool has_times(const Head &head) {
   if (!is_wall(head.first.wall) || !is_wall(head.time_of_day)) return false;
-  if (head.program_start > latest_wall || head.program_start < -latest_wall) return false;
+  if (head.program_start < -latest_wall || head.program_start > latest_start(head)) return false;
   if (head.in_a_record < 0 || head.in_a_record > most_in_a_record) return false;
   if (head.end_processor < 0 || head.end_processor >= longest_time) return false;
   for (const Pair &later : {head.second, head.end, head.stop})

@@ -291,7 +291,7 @@ void report_whole(const Job &job, Run &run, Recording recording, int64_t end) {
 void report(const Job &job, Ending &ending) {
   const Ending unread = ending;
   Run &run = *new Run(read_run(job.threads, ending, how_to_read(job)));  // given back by the end of the process
-  int64_t end = std::max(job.end, ending.last);  // of a program that was killed the head has none
+  int64_t end = std::max({job.start, job.end, ending.last});  // of a program that was killed the head has none
   ProgramTime time = divide_time(job.threads, job.start, end);
   ThreadTime threads{outside_regions(job, run, time, end), in_code(run), !ending.full && !ending.killed};
   if (run.whole) return report_whole(job, run, {job.program, job.date, 0, time, threads}, end);

@@ -389,6 +389,8 @@ TEST(a_head_of_impossible_times_is_refused) {
   };
   EXPECT(why([](Head &) {}), "");
   EXPECT(why([](Head &head) { head.first.wall = -1; }), "its head is damaged");
+  EXPECT(why([](Head &head) { head.program_start = head.first.wall + 1; }), "its head is damaged");
+  EXPECT(why([](Head &head) { head.is_child = 1, head.program_start = head.first.wall + 1; }), "");
   EXPECT(why([](Head &head) { head.in_a_record = INT64_MAX; }), "its head is damaged");
   EXPECT(why([](Head &head) { head.record_bytes = 7; }), "its head is damaged");
   EXPECT(why([](Head &head) { head.end = {1, INT64_MAX}; }), "its head is damaged");

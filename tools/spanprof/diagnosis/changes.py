@@ -123,8 +123,8 @@ class Bench:
     """A text on which changes are tried, on as many threads as the run could have had. All have these seconds, or as
     long as the run took and no less than ten seconds; `longest` is what one of them took."""
 
-    def __init__(self, text, facts, seconds=None):
-        self.facts, self.head = facts, text.head
+    def __init__(self, text, facts, end_of, seconds=None):
+        self.facts, self.end_of, self.path = facts, end_of, text.path
         self.until, self.longest = time.monotonic() + (seconds or seconds_for(text.head)), 0
         self.unit = text.head.nanoseconds or 1
         self.kept = text.statements()
@@ -146,6 +146,8 @@ class Bench:
         return end
 
     def greedy_end(self, requests):
+        if not requests:
+            return self.end_of(self.path, self.facts.usable) * self.unit
         made = changes(requests, self.seen, self.costs)
         lines = applied(self.kept, made).text()
         if not all(one.count for one in made):

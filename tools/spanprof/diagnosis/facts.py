@@ -24,7 +24,7 @@ from spanprof.program_text import BEGINNING
 from spanprof.recording import document
 from spanprof.regions import program_of, union
 from spanprof.segment_table import code_in
-from spanprof.text_file import TextFile
+from spanprof.text_file import TextFile, read_once
 from spanprof.time_breakdown import breakdown_of
 from spanprof.whatif.numbers import numbers_of
 
@@ -205,6 +205,7 @@ def set_breakdown(facts, found):
     facts.delayed_by, facts.starved_by = found.idle
 
 
+@read_once
 def greedy_end(path, threads):
     """Where the greedy run of a text ends; its bound where there is too little memory for that."""
     row = numbers_of(TextFile(path), [threads]).on[threads]

@@ -43,12 +43,12 @@ def needs_trials(facts):
     return pieces < LONG or not first or first.gain < MOST_OF_IT * first.before
 
 
-def bench_of(path, facts, seconds=None):
+def bench_of(path, facts, end_of, seconds=None):
     """None where no change can be tried, as on a text of version 2."""
     if version_of(path) == 2:
         return None
     try:
-        return Bench(Text(path, 1), facts, seconds)
+        return Bench(Text(path, 1), facts, end_of, seconds)
     except (Fault, OSError):
         return None
 
@@ -57,7 +57,7 @@ def output_of(recording, folders=(), seconds=None, end_of=greedy_end):
     """`folders` are where the source is; without them beside the recording, and here. Changes are tried for so many
     seconds, or as long as a person waits."""
     facts = facts_of(recording, end_of)
-    bench = bench_of(recording.text, facts, seconds) if needs_trials(facts) else None
+    bench = bench_of(recording.text, facts, end_of, seconds) if needs_trials(facts) else None
     beside = [os.path.dirname(os.path.abspath(recording.folder or recording.text)), os.getcwd()]
     names = Names(facts, Sources(list(folders) or beside, facts.sources))
     if bench:

@@ -29,7 +29,7 @@ class Axes:
 
 def speed_ups(answers, column):
     """Nothing where no greedy schedule was made."""
-    return [(threads, answers.work / row[column] if row[column] else 1) for threads, row in answers.curve.items()
+    return [(threads, answers.work / row[column] if row[column] else 1) for threads, row in answers.schedules.items()
             if column in row]
 
 
@@ -59,7 +59,7 @@ def grid(axes):
 
 def point_title(view, threads):
     """What the curve says at a point, in one line."""
-    row, work, named = view.answers.curve[threads], view.answers.work, "curve %d " % threads
+    row, work, named = view.answers.schedules[threads], view.answers.work, "curve %d " % threads
     times = work / row["end"] if row["end"] else 1
     words = "%d threads, %.2f times" % (threads, times)
     sources = [named + "threads", "span work / %send" % named]

@@ -31,7 +31,7 @@ def recorded_title(view):
 
 def greedy_title(view):
     answers, show = view.answers, view.figures
-    end = answers.curve[answers.threads]["end"]
+    end = answers.schedules[answers.threads]["end"]
     return title("greedy", answers.threads, show.time(end, "curve %d end" % answers.threads, PROVED),
                  show.share(answers.work, answers.threads * end, "span work / greedy time", PROVED), [PROVED])
 

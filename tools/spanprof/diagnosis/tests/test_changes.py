@@ -71,9 +71,10 @@ class Tries(unittest.TestCase):
         self.was = module.greedy_end, module.client.at_once
         module.greedy_end = self.measured
         module.client.at_once = lambda answer, questions: [answer(one) for one in questions]
-        text = SimpleNamespace(head=read_head('# recorded: {"threads": 4, "unit": "us"}\n'),
+        self.head = read_head('# recorded: {"threads": 4, "unit": "us"}\n')
+        text = SimpleNamespace(head=self.head, path=TEXT,
                                statements=lambda: of_stream(statements(TEXT.splitlines(True))))
-        self.bench = Bench(text, found_in(program().places))
+        self.bench = Bench(text, found_in(program().places), self.measured)
 
     def tearDown(self):
         module.greedy_end, module.client.at_once = self.was
@@ -95,7 +96,7 @@ class Tries(unittest.TestCase):
     def test_none_is_begun_that_may_end_too_late(self):
         wait = single("drop-wait", "taskwait at image.c:30")
         self.assertTrue(self.bench.has_time())
-        self.bench.longest = module.seconds_for(self.bench.head)    # as long as there is for all of them
+        self.bench.longest = module.seconds_for(self.head)    # as long as there is for all of them
         self.assertFalse(self.bench.has_time())
         self.assertEqual(self.bench.tries([wait]), [])
 

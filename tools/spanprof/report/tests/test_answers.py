@@ -71,15 +71,18 @@ class OfALongText(unittest.TestCase):
         self.answers = Answers(worked.path("mesh.tasks"))
 
     def test_curve(self):
-        self.assertEqual([p for p, row in self.answers.curve.items() if "end" in row], [2])
-        self.assertEqual(self.answers.curve[2], {"threads": 2, "least": 31, "bound": 41, "end": 31})
+        self.assertEqual(self.answers.curve[2], {"threads": 2, "least": 31, "bound": 41})
         self.assertEqual(max(self.answers.curve), 64)
-        self.assertEqual(self.answers.asked, ["spanprof_large --upto 64 < mesh.tasks",
-                                              "spanprof_large greedy --threads 2 < mesh.tasks"])
+        self.assertEqual(self.answers.asked, ["spanprof_large --upto 64 < mesh.tasks"])
+
+    def test_schedules(self):
+        self.assertEqual([p for p, row in self.answers.schedules.items() if "end" in row], [2])
+        self.assertEqual(self.answers.schedules[2], {"threads": 2, "least": 31, "bound": 41, "end": 31})
+        self.assertEqual(self.answers.asked[1:], ["spanprof_large greedy --threads 2 < mesh.tasks"])
 
     def test_too_little_memory(self):
         with mock.patch("spanprof.client.columns", side_effect=Refused(["greedy"], "", "error: out of memory")):
-            self.assertEqual(self.answers.curve[2], {"threads": 2, "least": 31, "bound": 41})
+            self.assertEqual(self.answers.schedules[2], {"threads": 2, "least": 31, "bound": 41})
 
 
 class Lines(unittest.TestCase):
