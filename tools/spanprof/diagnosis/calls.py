@@ -21,6 +21,7 @@ ONE_AT_A_TIME = {
 OUTERMOST = ("main", "_start", "unnamed")    # the last is code that a compiler made of a construct
 OF_MPI = re.compile("P?MPI_(?!Init)")
 MPI_BEGINS = re.compile("P?MPI_Init")
+AT_START = "the start"      # in the place of code's name, of what slept then
 # The system's loader, and constructors of static objects.
 BEFORE_MAIN = re.compile(r"_GLOBAL__(sub_)?I_|__cxx_global_var_init|[^;]*@ld-linux")
 OF_COMPILERS = re.compile(r"(\.omp_outlined|\._omp_fn|\.part\.|\.constprop\.|\.isra\.|\.cold|\.lto_priv| \[clone ).*$")

@@ -11,7 +11,7 @@ from typing import Dict, List, Optional
 from spanprof import client
 from spanprof.breakdown_program import NoBreakdown
 from spanprof.diagnosis.barriers import needless_barriers
-from spanprof.diagnosis.calls import RUNTIME, Sampled, calls_of, is_of_ranks, is_start, plain
+from spanprof.diagnosis.calls import AT_START, RUNTIME, Sampled, calls_of, is_of_ranks, is_start, plain
 from spanprof.diagnosis.library_locks import set_library_locks
 from spanprof.diagnosis.lock_times import locks_of
 from spanprof.diagnosis.losses import divided
@@ -259,10 +259,15 @@ def set_ranks(facts):
 
 
 def set_starting(facts):
-    """The start of a program is no code of its own that samples saw."""
-    for found in (facts.calls.ran.get(BEGINNING, {}), facts.calls.slept.get(BEGINNING, {})):
-        for calls in filter(is_start, list(found)):
-            del found[calls]
+    """The start of a program is no code of its own that samples saw, nor is its sleep meanwhile that of code."""
+    ran, slept = facts.calls.ran.get(BEGINNING, {}), facts.calls.slept.get(BEGINNING, {})
+    for calls in filter(is_start, list(ran)):
+        del ran[calls]
+    asleep = min(1000 * sum(slept.pop(calls) for calls in filter(is_start, list(slept))),
+                 facts.asleep_by.get(BEGINNING, 0))
+    if asleep:
+        facts.asleep_by[BEGINNING] -= asleep
+        facts.asleep_by[AT_START] = asleep
 
 
 def set_waiting(facts):

@@ -6,7 +6,7 @@ from collections import Counter
 from typing import NamedTuple
 
 from spanprof.diagnosis.allocation import allocating, most_allocating
-from spanprof.diagnosis.calls import A_SAMPLE, RUNTIME, in_system, shares
+from spanprof.diagnosis.calls import A_SAMPLE, AT_START, RUNTIME, in_system, shares
 from spanprof.diagnosis.causes import BUSY, BY_KIND, SECOND
 from spanprof.diagnosis.own_code import of_interpreter, serial_places
 from spanprof.diagnosis.places import A_START, AROUND_REGIONS, OF_THREADS, OWN, SERIAL, SHARE
@@ -347,7 +347,8 @@ def off_losses(facts):
     locks = {lock_name(lock): lock.waited for lock in facts.locks}
     off = int((facts.at_locks - facts.in_library) * off_while_waiting(facts))
     return by_place("lock", facts.at_locks - off, locks) + [Loss(kind_of_preempted(facts), "", off)] + \
-        [loss._replace(kind=kind_of_sleep(facts, loss.place))
+        [Loss("startup", "", loss.time) if loss.place == AT_START else
+         loss._replace(kind=kind_of_sleep(facts, loss.place))
          for loss in by_place("sleep", facts.asleep, facts.asleep_by or at_heaviest(facts))] + \
         by_place(kind_of_preempted(facts), facts.preempted, facts.preempted_by)
 

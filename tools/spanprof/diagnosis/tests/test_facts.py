@@ -83,6 +83,14 @@ class OfText(unittest.TestCase):
         self.assertEqual({loss.kind: loss.time for loss in reported.losses}, {"startup": 228 * MS, "serial": 72 * MS})
         self.assertIn("startup 57 %", sure_words(reported))
 
+    def test_sleep_before_the_programs_first_function_is_of_its_start(self):
+        begins = place("the beginning", SERIAL, cost=100 * MS, pieces=1, tasks=0)
+        slept = {begins.name: {("main", "PMPI_Init"): 60000}}
+        found = facts([begins], starved=300 * MS, starved_by={begins.name: 300 * MS}, asleep=60 * MS,
+                      asleep_by={begins.name: 60 * MS}, calls=Sampled({begins.name: {("main", "solve"): 40000}}, slept))
+        module.set_starting(found)
+        self.assertEqual({loss.kind for loss in diagnose(found).losses}, {"startup", "serial"})
+
     def test_names_of_functions(self):
         self.assertEqual(self.found.functions, {"image.c:25": "main"})
         self.assertEqual(function_in("in sort(int*, int), inlined into main at sort.c:9"), "sort")
