@@ -29,7 +29,7 @@ class Processes(unittest.TestCase):
         with mock.patch.object(timing, "TIMEOUT", 0.1), self.assertRaises(TooSlow):
             run(python("import time; time.sleep(60)"), os.devnull)
 
-    def test_memory_is_told_in_mebibytes(self):
+    def test_memory_is_reported_in_mebibytes(self):
         self.assertGreater(peak(python("held = bytearray(64 << 20)"), os.devnull), 64)
 
 

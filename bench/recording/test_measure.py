@@ -36,7 +36,7 @@ class Measures(unittest.TestCase):
         self.assertEqual(both.tool(OTHER), "/o.so")
         self.assertNotIn("SPANPROF_CLOCK", environment("/o.so", OTHER, "o"))
 
-    def test_what_is_more_is_told_turn_by_turn(self):
+    def test_what_is_more_is_reported_turn_by_turn(self):
         ways = (WAYS[0], WAYS[1], WAYS[2])
         measured = {WAYS[0]: [(2.0, 0), (4.0, 0), (1.0, 0)], WAYS[2]: [(2.5, 32), (4.25, 32), (1.5, 33)]}
         self.assertEqual(more_row("10 us", ways, measured),

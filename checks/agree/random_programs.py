@@ -66,7 +66,7 @@ def tree(levels):
 
 # ---- answers
 
-def segments_told(span):
+def segments_reported(span):
     """How many segments `span` tells; 1 of a text that is refused."""
     found = re.match(r"segments (\d+)\n", span)
     return int(found[1]) if found else 1

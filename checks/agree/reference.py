@@ -125,7 +125,7 @@ def compare_text(small, large, text, seed):
     certificates = [reported] if "\n---\n" in reported else []
     certificates += [random_programs.with_another_number(reported, rng) for _ in range(3) if certificates]
     text = text.decode(errors="replace") if isinstance(text, bytes) else text
-    segments = random_programs.segments_told(small.compare("span", text))
+    segments = random_programs.segments_reported(small.compare("span", text))
     replays = [draw_document(rng, text, min(segments, 2_000)) for _ in range(2)]
     for pair in (small, large):
         for document in (*certificates, text, text + "---\n", f"{text}---\nend 0 chain 0"):
@@ -199,7 +199,7 @@ def compare_large(large, tasks=20_000):
         for words in ("span", "--upto 64", "slack", "greedy --threads 64", "graph", "curve --upto 3"):
             large.compare(words, text)
         compare_account(large, random_runs.as_a_run(text.decode(), large.compare("greedy --threads 3", text), 3))
-        segments = random_programs.segments_told(large.compare("span", text).split("\n", 1)[1])
+        segments = random_programs.segments_reported(large.compare("span", text).split("\n", 1)[1])
         large.compare("places", text + b"---\n" + b"".join(b"%d\n" % (s * s % 77) for s in range(segments)))
         certificate = large.compare("certify", text)
         large.compare("check", certificate)

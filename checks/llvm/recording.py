@@ -58,7 +58,7 @@ def names_of(name):
                   key=lambda path: (path.count("."), path))
 
 
-def told_of(log, out, settings):
+def reported_of(log, out, settings):
     variables = dict(os.environ, **settings)
     reported = convert(converter(print), log, out, variables)
     if variables.get("SPANPROF_WHOLE") == "1" and os.path.exists(out + ".tasks"):
@@ -71,7 +71,7 @@ def told_of(log, out, settings):
 def texts(name, settings=(), out=None):
     """Makes texts of all logs of a run, each with the name of its recording. What the converter says, and whether it
     failed."""
-    reported = [one for each in names_of(name) for one in told_of(log_of(each), out or each, dict(settings))]
+    reported = [one for each in names_of(name) for one in reported_of(log_of(each), out or each, dict(settings))]
     said = [in_words(one) for one in reported]
     return "".join(line + "\n" for line in said), has_failed(reported)
 

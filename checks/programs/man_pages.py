@@ -39,7 +39,7 @@ def section(text, title):
     return re.split(r"(?m)^#+ %s$" % re.escape(title), text)[1].split("\n#")[0]
 
 
-def told_in_formats():
+def listed_in_formats():
     text = read("docs", "FORMATS.md")
     table = section(text, "Errors")
     faults = re.findall(r"\d+\s+`([A-Z][A-Za-z]+)`", text[text.index("The kinds are numbered"):])
@@ -49,7 +49,7 @@ def told_in_formats():
             "exit statuses": set(re.findall(r"(?m)^\| [^|]* \| (\d) \|", table))}
 
 
-def told_in_page(page):
+def shown_in_page(page):
     parts = dict(re.findall(r"(?ms)^([A-Z ]+)\n(.*?)(?=^[A-Z]|\Z)", page))
     errors = parts["ERRORS"]
     return {"error lines": set(ERROR.findall(errors)), "kinds": set(NAME.findall(errors)),
@@ -105,8 +105,8 @@ def faults():
         page, complaints = shown(name)
         yield from ("%s.1: %s" % (name, line) for line in complaints.splitlines())
         if name == "spanprof":
-            found = told_in_page(page)
-            for what, reported in told_in_formats().items():
+            found = shown_in_page(page)
+            for what, reported in listed_in_formats().items():
                 yield from differences("spanprof.1, " + what, found[what], reported)
         else:
             reported = set().union(*(options_of_help(name, words) for words in HELP[name]))

@@ -62,11 +62,11 @@ def differences(program, folder):
                 if alone[:3] != through[:3]:
                     yield "%s: status %d, %d bytes and %d left; through the script %d, %d and %d" % (
                         what, alone[0], len(alone[1]), len(alone[2]), through[0], len(through[1]), len(through[2]))
-                if b"Traceback" in through[3] or bool(through[3]) != bool(through[0]) and not is_told(alone[1]):
+                if b"Traceback" in through[3] or bool(through[3]) != bool(through[0]) and not is_reported(alone[1]):
                     yield "%s: standard error has %r" % (what, through[3][:200])
 
 
-def is_told(line):
+def is_reported(line):
     """Whether the line itself says all, as the verdict on a certificate does."""
     return line.startswith((b"error: Broken", b"error: WrongCount", b"error: End", b"error: Chain"))
 

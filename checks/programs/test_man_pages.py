@@ -5,7 +5,7 @@ import unittest
 
 sys.path.insert(0, str(pathlib.Path(__file__).resolve().parent))
 from man_pages import (NAME, differences, options_of_page, section, statuses_of_help, statuses_of_page,
-                       told_in_page)
+                       shown_in_page)
 
 PAGE = """\
 COMMANDS
@@ -27,7 +27,7 @@ SEE ALSO
 
 class Pages(unittest.TestCase):
     def test_what_a_page_tells(self):
-        self.assertEqual(told_in_page(PAGE), {
+        self.assertEqual(shown_in_page(PAGE), {
             "error lines": {"line", "BadForm", "wrong words"}, "kinds": {"Unclosed", "BadForm"},
             "commands": {"span", "greedy"}, "exit statuses": {"0", "3"}})
 

@@ -119,7 +119,7 @@ def diagnosis_faults(reported):
         yield "no change for '%s'" % causes[0]["what"]
 
 
-def told_faults(said, path):
+def reported_faults(said, path):
     """Of what is reported, in words and as JSON."""
     yield from forbidden(said)
     if os.path.exists(path):
@@ -137,7 +137,7 @@ def try_program(words, recorder):
         path = os.path.join(out, "told")
         options = ["--all", "--json", path, "--out", os.path.join(out, "run")]
         recorded = run([recorder, *options, "--", *words], environment)
-        found = [*faults(plain, again, recorded), *told_faults(recorded.said, path)]
+        found = [*faults(plain, again, recorded), *reported_faults(recorded.said, path)]
     named, lost = RUNTIME.search(recorded.said), re.search(r"^lost +(.*)", recorded.said, re.M)
     return found, "status %s, on %s: %s" % (plain.status, named[1] if named else "nothing", lost[1] if lost else "")
 

@@ -40,7 +40,7 @@ def quoted(readme):
             for text, command, both in pairs(readme) if both != [UNTOLD, UNTOLD]}
 
 
-def untold(readme, table):
+def unreported(readme, table):
     """A line for each pair that has a place in the README and numbers in the table, and not in the README."""
     for text, command, both in pairs(readme):
         if both == [UNTOLD, UNTOLD] and (text, command) in table:
@@ -118,7 +118,7 @@ def main():
         readme = written(readme, measured(bench))
         (TOP / "README.md").write_text(readme, encoding="utf-8")
     reported = quoted(readme)
-    wrong = [*differences(reported, measured(bench)), *untold(readme, measured(bench)),
+    wrong = [*differences(reported, measured(bench)), *unreported(readme, measured(bench)),
              *range_differences(readme, reported, timed(bench))]
     for line in wrong:
         print(line)

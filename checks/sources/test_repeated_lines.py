@@ -42,7 +42,7 @@ class Repeated(unittest.TestCase):
 
 
 class Runs(unittest.TestCase):
-    def test_a_run_is_told_whole_and_longest_first(self):
+    def test_a_run_is_reported_whole_and_longest_first(self):
         longer = ROW + ["one more"]
         other = ["other %d" % number for number in range(WINDOW)]
         reported = longest_runs(files(one=longer + other, two=longer, three=other))

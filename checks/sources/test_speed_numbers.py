@@ -4,7 +4,7 @@ import sys
 import unittest
 
 sys.path.insert(0, str(pathlib.Path(__file__).resolve().parent))
-from speed_numbers import (differences, measured, nearest_tenth, quoted, range_differences, rounded, timed, untold,
+from speed_numbers import (differences, measured, nearest_tenth, quoted, range_differences, rounded, timed, unreported,
                            written)
 
 README = """\
@@ -45,7 +45,7 @@ fan            curve --upto 64          123.4     120.0   1.03      6.0      3.6
 
 
 class Numbers(unittest.TestCase):
-    def test_what_is_told(self):
+    def test_what_is_reported(self):
         self.assertEqual(quoted(README), {
             ("chain", "span"): (9, 4), ("chain", "curve --upto 64"): (1532, 27),
             ("fan", "span"): (75, 45), ("fan", "curve --upto 64"): (609, 444)})
@@ -86,10 +86,10 @@ class Places(unittest.TestCase):
         self.assertEqual(quoted(self.PLACE), {("chain", "span"): (9, 4), ("chain", "curve --upto 64"): (1532, 27)})
 
     def test_numbers_that_have_a_place(self):
-        self.assertEqual(list(untold(self.PLACE, measured(TABLE))),
+        self.assertEqual(list(unreported(self.PLACE, measured(TABLE))),
                          ["fan span: not reported, and 75.0 and 45.0 were measured"])
-        self.assertEqual(list(untold(self.PLACE, {})), [])
-        self.assertEqual(list(untold(README, measured(TABLE))), [])
+        self.assertEqual(list(unreported(self.PLACE, {})), [])
+        self.assertEqual(list(unreported(README, measured(TABLE))), [])
 
     def test_they_are_put_there(self):
         self.assertEqual(written(self.PLACE, measured(TABLE)),
@@ -113,7 +113,7 @@ class Times(unittest.TestCase):
         reported = [nearest_tenth(hundredths) for hundredths in ("0.94", "0.95", "1.65", "10.04")]
         self.assertEqual(reported, ["0.9", "1.0", "1.7", "10.0"])
 
-    def test_the_range_of_the_rows_that_are_told(self):
+    def test_the_range_of_the_rows_that_are_reported(self):
         self.assertEqual(self.range_of(README), [])
         for other in ("0.8 to 1.7", "0.9 to 1.6", "1.0 to 9.0"):
             self.assertEqual(self.range_of(README.replace("0.9 to 1.7", other)),

@@ -214,7 +214,8 @@ def difference(reported):
 LINES = {
     "recorded": read_recorded, "region": read_region, "whole program": read_whole, "covers": read_coverage,
     "divided": read_divided, "lock": read_lock, "place": read_place, "short chunks": read_chunks,
-    "few turns": lambda head, at: head.few_turns.update({words(at["at"]): [number(at["turns"]), number(at["threads"])]}),
+    "few turns": lambda head, at: head.few_turns.update(
+        {words(at["at"]): [number(at["turns"]), number(at["threads"])]}),
     "source": lambda head, at: head.sources.update({words(at["file"]): words(at["path"])})}
 # Those that are one field, and how it is read.
 FIELDS = {

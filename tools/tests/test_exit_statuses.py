@@ -22,7 +22,7 @@ CASES = {  # by tool, words and the status with which they end it; {text} and {l
 OTHERS = {"conformance": {1, 130}, "record": {3}, "report": {3}}
 
 
-def told_in(words):
+def reported_in(words):
     """The statuses beside 0 in the sentence on them."""
     sentence = re.search(r"xit status ([^.]*)\.", " ".join(words.split()))[1]
     return set(map(int, re.findall(r"\b\d+\b", sentence))) - {0}
@@ -56,7 +56,7 @@ class Statuses(unittest.TestCase):
                 self.assertLessEqual(len(done.stderr.splitlines()), 2, (tool, words, done.stderr))
                 self.assertEqual(done.stdout, "")
             ends = {status for _, status in cases} | OTHERS.get(tool, set())
-            self.assertEqual(told_in(usage.stdout), ends, tool)
+            self.assertEqual(reported_in(usage.stdout), ends, tool)
 
 
 if __name__ == "__main__":

@@ -19,7 +19,7 @@ import tempfile
 
 from judging import answer_of, is_there
 from programs import KINDS, kind_of, program
-from run import HERE, told_again
+from run import HERE, diagnosed_again
 
 ARCHIVE, ANSWERS = (os.path.join(HERE, "kept." + ending) for ending in ("tar.xz", "txt"))
 SMALL = 200000      # bytes of a recording without its log
@@ -72,7 +72,7 @@ def of_source(folder, name):
 
 def row(folder, path):
     one = of_source(os.path.basename(folder), os.path.splitext(os.path.basename(path))[0])
-    reported = told_again(path, one).json()
+    reported = diagnosed_again(path, one).json()
     answer, change = answer_of(reported), (reported["diagnosis"] or [{}])[0].get("change") or {"what": "-"}
     is_right = answer.kind == one.kind and is_there(one, answer)
     place = "%s:%s" % (answer.file, "-".join(map(str, answer.lines))) if answer.file else "-"

@@ -46,7 +46,7 @@ def measured(folder, name):
         return Times(**json.load(file))
 
 
-def told_again(path, program):
+def diagnosed_again(path, program):
     """What the diagnosis says of a recording of the program."""
     return output_of(open_recording(path), [os.path.dirname(program.source)], PATIENCE)
 
@@ -56,7 +56,7 @@ def judge(program, folder):
     times = measured(folder, program.name)
     if not times.is_same:
         sys.exit("%s: the repaired program writes something else" % program.name)
-    reported = told_again(os.path.join(folder, program.name + ".spanprof"), program)
+    reported = diagnosed_again(os.path.join(folder, program.name + ".spanprof"), program)
     answer = answer_of(reported.json())
     verdict = judged(program, answer, times.gain, times.is_quiet)
     return row(program, answer, times, verdict), reported.lines(), verdict.is_right

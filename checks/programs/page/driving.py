@@ -4,8 +4,8 @@ import os
 import shlex
 import subprocess
 
-from measured import what_was_measured_is_told
-from timelines import (fingers_are_told, fingers_zoom, names_stand_in_bars, runs_zoom_by_themselves,
+from measured import what_was_measured_is_reported
+from timelines import (fingers_are_reported, fingers_zoom, names_stand_in_bars, runs_zoom_by_themselves,
                        segments_are_chosen)
 
 TOP = os.path.dirname(os.path.dirname(os.path.dirname(os.path.dirname(os.path.abspath(__file__)))))
@@ -196,8 +196,8 @@ def drive(page, text, program):
     if has_timeline(page):
         trials += [focus_goes_through, keys_zoom_and_move, letters_zoom_and_move, a_key_goes_along_the_path,
                    mouse_tells, mouse_zooms_and_moves, names_stand_in_bars, segments_are_chosen,
-                   runs_zoom_by_themselves, fingers_are_told, fingers_zoom]
+                   runs_zoom_by_themselves, fingers_are_reported, fingers_zoom]
     for trial in trials:
         yield from trial(page)
-    yield from what_was_measured_is_told(page, text)
+    yield from what_was_measured_is_reported(page, text)
     yield from changes_give_a_line(page, text, program)

@@ -5,7 +5,7 @@ import os
 SQUARES = "document.querySelectorAll('.chart .true').length"
 
 
-def what_was_measured_is_told(page, text):
+def what_was_measured_is_reported(page, text):
     reported = os.path.join(text, "scale.json")
     if not os.path.exists(reported):
         return

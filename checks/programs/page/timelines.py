@@ -60,7 +60,7 @@ def runs_zoom_by_themselves(page):
     show_all(page)
 
 
-def fingers_are_told(page):
+def fingers_are_reported(page):
     """A tap on a number tells its title."""
     number = page.evaluate("""(() => {
       const number = document.querySelector('td data');

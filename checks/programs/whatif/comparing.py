@@ -37,7 +37,7 @@ class Ends(NamedTuple):
     def __str__(self):
         by_gain = ", work / end %+.1f %%: the work is %+.1f %%" % (
             100 * self.error_of_gain, 100 * (self.moved - 1)) if self.is_by_gain else ""
-        return "%d, %d foretold, %d rewritten (%+.1f %%%s)" % (
+        return "%d, %d predicted, %d rewritten (%+.1f %%%s)" % (
             self.was, self.predicted, self.rewritten, 100 * self.error, by_gain)
 
 

@@ -74,14 +74,14 @@ def covered(text):
     return 100 * head.covered / head.thread_time if head.thread_time else 0.0
 
 
-def told_threads(shape):
+def reported_threads(shape):
     """What waits for a turn is told apart from what works only where each thread has a processor."""
     if shape.name in OWN_THREADS:
         return [OWN_THREADS[shape.name]]
     return [threads for threads in THREADS if shape.name not in WAITING or threads <= os.cpu_count()]
 
 
-def told_of_tasks(lines, shape):
+def reported_of_tasks(lines, shape):
     """Of a program that makes none what the summary tells of its tasks."""
     return ["it has no tasks: " + line for line in lines if shape.name not in WITH_TASKS and OF_TASKS.search(line)]
 
@@ -92,7 +92,7 @@ def judge(program, shape, threads, folder, runs):
     shape = beginning_with(shape, before)
     summary = read(lines)
     found = list(faults_of_numbers(shape, threads, *numbers(text))) + faults(summary, shape, threads)
-    found += told_of_tasks(lines, shape)
+    found += reported_of_tasks(lines, shape)
     if before < -SLACK:
         found.append("%.2f is missing of what is around all regions" % -before)
     for others, took in runs.items():
@@ -111,9 +111,9 @@ def main(words):
         for shape in SHAPES:
             if words[1:] and shape.name not in words[1:]:
                 continue
-            asked = told_threads(shape) if shape.name in OWN_THREADS else THREADS
+            asked = reported_threads(shape) if shape.name in OWN_THREADS else THREADS
             runs = {threads: elapsed(program, shape.name, threads) for threads in asked}
-            wrong += sum(judge(program, shape, threads, folder, runs) for threads in told_threads(shape))
+            wrong += sum(judge(program, shape, threads, folder, runs) for threads in reported_threads(shape))
     print("%d wrong" % wrong)
     sys.exit(bool(wrong))
 

@@ -33,7 +33,7 @@ class Lines(unittest.TestCase):
         self.assertEqual(len(functions(SOURCE, "end")), 5)
         self.assertEqual(functions(SOURCE, "gone"), [])
 
-    def test_a_changed_function_is_told(self):
+    def test_a_changed_function_is_reported(self):
         noted = renoted("signal.rt end -\n", {"signal.rt": SOURCE})
         self.assertEqual(changed_functions(noted, {"signal.rt": SOURCE}), [])
         commented = SOURCE.replace("at last", "now")

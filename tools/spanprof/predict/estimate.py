@@ -57,8 +57,8 @@ def spent_on(machine, threads, base=None):
     """A wake-up was measured with the creation of the task, and its steal. A dispatch that a recording tells has its
     steals in it."""
     creation, steal, wake_up = (machine.cost(name, threads) for name in ("creation", "steal", "wake_up"))
-    is_told = base is not None and base.dispatch is not None
-    return Spent(0 if is_told else steal, max(wake_up - creation - steal, 0))
+    is_reported = base is not None and base.dispatch is not None
+    return Spent(0 if is_reported else steal, max(wake_up - creation - steal, 0))
 
 
 def kind_of(of, threads):

@@ -65,7 +65,7 @@ def of_both(path, change, threads):
     return [(one, least_end(one.base.text, one.costs, threads)) for one in found]
 
 
-def changed_told(path, change, threads):
+def changed_reported(path, change, threads):
     """The same in a line and as JSON, or why no time is reported; none as above."""
     try:
         both = of_both(path, change, threads)

@@ -35,7 +35,7 @@ class Ends(unittest.TestCase):
             self.assertEqual(answered(lambda words: end_with(Console("mine"), mock.Mock(side_effect=Fault("no room")),
                                                              status=125), []), (125, "", "mine: no room\n"))
 
-    def test_help_without_room_is_told(self):
+    def test_help_without_room_is_reported(self):
         def full():
             return open("/dev/full", "w", encoding="utf-8")     # which is written when it is flushed
 

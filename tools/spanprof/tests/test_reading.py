@@ -194,7 +194,7 @@ class Finding(unittest.TestCase):
         self.assertEqual(self.program((reference,)), [reference])
         self.assertEqual(self.program(("spanprof",)), [])
 
-    def test_no_program_is_told_without_a_traceback(self):
+    def test_no_program_is_reported_without_a_traceback(self):
         with mock.patch.dict(os.environ, {"SPANPROF_LARGE": "/no/such/program"}):
             with self.assertRaisesRegex(Fault, "/no/such/program: No such file"):
                 client.ask(["span"], "omptasks 1\n")

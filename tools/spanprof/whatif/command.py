@@ -11,7 +11,7 @@ from spanprof.answers import Answers
 from spanprof.command import Console, check_files, count, end_with
 from spanprof.errors import Fault
 from spanprof.marks import as_text, statements
-from spanprof.predict.predictions import changed_told
+from spanprof.predict.predictions import changed_reported
 from spanprof.recording import text_of
 from spanprof.text_file import TextFile
 from spanprof.version import Version
@@ -76,7 +76,7 @@ def compare(chosen, text, before, path):
 
     def changed(region):
         return as_text(applied(statements(region.splitlines()), asked()))
-    times, predicted = changed_told(chosen.text, changed, threads[0]) if text.head.is_measured else ([], None)
+    times, predicted = changed_reported(chosen.text, changed, threads[0]) if text.head.is_measured else ([], None)
     print(as_json(reported, before, after, predicted) if chosen.json else
           "\n".join([*reported, *lines(before, after, text.head.unit), *times]),
           file=sys.stderr if chosen.output == "-" else sys.stdout)

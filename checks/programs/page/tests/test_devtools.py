@@ -48,7 +48,7 @@ class Messages(unittest.TestCase):
         os.write(self.write, b'1, "result": {}}\0')
         self.assertEqual(Session(self.pipe).call("X.y"), {})
 
-    def test_silence_and_an_end_are_told(self):
+    def test_silence_and_an_end_are_reported(self):
         with self.assertRaisesRegex(Refused, "no answer for 1 seconds"):
             self.pipe.receive()
         os.close(self.write)

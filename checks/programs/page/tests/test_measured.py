@@ -3,7 +3,7 @@ import tempfile
 import unittest
 from unittest import mock
 
-from measured import what_was_measured_is_told
+from measured import what_was_measured_is_reported
 
 
 class Pages(unittest.TestCase):
@@ -12,7 +12,7 @@ class Pages(unittest.TestCase):
             if reported:
                 with open(os.path.join(folder, "scale.json"), "w", encoding="utf-8") as file:
                     file.write(reported)
-            return list(what_was_measured_is_told(mock.Mock(evaluate=mock.Mock(side_effect=answers)), folder))
+            return list(what_was_measured_is_reported(mock.Mock(evaluate=mock.Mock(side_effect=answers)), folder))
 
     def test_what_has_to_be_there(self):
         self.assertEqual(self.faults(""), [])

@@ -27,7 +27,7 @@ class Change(NamedTuple):
 
 
 class Changed(unittest.TestCase):
-    def test_the_text_and_what_was_told_beside_it(self):
+    def test_the_text_and_what_was_reported_beside_it(self):
         one = recorded_as(TEXT, "a.tasks", 7)
         one.arrivals, one.dispatch = (0, 3), 4
         other = changed(Change((("drop-wait", "taskwait at a.c"), ("factor", "task at a.c:1=0.5"))), one)

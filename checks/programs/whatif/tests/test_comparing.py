@@ -18,13 +18,13 @@ def read(text):
 class Numbers(unittest.TestCase):
     def test_a_twentieth(self):
         self.assertFalse(Ends(4, 100, 105, 100).fault)
-        self.assertEqual(Ends(4, 120, 94, 100).fault, "on 4 threads 120, 94 foretold, 100 rewritten (-6.0 %)")
+        self.assertEqual(Ends(4, 120, 94, 100).fault, "on 4 threads 120, 94 predicted, 100 rewritten (-6.0 %)")
 
     def test_a_machine_that_moves_all_costs(self):
         moved = Ends(4, 120, 110, 100, 0.92)
         self.assertFalse(moved.fault)
         self.assertEqual(str(moved),
-                         "120, 110 foretold, 100 rewritten (+10.0 %, work / end -1.2 %: the work is -8.0 %)")
+                         "120, 110 predicted, 100 rewritten (+10.0 %, work / end -1.2 %: the work is -8.0 %)")
         self.assertTrue(Ends(4, 120, 110, 100, 1.02).fault)
         self.assertFalse(Ends(4, 120, 103, 100, 0.92).is_by_gain)
 

@@ -44,10 +44,10 @@ class OneThreadMakesTasks(unittest.TestCase):
                 node.depend = [(kind, place + 7) for kind, place in node.depend]
         self.assertEqual(self.damaged(rename), "")
 
-    def test_out_is_told_as_inout(self):
-        def as_told(body):
+    def test_out_is_reported_as_inout(self):
+        def as_reported(body):
             nodes(body)[0].depend[0] = ("inout", 0)
-        self.assertEqual(self.damaged(as_told), "")
+        self.assertEqual(self.damaged(as_reported), "")
 
     def test_lost_cost(self):
         self.assertIn("0 ns before step 0", self.damaged(lambda body: body.pop(0)))

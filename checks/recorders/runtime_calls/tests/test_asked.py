@@ -56,7 +56,7 @@ class Asked(unittest.TestCase):
     def test_calls_are_regions_with_tasks(self):
         self.assertEqual(asked.of_calls(CALLS), ([REGION], False))
 
-    def test_tasks_outside_are_told(self):
+    def test_tasks_outside_are_reported(self):
         self.assertEqual(asked.of_calls("outside\ntask {\n}\n"), ([], True))
 
     def test_a_text_is_the_same_region(self):

@@ -13,7 +13,7 @@ class Covered(unittest.TestCase):
     def test_less(self):
         self.assertEqual(judged(WHOLE % (949, "")), "it covers 94.9 %")
 
-    def test_less_that_is_told_otherwise(self):
+    def test_less_that_is_reported_otherwise(self):
         self.assertEqual(judged(WHOLE % (200, ', "at most": true')), "")
 
     def test_other_texts(self):

@@ -1,7 +1,7 @@
 """What of a text is the program's own beginning and end."""
 import unittest
 
-from judge import around, told_of_tasks, told_threads
+from judge import around, reported_of_tasks, reported_threads
 from built import SHAPES
 
 
@@ -15,12 +15,13 @@ class Around(unittest.TestCase):
 
     def test_a_program_that_asks_for_its_threads(self):
         nested = next(shape for shape in SHAPES if shape.name == "nested")
-        self.assertEqual(told_threads(nested), [4])
+        self.assertEqual(reported_threads(nested), [4])
 
     def test_tasks_that_a_program_has_not(self):
         lines = ["cause  too few tasks: for 70 %", "first change  the beginning in 4 tasks, if it can be divided",
                  "98.1 % of the span: turns of the loop at a.c:3", "0.1 % of the span: after taskgroup at a.c:3"]
-        reported = {shape.name: told_of_tasks(lines, shape) for shape in SHAPES if shape.name in ("loop", "all_kinds")}
+        shapes = [shape for shape in SHAPES if shape.name in ("loop", "all_kinds")]
+        reported = {shape.name: reported_of_tasks(lines, shape) for shape in shapes}
         self.assertEqual(reported, {"loop": ["it has no tasks: " + lines[0], "it has no tasks: " + lines[3]],
                                     "all_kinds": []})
 

@@ -8,7 +8,7 @@ from spanprof.conformance.run.settings import SETTINGS
 OF_RUNTIMES = ("OMP_", "KMP_", "GOMP_", "LIBOMP", "MALLOC_", "ASAN_", "TSAN_", "UBSAN_")
 
 
-def told_runtimes(environment):
+def reported_runtimes(environment):
     """The variables that hold in all settings, where these do not say otherwise."""
     reported = [f"{name}={value}" for name, value in sorted(environment.items()) if name.startswith(OF_RUNTIMES)]
     return f"`{' '.join(reported)}`" if reported else ""
@@ -23,7 +23,7 @@ def tested(options, bench, settings):
              "runs each": str(options.runs),
              "seed": str(options.seed),
              "seeds of delays in the runtime": str(options.perturb) if options.perturb else "",
-             "environment": told_runtimes(bench.environment),
+             "environment": reported_runtimes(bench.environment),
              **{f"setting {name}": SETTINGS[name].reported() for name in settings},
              "tasks": ", ".join(options.tasks),
              "directed programs": options.match if options.match != "*" else "",

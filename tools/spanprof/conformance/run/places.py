@@ -45,7 +45,7 @@ def fewest_delays(bench, case, conditions, fails, is_over=lambda: False):
     return at_places(given, fewest(places, lambda some: fails(at_places(given, some)), is_over))
 
 
-def delays_told(runtime, perturb):
+def delays_reported(runtime, perturb):
     """What a report says of delays."""
     seed, colon, places = perturb.partition(":")
     if not perturb:

@@ -7,7 +7,7 @@ from dataclasses import dataclass, field, replace
 from spanprof.conformance.judge.cases import Failure
 from spanprof.conformance.judge.verdicts import Refused
 from spanprof.conformance.run.alone import file_of_program, one_file
-from spanprof.conformance.run.places import delays_told, fewest_delays
+from spanprof.conformance.run.places import delays_reported, fewest_delays
 from spanprof.conformance.run.progress import say
 from spanprof.conformance.run.self_checking import is_self_checking
 from spanprof.conformance.run.shrink import Shrinker, Trial
@@ -113,7 +113,7 @@ def with_fewest_delays(bench, failure, conditions, is_one, is_over=lambda: False
 
 def delays_of(bench, failure):
     perturb = failure.conditions.perturb
-    return delays_told(bench.toolchain.runtime(bench.environment), perturb) if perturb else ""
+    return delays_reported(bench.toolchain.runtime(bench.environment), perturb) if perturb else ""
 
 
 class Reproducer:

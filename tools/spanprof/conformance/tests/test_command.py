@@ -19,14 +19,14 @@ def ended(fault):
 
 
 class Ends(unittest.TestCase):
-    def test_faults_are_told(self):
+    def test_faults_are_reported(self):
         self.assertEqual(ended(Fault("no such")), (2, "spanprof-conformance: no such\n", False))
 
     def test_a_file_that_is_not_there_is_named(self):
         self.assertEqual(ended(FileNotFoundError(2, "No such file or directory", "mutants.json")),
                          (2, "spanprof-conformance: mutants.json: No such file or directory\n", True))
 
-    def test_nothing_is_told_of_a_closed_pipe(self):
+    def test_nothing_is_reported_of_a_closed_pipe(self):
         self.assertEqual(ended(BrokenPipeError()), (2, "", True))
 
     def test_an_interruption(self):

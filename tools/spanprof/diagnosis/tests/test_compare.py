@@ -60,10 +60,10 @@ class Compared(unittest.TestCase):
         self.assertFalse(is_slower(compared(reported(9, 0), reported(9, 0, elapsed=104 * MS)), 3))     # as runs differ
 
     def test_json(self):
-        told_of_it = as_json(compared(reported(9, 240 * MS), reported(19, 40 * MS, elapsed=50 * MS)))
-        self.assertEqual((told_of_it["change"], told_of_it["differs"]), (-0.5, True))
-        self.assertEqual(told_of_it["places"][0], {"before": "task at a.c:9", "after": "task at a.c:19",
-                                                   "was_ms": 70.0, "now_ms": 20.0})
+        reported_of_it = as_json(compared(reported(9, 240 * MS), reported(19, 40 * MS, elapsed=50 * MS)))
+        self.assertEqual((reported_of_it["change"], reported_of_it["differs"]), (-0.5, True))
+        self.assertEqual(reported_of_it["places"][0], {"before": "task at a.c:9", "after": "task at a.c:19",
+                                                       "was_ms": 70.0, "now_ms": 20.0})
 
 
 if __name__ == "__main__":

@@ -99,7 +99,7 @@ class Diagnoses(unittest.TestCase):
         self.assertEqual([step.kind for step in reported.plan], ["dependence", "serial"])
         self.assertEqual(reported.plan[1].before, reported.plan[0].after)
 
-    def test_a_second_cause_is_told_where_it_brings_a_tenth(self):
+    def test_a_second_cause_is_reported_where_it_brings_a_tenth(self):
         found = facts([place(TASKS)], at_locks=120 * MS, asleep=80 * MS)
         self.assertEqual([loss.kind for loss in diagnose(found).causes], ["lock", "sleep"])
         found = facts([place(TASKS)], at_locks=120 * MS, asleep=20 * MS)
@@ -109,7 +109,7 @@ class Diagnoses(unittest.TestCase):
         found = facts([place(TASKS)], preempted=110 * MS, at_locks=130 * MS)
         self.assertEqual(diagnose(found).causes[0].kind, "lock")
 
-    def test_on_a_busy_machine_what_the_program_lost_itself_is_told_of_the_rest(self):
+    def test_on_a_busy_machine_what_the_program_lost_itself_is_reported_of_the_rest(self):
         found = facts([place(TASKS)], preempted=200 * MS, starved=120 * MS, starved_by={TASKS: 120 * MS})
         reported = diagnose(found, Bench({(): 90, asked("split", TASKS + "=4"): 45}))
         self.assertEqual([loss.kind for loss in reported.causes], ["too_few_tasks"])

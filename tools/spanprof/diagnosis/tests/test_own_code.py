@@ -68,7 +68,7 @@ class OwnCode(unittest.TestCase):
         found = interpreted({EVALUATES: 12, SORTS: 8})
         self.assertEqual(losses(found), [Loss("serial", PYTHON, 180 * MS), Loss("serial", GLUE, 120 * MS)])
 
-    def test_no_change_is_told_of_it(self):
+    def test_no_change_is_reported_of_it(self):
         found = interpreted({EVALUATES: 12, SORTS: 8})
         names, reported = Names(found, None), diagnose(found)
         self.assertEqual([lost_sentence(found, names, loss) for loss in reported.causes],

@@ -137,7 +137,7 @@ class Sentences(unittest.TestCase):
             "      not known: whether atomics or shared memory slow it: --full",
             "more  spanprof-record --all"])
 
-    def test_page_faults_are_told_where_they_are_most_of_it(self):
+    def test_page_faults_are_reported_where_they_are_most_of_it(self):
         at = " in image.c:9 (tone)"
         for faults, reported in ((90000, "85 % of the processor time is spent in the kernel: 90,000 page faults" + at),
                                  (600, "85 % of the processor time is spent in the kernel: system calls" + at)):
@@ -207,7 +207,7 @@ class Sentences(unittest.TestCase):
             "a reduction in place of the atomic at a.c:9", "keep part[me] (a.c:9) in a local variable",
             "keep what a.c:9 writes in a local variable"])
 
-    def test_what_samples_show_is_contended_is_told_with_its_line(self):
+    def test_what_samples_show_is_contended_is_reported_with_its_line(self):
         run = found()
         run.places[TASKS].cost = 300 * MS
         ran = {("main", "tone"): 10 * 4000}
@@ -256,7 +256,7 @@ class Sentences(unittest.TestCase):
             "lost  20 %  allocating memory takes 20 % of parallel code, mostly in tone (image.c:12)",
             "do    allocate once, outside the loop, or per thread                         100 ms -> about 80.0 ms"])
 
-    def test_serial_code_is_told_by_the_lines_that_samples_saw(self):
+    def test_serial_code_is_reported_by_the_lines_that_samples_saw(self):
         run = found()
         run.calls = Sampled({"the beginning": {("main",): 10 * 4000}}, {}, {},
                             {"the beginning": Counter({"image.c:13": 20000, "image.c:14": 16000, "image.c:5": 4000})})
@@ -352,7 +352,7 @@ class Sentences(unittest.TestCase):
             step = Step(kind, TASKS if option == "in-for-inout" else change.place, 2, 1, 1, 1, 1.0, change)
             self.assertEqual(change_sentence(run, Names(run, SOURCES), step), reported)
 
-    def test_what_takes_turns_is_told_of_all_tasks(self):
+    def test_what_takes_turns_is_reported_of_all_tasks(self):
         run = found()
         one = run.places[TASKS]
         one.items = Counter({("inout", "a%d" % number): 4 for number in range(2)})

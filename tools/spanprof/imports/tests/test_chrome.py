@@ -58,7 +58,7 @@ class Chrome(InFolder):
         with self.assertRaisesRegex(Fault, "t.json:5: the flow 7 did not begin before"):
             self.reported(SLICES + [FLOW[0], dict(FLOW[1], name="g")])
 
-    def test_a_few_wrong_flows_are_left_out_and_told(self):
+    def test_a_few_wrong_flows_are_left_out_and_reported(self):
         events = SLICES + FLOW * 10 + [dict(FLOW[1], id=8, ts=4.5), dict(FLOW[1], tid=9)]
         for count in (1, 2):
             path = self.trace(events[:-1] if count == 1 else events, "[%s]")
@@ -80,7 +80,7 @@ class Chrome(InFolder):
         detail = dict(SLICES[0], args={"detail": "x.h"})
         self.assertEqual(self.reported([total, detail]), [("a x.h", 0, 2500, [])])
 
-    def test_slices_without_a_begin_or_an_end_are_told(self):
+    def test_slices_without_a_begin_or_an_end_are_reported(self):
         notes = read(self.trace([SLICES[2], SLICES[0], SLICES[1]], "[%s]")).notes
         self.assertEqual(notes, ["2 slices without a begin or an end are left out",
                                  "without flows: the slices of a thread follow each other"])

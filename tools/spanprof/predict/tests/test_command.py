@@ -92,7 +92,7 @@ class Command(InAFolder):
         reported = json.loads(self.answer(self.write("b.tasks", TEXT % 2), "--runtime", "gnu", "--json"))
         self.assertEqual(reported["predicted"][0]["runtime"], "gnu")
 
-    def test_growth_is_told(self):
+    def test_growth_is_reported(self):
         one = self.write("one.tasks", TEXT % 1)
         two = self.write("two.tasks", (TEXT % 2).replace("work 10", "work 12"))
         reported = json.loads(self.answer(one, two, "--threads", "4", "--json"))
@@ -101,7 +101,7 @@ class Command(InAFolder):
         self.assertTrue(untimed.startswith("without what passes outside of the region's code"))
         self.assertEqual(grown, "with +12 % of work, as it grew on the threads that were recorded")
 
-    def test_what_is_not_matched_is_told(self):
+    def test_what_is_not_matched_is_reported(self):
         one = self.write("one.tasks", (TEXT % 1).replace("# a.c:1", "# other.c:1"))
         reported = json.loads(self.answer(one, self.write("two.tasks", TEXT % 2), "--threads", "4", "--json"))
         self.assertIn("100 % of the work is matched in no other recording", reported["predicted"][0]["notes"])
@@ -150,7 +150,7 @@ class Command(InAFolder):
         with self.assertRaisesRegex(Fault, "^b.tasks was recorded on one thread"):
             self.answer(self.write("b.tasks", TEXT % 1))
         with mock.patch.dict(os.environ, SPANPROF_MACHINE=self.machine + ".none"):
-            self.assertEqual(predictions.changed_told(self.write("a.tasks", TEXT % 2), str, 2), ([], None))
+            self.assertEqual(predictions.changed_reported(self.write("a.tasks", TEXT % 2), str, 2), ([], None))
 
     def test_of_a_changed_text(self):
         self.write("a.timed", TEXT % 2 + "---\ntimes 2 0 40000\n0 0 300 39000\n")
@@ -161,13 +161,13 @@ class Command(InAFolder):
             return "omptasks 1\nwork 40\n"
         with mock.patch.dict(os.environ, SPANPROF_MACHINE=self.machine), \
                 mock.patch("spanprof.client.ask", return_value="segments 9\nwork 40800\nspan 10200\n"):
-            (line,), reported = predictions.changed_told(path, changed, 2)
+            (line,), reported = predictions.changed_reported(path, changed, 2)
             self.assertRegex(line, r"^on 2 threads: 2\d.\d us predicted \(.*\), 20.4 us at least \(proved, of the "
                                    r"burdened text\); of the changed text 41.3 us predicted \(.*\), 20.4 us at least "
                                    r"\(proved, of the burdened text\) \(by a model\)$")
             self.assertEqual((reported["changed text"]["time"], reported["text"]["least"], reported["threads"]),
                              (41300, 20400, 2))
-            lines, reported = predictions.changed_told(self.write("c.tasks", "omptasks 1\n"), changed, 2)
+            lines, reported = predictions.changed_reported(self.write("c.tasks", "omptasks 1\n"), changed, 2)
             self.assertRegex(lines[0], "^no time is predicted: .*it is no recording$")
             self.assertIn("it is no recording", reported["none"])
 

@@ -48,7 +48,7 @@ class Calibrating(unittest.TestCase):
         with self.assertRaisesRegex(Fault, "/none"):
             calibrate.run(["/none"], {})
 
-    def test_a_fault_is_told(self):
+    def test_a_fault_is_reported(self):
         with mock.patch("spanprof.record.command.calibrate", side_effect=Fault("no runtime")), \
                 mock.patch("signal.signal"):
             self.assertEqual(answered(command.main, ["--calibrate"]), (OWN_FAULT, "", "spanprof-record: no runtime\n"))

@@ -55,7 +55,7 @@ class News(unittest.TestCase):
         self.assertEqual(said.news("/tmp/mine", [TEXT["file"], second["file"]]),
                          ["mine: " + IN_WORDS, large])
 
-    def test_what_two_conversions_tell_is_told_once(self):
+    def test_what_two_conversions_tell_is_reported_once(self):
         killed = {"message": "killed", "recorded": 1500000, "inside": True}
         self.assertEqual(len(Messages(True, [killed, LARGE, killed]).news("/tmp/mine")), 2)
 

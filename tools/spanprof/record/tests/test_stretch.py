@@ -30,7 +30,7 @@ class StretchTest(InFolder):
         path = write(os.path.join(self.folder, "regions"), REGIONS)
         self.assertEqual(region_lines(path, 10, 5)[1:], ["0,0,0,5,1,0,0,0,4,0,", "2,0,0,1,2,0,1,0,1,0,sort+0x9"])
 
-    def test_what_is_told_of_segments(self):
+    def test_what_is_reported_of_segments(self):
         path = write(os.path.join(self.folder, "off"), "3 10 20\n4 30 40\n")
         self.assertEqual(by_segment(path, {4: 1}), ["1 30 40"])
         self.assertEqual(by_segment("", {4: 1}), [])

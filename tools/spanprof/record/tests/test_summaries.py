@@ -62,7 +62,7 @@ class Printed(InFolder):
         self.diagnosed.return_value = None, "no diagnosis: no program"
         self.assertEqual(self.reported(recording(self.folder), all=False)[-1], "              no diagnosis: no program")
 
-    def test_a_remark_of_its_text_is_told_once(self):
+    def test_a_remark_of_its_text_is_reported_once(self):
         self.heads["mine.spanprof"] = {"remarks": [remark_of(TURNS)]}
         reported = self.reported(recording(self.folder),
                                  things=[{"message": "remark", "name": "mine", "remark": TURNS}])

@@ -99,7 +99,7 @@ class Lines(unittest.TestCase):
         self.assertEqual(other_region(Answers()), other)
         self.assertEqual(summary(Answers(), others=[other])[-1], "other ranks   " + other)
 
-    def test_no_bound_is_told_better_than_it_is(self):
+    def test_no_bound_is_reported_better_than_it_is(self):
         self.assertEqual((rounded_down(1999, 1000), rounded_up(1999, 1000)), ("1.99", "2.00"))
         self.assertEqual((rounded_down(200, 100), rounded_up(200, 100)), ("2.00", "2.00"))
         self.assertEqual((rounded_down(0, 0), rounded_up(0, 0)), ("1.00", "1.00"))
@@ -146,7 +146,7 @@ class WhatTheTextIsNot(unittest.TestCase):
         self.assertTrue(lines["covers"][0].startswith("at most 99.0 % of the program's thread-time in code"))
         self.assertIn("(proved of the recorded text, a part of the program)", lines["span"][0])
 
-    def test_nothing_told_of_what_is_covered(self):
+    def test_nothing_reported_of_what_is_covered(self):
         self.assertEqual(lines_of(covered=None, thread_time=None)["covers"],
                          ["unknown share of the program's thread-time"])
 

@@ -19,7 +19,7 @@ class OfTheWorkedProgram(unittest.TestCase):
         self.assertEqual(self.answers.span_numbers, {"tasks": 5, "segments": 13, "work": 41, "span": 31})
         self.assertEqual((self.answers.work, self.answers.span, self.answers.tasks), (41, 31, 5))
 
-    def test_each_command_is_asked_once_and_told(self):
+    def test_each_command_is_asked_once_and_reported(self):
         for _ in range(2):
             self.assertEqual(len(self.answers.rows.cost), 13)
         self.assertEqual(self.reported, ["spanprof_large slack < mesh.tasks"])

@@ -43,7 +43,7 @@ def distance(a, b, who):
 
 
 class Bars(unittest.TestCase):
-    def test_any_two_can_be_told_by_everybody(self):
+    def test_any_two_can_be_reported_by_everybody(self):
         for number in (0, 1):
             for who, least in (("all", 20), ("no red", 10), ("no green", 10), ("no blue", 8)):
                 for a, b in combinations((pair[number] for pair in BARS), 2):
@@ -54,7 +54,7 @@ class Bars(unittest.TestCase):
             for number, colour in enumerate(pair):
                 self.assertGreater(contrast(colour, INK[INKS[number][i]]), 4.5, colour)
 
-    def test_bars_can_be_told_from_the_panel(self):
+    def test_bars_can_be_reported_from_the_panel(self):
         for number in (0, 1):
             for pair in BARS:
                 self.assertGreater(contrast(pair[number], COLOURS["panel"][number]), 1.5, pair)

@@ -24,7 +24,7 @@ class Times(unittest.TestCase):
     def test_declared_costs_stand_as_they_are(self):
         self.assertEqual(words("", 1234567), ["1,234,567"])
 
-    def test_a_bound_is_never_told_better_than_it_is(self):
+    def test_a_bound_is_never_reported_better_than_it_is(self):
         units = Units(Head(unit="us"))
         self.assertEqual([units.shown(8886, way).words for way in ("down", None, "up")],
                          ["8.88 ms", "8.89 ms", "8.89 ms"])

@@ -53,7 +53,7 @@ class Logs(unittest.TestCase):
         self.assertTrue(words.endswith("has tasks of 1, 2 turns: one has 1 turns and not 2"), words)
         self.assertEqual(rule_of(words), "grainsize(strict)")
 
-    def test_each_kind_of_clause_is_told_once(self):
+    def test_each_kind_of_clause_is_reported_once(self):
         words = reported(f"{UP} {UP} {UP.replace('strict:', '')}", *[(turn, 1) for turn in (1, 3, 5)],
                          *[(turn, 7) for turn in (7, 9, 11)], (13, 13), (15, 15), (17, 17))
         self.assertEqual(rule_of(words), "grainsize(strict), grainsize")
@@ -62,7 +62,7 @@ class Logs(unittest.TestCase):
         self.assertIsNone(reported(DOWN, (7, 7), (5, 7), (3, 7), (1, 1)))
         self.assertIn("first turn is segment 7", reported(DOWN, (7, 7), (5, 5), (3, 5), (1, 5)))
 
-    def test_turns_that_are_not_told(self):
+    def test_turns_that_are_not_reported(self):
         self.assertIsNone(reported(UP))
         self.assertIsNone(reported(UP, (1, 1), (3, 3)))
 

@@ -3,7 +3,7 @@ import types
 import unittest
 
 from spanprof.conformance.judge.cases import Tally
-from spanprof.conformance.report.facts import facts_of, tested, told_runtimes
+from spanprof.conformance.report.facts import facts_of, tested, reported_runtimes
 from spanprof.conformance.report.results import Results
 from spanprof.conformance.tests.helpers import case_of, conditions
 
@@ -43,9 +43,9 @@ class Facts(unittest.TestCase):
         self.assertIn("depend_two_sets", facts()["left out, as the compiler lacks a kind of item"])
 
     def test_variables_of_the_caller(self):
-        self.assertEqual(told_runtimes({"PATH": "/bin", "OMP_DYNAMIC": "true", "KMP_USE_YIELD": "2"}),
+        self.assertEqual(reported_runtimes({"PATH": "/bin", "OMP_DYNAMIC": "true", "KMP_USE_YIELD": "2"}),
                          "`KMP_USE_YIELD=2 OMP_DYNAMIC=true`")
-        self.assertEqual(told_runtimes({"PATH": "/bin"}), "")
+        self.assertEqual(reported_runtimes({"PATH": "/bin"}), "")
 
     def test_machine_and_time_come_after_the_test(self):
         results = Results()

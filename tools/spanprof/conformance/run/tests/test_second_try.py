@@ -39,7 +39,7 @@ class Again(unittest.TestCase):
         self.assertEqual((failures, once), ([hang()], 0))
         self.assertEqual([at.timeout for at in tried], [conditions().timeout * PATIENCE])
 
-    def test_one_that_is_not_seen_again_is_told(self):
+    def test_one_that_is_not_seen_again_is_reported(self):
         self.assertEqual(self.settled([failure_of(), hang()], [])[:2], ([failure_of()], 1))
         self.assertEqual(self.settled([hang()], [failure_of()])[:2], ([], 1))
 
