@@ -36,8 +36,8 @@ def part_of(program, first, end):
 
 
 def times_of_regions(program, threads):
-    """By region, of each time that it began its phases, and of these the parts by thread. It goes on where no code stands
-    behind a barrier."""
+    """By region, of each time that it began its phases, and of these the parts by thread. It goes on where no code
+    stands behind a barrier."""
     code, found, group, region = program.code, defaultdict(list), None, ""
     for first, end, number in zip(code.own, [*code.own[1:], len(code)], code.groups):
         before, region = region, code.kinds[code.of[first]].region
@@ -95,7 +95,8 @@ def needless_barriers(program, regions, threads):
     out, known = {}, {(one.place, one.times): one.threads for one in regions}
     for region, times in times_of_regions(program, threads).items():
         team = known.get((region, len(times)), 0)
-        waits, behind, share = barrier_of([[phase_of(parts, team) for parts in phases] for phases in times] * bool(team))
+        phases = [[phase_of(parts, team) for parts in one] for one in times]
+        waits, behind, share = barrier_of(phases) if team else ({}, "", 0)
         if share >= EVENED:
             out.update(dict.fromkeys(waits, (behind, share)))
     return out

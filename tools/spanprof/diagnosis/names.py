@@ -135,7 +135,8 @@ class Names:
     def ordered(self, line):
         """gcc may give an ordered region the line of code before it, which may be another function's: that of the
         directive in the loop with such turns, the last one before the line if there is one."""
-        loop = max((at for at, _ in self.ordered_loops()), key=lambda one: (one.file == line.file and one.number <= line.number, one), default=None)
+        loop = max((at for at, _ in self.ordered_loops()),
+                   key=lambda one: (one.file == line.file and one.number <= line.number, one), default=None)
         lines = self.lines_of(loop.file) if loop else []
         inside = range(loop.number + 1, block_end(lines, loop.number) + 1) if loop else ()
         return next((loop._replace(number=here) for here in inside if OF_TURNS.match(lines[here - 1])), loop or line)

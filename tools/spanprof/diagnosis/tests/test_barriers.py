@@ -16,8 +16,8 @@ SOURCE = ["#pragma omp parallel", "for (;;) {", "#pragma omp for \\", "   nowait
 
 
 def text(*phases, task=""):
-    """A region whose threads have so much in each phase, in the order in which they began it; a number alone is what one
-    thread runs behind the barrier."""
+    """A region whose threads have so much in each phase, in the order in which they began it; a number alone is what
+    one thread runs behind the barrier."""
     out = "omptasks 1\nwork 7\n"
     for phase in phases:
         out += "work %d\n" % phase if isinstance(phase, int) else \

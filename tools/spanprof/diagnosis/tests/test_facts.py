@@ -9,9 +9,9 @@ from unittest import mock
 from spanprof.diagnosis import facts as module
 from spanprof.diagnosis.calls import RUNTIME, Sampled, calls_of
 from spanprof.diagnosis.diagnose import diagnose
-from spanprof.diagnosis.facts import (denied_time, Facts, elapsed_in, function_in, inner_regions, nested_threads, of_those_at_once,
-                                      off_by_segment, regions_of, runtime_name, set_meta, set_off, set_ranks,
-                                      set_waiting, starting_shares, stolen_share, used_by_others)
+from spanprof.diagnosis.facts import (Facts, denied_time, elapsed_in, function_in, inner_regions, nested_threads,
+                                      of_those_at_once, off_by_segment, regions_of, runtime_name, set_meta, set_off,
+                                      set_ranks, set_waiting, starting_shares, stolen_share, used_by_others)
 from spanprof.diagnosis.lock_times import Held, locks_of
 from spanprof.diagnosis.places import AFTER_REGION, OWN, SERIAL
 from spanprof.diagnosis.sentences import sure_words
