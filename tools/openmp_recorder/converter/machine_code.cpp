@@ -140,9 +140,9 @@ std::optional<Compared> compared(const std::string &instruction) {
   auto number = [](const std::string &operand) {
     return operand[0] == '$' ? static_cast<int64_t>(std::strtoull(operand.c_str() + 1, nullptr, 16)) : 0;
   };
-  bool is_with_other = begins_with(name, {"cmp"}) && all.size() == 2;  // all others end at 0
-  return Compared{register_of(all.back()), is_with_other ? register_of(all[0]) : -1,
-                  is_with_other ? number(all[0]) : 0};
+  Compared found{register_of(all.back())};  // all others end at 0
+  if (begins_with(name, {"cmp"}) && all.size() == 2) found.other = register_of(all[0]), found.number = number(all[0]);
+  return found;
 }
 
 std::optional<MemoryUse> memory_use(const std::string &instruction) {

@@ -219,8 +219,7 @@ std::string sampled_lines(const Region &region, OffTimes &times, const Stacks &s
     if (!one.asleep && !named.own.at.empty()) by_calls[{at, named.own.at}] += one.stands_for;
     if (!one.asleep && named.allocates)
       by_calls[{allocated, named.own.at + " " + named.own.function}] += one.stands_for;
-    if (!one.asleep && shared.stride && !named.own.at.empty())
-      by_calls[{strides, std::to_string(shared.stride) + " " + named.own.at}] += one.stands_for;
+    if (!one.asleep && shared.is_wide && !named.own.at.empty()) by_calls[{strides, named.own.at}] += one.stands_for;
     auto beyond = static_cast<uint64_t>(shared.beyond * one.stands_for);
     if (beyond && library_of_system(shared.place, places).empty() && !places.at(shared.place).empty())
       by_calls[{shared.is_wait ? spins : shares, places.at(shared.place)}] += beyond;

@@ -185,7 +185,7 @@ std::map<const void *, double> shared_parts(std::vector<Used> all) {
 std::vector<Contended> contending(const Stacks &stacks, const ModulesOfRun &modules) {
   std::vector<Used> all;
   std::vector<Contended> waits(stacks.interrupted.size());
-  std::map<size_t, uint64_t> wide;
+  std::set<size_t> wide;
   std::vector<std::pair<Function, Found>> functions = longest_of(functions_of(stacks, modules));
   for (auto &[function, found] : functions) {
     const ModuleOfRun &module = *function.first;
@@ -214,6 +214,6 @@ std::vector<Contended> contending(const Stacks &stacks, const ModulesOfRun &modu
     if (contended[i]) out[all[i].sample] = {all[i].place, 1, all[i].is_atomic};
   add_unmet(all, stacks, out);
   for (auto &[function, found] : functions) set_beyond(found, stacks, out);
-  for (auto [sample, bytes] : wide) out[sample].stride = bytes;
+  for (size_t sample : wide) out[sample].is_wide = true;
   return out;
 }

@@ -26,7 +26,7 @@ struct Contended {
   double beyond = 1;
   bool is_atomic = false;
   bool is_wait = false;
-  uint64_t stride = 0;  // bytes from one element to the next, where each costs a line
+  bool is_wide = false;  // its loop goes on by a line or more
 };
 
 // A line is contended where two threads used it at once and one wrote it: then all its uses are, while others run too.

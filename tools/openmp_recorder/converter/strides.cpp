@@ -4,7 +4,8 @@
 #include <cstdlib>
 
 namespace {
-constexpr uint64_t line_bytes = 64, lines_near = 512;  // of a processor's first cache, of 32 KB or little more
+constexpr int64_t line_bytes = 64;
+constexpr uint64_t lines_near = 512;  // of a processor's first cache, of 32 KB or little more
 constexpr unsigned most_between = 4;  // instructions between a loop's comparison and its jump
 
 using Steps = std::vector<std::pair<int, int64_t>>;
@@ -81,13 +82,11 @@ int64_t stride_of(const Walk &walk, const Registers &registers) {
 }
 
 uint64_t turns_left(const Walk &walk, const Registers &registers) {
-  auto value = [&](int number) {
-    return number < 0 ? 0 : static_cast<int64_t>(registers[static_cast<size_t>(number)]);
-  };
   int64_t step = value_of(walk.end_bytes, walk.end_by, registers);
   if (walk.end.one < 0 || step == 0) return 0;
-  int64_t left = (walk.end.number + value(walk.end.other) - value(walk.end.one)) / step;
-  return static_cast<uint64_t>(std::max<int64_t>(0, left));
+  Steps left{{walk.end.one, -1}};
+  if (walk.end.other >= 0) left.emplace_back(walk.end.other, 1);
+  return static_cast<uint64_t>(std::max<int64_t>(0, value_of(walk.end.number, left, registers) / step));
 }
 
 void Strides::meet(size_t sample, const MemoryUse &use, const Registers &registers) {
@@ -96,13 +95,12 @@ void Strides::meet(size_t sample, const MemoryUse &use, const Registers &registe
   if (!walk->second) return;
   uint64_t &most = longest[use.code];
   most = std::max(most, turns_left(*walk->second, registers) * walk->second->uses);
-  met.push_back({sample, use.code, static_cast<uint64_t>(std::llabs(stride_of(*walk->second, registers)))});
+  if (std::llabs(stride_of(*walk->second, registers)) >= line_bytes) far.emplace_back(sample, use.code);
 }
 
-std::map<size_t, uint64_t> Strides::wide() const {
-  std::map<size_t, uint64_t> out;
-  for (const Met &one : met)
-    if (one.bytes >= line_bytes && longest.at(one.code) >= lines_near)
-      out[one.sample] = std::max(out[one.sample], one.bytes);
+std::set<size_t> Strides::wide() const {
+  std::set<size_t> out;
+  for (auto [sample, use] : far)
+    if (longest.at(use) >= lines_near) out.insert(sample);
   return out;
 }

@@ -1,9 +1,10 @@
 // How far apart the memory is that a loop uses from turn to turn, by its instructions and the registers of samples.
-// Where that is a cache line or more, each element costs a line; and where it are more lines than the first cache has,
-// each is gone before what is next to its element is used.
+// Where that is a cache line or more, each element costs a line; and where the loop uses more lines than the first
+// cache has, each is gone before the element next to it is used.
 #pragma once
 #include <map>
 #include <optional>
+#include <set>
 #include <utility>
 #include <vector>
 
@@ -27,15 +28,11 @@ class Strides {
  public:
   explicit Strides(const Instructions &code) : code(code) {}
   void meet(size_t sample, const MemoryUse &use, const Registers &registers);
-  std::map<size_t, uint64_t> wide() const;  // by sample, the greatest stride of those that cost a line for each element
+  std::set<size_t> wide() const;  // the samples of uses that cost a line for each element
 
  private:
-  struct Met {
-    size_t sample;
-    uint64_t code, bytes;
-  };
   const Instructions &code;
   std::map<uint64_t, std::optional<Walk>> walks;
   std::map<uint64_t, uint64_t> longest;  // turns, by use
-  std::vector<Met> met;
+  std::vector<std::pair<size_t, uint64_t>> far;  // samples, and uses
 };

@@ -11,6 +11,7 @@
 #include "machine_code.hpp"
 #include "sampled_calls.hpp"
 #include "shared_lines.hpp"
+#include "strides.hpp"
 #include "whole.hpp"
 
 namespace {
@@ -149,6 +150,40 @@ TEST(a_loop_that_changes_anything_waits_for_nobody) {
   EXPECT(waits({"mov    (%rdi),%eax", "call   80 <g>", "test   %eax,%eax", "jne    10 <f>"}), false);
   EXPECT(waits({"cmp    %eax,%edx", "jne    10 <f>"}), false);
   EXPECT(waits({"mov    (%rdi),%eax", "test   %eax,%eax", "jne    30 <f>"}), false);
+}
+
+TEST(a_loop_that_goes_down_a_column_uses_a_line_for_each_element) {
+  auto is_wide = [](uint64_t stride, uint64_t turns, const char *step = "add    %rdx,%rax") {
+    Instructions code{{10, "movss  (%rax),%xmm0"},
+                      {14, step},
+                      {17, "addss  %xmm0,%xmm1"},
+                      {21, "cmp    %rcx,%rax"},
+                      {24, "jne    10"}};
+    Registers registers{};
+    registers[0] = 0x10000, registers[1] = stride, registers[2] = 0x10000 + turns * stride;
+    Strides strides(code);
+    for (MemoryUse &use : used_near(code, 14)) strides.meet(7, use, registers);
+    return strides.wide().count(7) == 1;
+  };
+  EXPECT(is_wide(4096, 1000), true);
+  EXPECT(is_wide(8, 100000), false);
+  EXPECT(is_wide(4096, 32), false);  // a block, whose lines are still there in the next column
+  EXPECT(is_wide(4096, 1000, "mov    (%rbx),%rax"), false);
+  EXPECT(is_wide(64, 1000, "lea    (%rax,%rdx,2),%rax"), true);
+}
+
+TEST(adjacent_elements_of_a_loop_that_is_unrolled_share_lines) {
+  Instructions code{{10, "movaps (%rsi,%rax,1),%xmm0"},
+                    {14, "movaps 0x10(%rsi,%rax,1),%xmm1"},
+                    {18, "sub    $0xffffffffffffffe0,%rax"},
+                    {22, "dec    %rcx"},
+                    {24, "jne    10"}};
+  Registers registers{};
+  registers[2] = 5000;
+  std::optional<Walk> walk = walk_of(code, used_near(code, 14)[0]);
+  EXPECT(walk.has_value(), true);
+  EXPECT(stride_of(*walk, registers), 16);
+  EXPECT(turns_left(*walk, registers), 5000u);
 }
 
 TEST(a_line_is_contended_where_threads_use_it_at_once_and_one_writes) {

@@ -96,7 +96,7 @@ def needless_barriers(program, regions, threads):
     for region, times in times_of_regions(program, threads).items():
         team = known.get((region, len(times)), 0)
         phases = [[phase_of(parts, team) for parts in one] for one in times]
-        waits, behind, share = barrier_of(phases if team else [])
+        waits, behind, share = barrier_of(phases) if team else ({}, "", 0)
         if share >= EVENED:
             out.update(dict.fromkeys(waits, (behind, share)))
     return out

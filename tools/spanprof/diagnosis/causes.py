@@ -57,6 +57,8 @@ TABLE = (
     Cause("spin", "spinning", 0.1, "threads spin at {spins} until another thread writes there",
           "shorten what they wait for: divide it evenly, or hold it for less"),
     Cause("memory", "memory", 0.1, "{contended}", "{instead}", ABOUT),
+    Cause("strides", "strides", 0.1, "the inner loop at {strides_at} uses a new cache line for each element",
+          "adjacent elements at {strides_at}: swap or block loops, or split structs", ABOUT),
     Cause("allocation", "memory allocation", 0.08,
           "allocating memory takes {allocating} % of parallel code, mostly in {where}",
           "allocate once, outside the loop, or per thread", ABOUT),
@@ -73,7 +75,7 @@ TABLE = (
     Cause("efficient", "efficient", 0.0, "little: threads ran code {code} % of {time}{suspect}"),
 )
 BY_KIND = {cause.kind: cause for cause in TABLE}
-ESTIMATED = ("memory", "allocation")    # by samples
+ESTIMATED = ("memory", "allocation", "strides")     # by samples
 # The short names of all that may be lost, with and without a cause.
 NAMES = {**{cause.kind: cause.name for cause in TABLE}, "recorder": "recorder", "startup": "startup"}
 EFFICIENT = 0.85        # of the threads' time in code, from which on nothing need be lost

@@ -29,6 +29,7 @@ MUCH_SYSTEM = 0.25      # of the processor time, from which on time in the kerne
 STARTED = 5000000       # nanoseconds that a program and its runtime take to start
 SIBLINGS = 2            # times as much that code costs at most where two threads share a core
 BEYOND_CACHES = 1 << 27     # bytes
+OF_ITS_LINE = 7 / 8     # of the uses of numbers of 8 bytes one after the other, those whose line was used before
 UNSHARED = 0.02         # of the samples of code, below which it uses no line that other threads use
 NO_CAUSE = ("recorder", "startup")
 FINE = ("small_tasks", "creation")      # of all tasks together
@@ -449,6 +450,12 @@ def by_samples(facts, sampled):
             for name, lines in sampled.items() if name in facts.places and name in facts.calls.ran}
 
 
+def striding(facts):
+    """By place, of its code the time in loops that use a new cache line for each element, but for the one element in so
+    many for which they need it."""
+    return {name: int(OF_ITS_LINE * cost) for name, cost in by_samples(facts, facts.calls.strides).items()}
+
+
 def contended_lines(facts, name):
     """What the lines of a place took, by samples, that use contended memory: what else stands in them may wait too."""
     shares, at, ran = (found.get(name, {}) for found in (facts.calls.shares, facts.calls.at, facts.calls.ran))
@@ -499,15 +506,18 @@ def handling(facts):
 
 
 def in_code_losses(facts):
-    """Of what counts as code: in the kernel, in the allocator, in the runtime, spinning, and dearer than on one thread.
-    What the allocator calls the kernel for is in both, so of these two that with more has it all."""
+    """Of what counts as code: in the kernel, in the allocator, in the runtime, spinning, at a new cache line for each
+    element, and dearer than on one thread. What the allocator calls the kernel for is in both, so that with more has it
+    all."""
     left, out = facts.code, []
     system, allocated = system_time(facts), sum(allocating(facts).values())
-    spinning, dear = by_samples(facts, facts.calls.spins), max(0, sum(dearer(facts).values()) - allocated)
+    spinning, wide = by_samples(facts, facts.calls.spins), striding(facts)
+    dear = max(0, sum(dearer(facts).values()) - allocated)
     for kind, time, weights in (("system", system * (system > allocated), at_heaviest(facts)),
                                 ("allocation", allocated * (system <= allocated), {most_allocating(facts): 1}),
                                 *((kind, time, {place: 1}) for (kind, place), time in handling(facts).items()),
-                                ("spin", sum(spinning.values()), spinning), ("memory", dear, dearer(facts))):
+                                ("spin", sum(spinning.values()), spinning),
+                                ("strides", sum(wide.values()), wide), ("memory", dear, dearer(facts))):
         part = min(time, left)
         left -= part
         out += by_place(kind, part, weights)

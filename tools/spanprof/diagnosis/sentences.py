@@ -272,8 +272,7 @@ def less_locking(facts, names, lock, less):
         return less + ": a copy for each thread"
     if 4 * lock.inside < facts.elapsed:
         has_one_each = any(ONE_EACH.search(directive) for _, directive in names.ordered_loops())
-        change = "a loop of its own for %s, after this one" if has_one_each else \
-            "schedule(static, 1) for the loop of %s"
+        change = "a loop of its own for %s, after it" if has_one_each else "schedule(static, 1) for the loop of %s"
         return change % names.place(lock.place)
     return less + ": compute before it"
 
@@ -302,10 +301,14 @@ def words_of_suspect(facts, names):
     return ", with " + str(at) if at else most
 
 
+def line_with_most(sampled):
+    return max(sampled, key=sampled.get, default="")
+
+
 def words_of_line(facts):
     """That in which code ran most, where no function has much of it."""
     at, ran = (together(found, found) for found in (facts.calls.at, facts.calls.ran))
-    line, whole = max(at, key=at.get, default=""), sum(ran.values())
+    line, whole = line_with_most(at), sum(ran.values())
     if not whole or not line or at[line] < SHARES[-1] * whole:
         return ", as far as one run shows"
     return ", %.0f %% of it at %s" % (100 * at[line] / whole, line)
@@ -329,6 +332,7 @@ def words(facts, names, name):
                alone=words_of_interpreter(facts) if is_interpreter(name) else "the others wait",
                suspect=words_of_suspect(facts, names),
                shared=words_of_schedule(names, name, place), uneven=words_of_division(facts, name, place),
+               strides_at=line_with_most(facts.calls.strides.get(name, {})) or names.at(name),
                nowait=words_of_nowait(names, name), less_creating=words_of_creation(facts, names, name),
                instead=instead(names, place, name),
                **words_of_region(facts, names, name), **words_of_lock(facts, names, name),

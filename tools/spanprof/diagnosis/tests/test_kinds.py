@@ -10,7 +10,9 @@ from spanprof.diagnosis.facts import Region
 from spanprof.diagnosis.library_locks import set_library_locks
 from spanprof.diagnosis.lock_times import Held
 from spanprof.diagnosis.losses import Loss, in_code_losses
+from spanprof.diagnosis.names import Names
 from spanprof.diagnosis.places import AFTER_REGION, OF_THREADS, OWN, SERIAL, SHARE
+from spanprof.diagnosis.sentences import change_sentence
 from spanprof.diagnosis.tests.worked import MS, facts, place
 from spanprof.folders import TOP
 
@@ -140,6 +142,17 @@ class Kinds(unittest.TestCase):
     def test_memory(self):
         found = facts([place(TASKS, cost=400 * MS)], cost_on_one={TASKS: 100 * MS})
         self.assertEqual(self.first(found), "memory")
+
+    def test_strides(self):
+        """Of 40 samples of a loop 32 are at columns, whose lines seven of eight elements in a row need no more."""
+        turns = place("turns of the loop at image.c:9", SHARE, cost=400 * MS)
+        sampled = Sampled({turns.name: {("main",): 160000}}, {}, strides={turns.name: {"image.c:11": 128000}})
+        found = facts([turns], calls=sampled)
+        self.assertEqual(diagnose(found).causes, [Loss("strides", turns.name, 280 * MS)])
+        step = diagnose(found).plan[0]
+        self.assertEqual((step.after, step.low), (30 * MS, 20 * MS))
+        self.assertEqual(change_sentence(found, Names(found, None), step),
+                         "adjacent elements at image.c:11: swap or block loops, or split structs")
 
     def test_allocation(self):
         called = {TASKS: {("main", "parse", "malloc@libc.so.6"): 30000, ("main", "parse"): 70000}}

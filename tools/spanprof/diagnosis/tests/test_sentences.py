@@ -114,8 +114,8 @@ class Named(unittest.TestCase):
         lock = Held("image.c:8", "ordered", 64, 10 * MS, 300 * MS)
         run = facts(locks=[lock])
         for schedule, change in (("static", "schedule(static, 1) for the loop of ordered at image.c:8"),
-                                 ("dynamic", "a loop of its own for ordered at image.c:8, after this one"),
-                                 ("static, 1", "a loop of its own for ordered at image.c:8, after this one")):
+                                 ("dynamic", "a loop of its own for ordered at image.c:8, after it"),
+                                 ("static, 1", "a loop of its own for ordered at image.c:8, after it")):
             names = Names(run, None)
             names.ordered_loops = lambda: [(None, "for ordered schedule(%s)" % schedule)]
             self.assertEqual(less_locking(run, names, lock, "do less"), change)
