@@ -105,25 +105,25 @@ std::optional<MemoryUse> address_in(const std::string &operand, const std::strin
 }
 
 // What a register grows by: a number such as `$0x10`, or another register; how often.
-std::optional<Step> step_by(const std::string &operand, int64_t times) {
+std::optional<Increment> step_by(const std::string &operand, int64_t times) {
   if (operand[0] == '$')
-    return Step{times * static_cast<int64_t>(std::strtoull(operand.c_str() + 1, nullptr, 16)), -1, times};
+    return Increment{times * static_cast<int64_t>(std::strtoull(operand.c_str() + 1, nullptr, 16)), -1, times};
   int by = register_of(operand);
-  return by < 0 ? std::nullopt : std::optional<Step>({0, by, times});
+  return by < 0 ? std::nullopt : std::optional<Increment>({0, by, times});
 }
 }  // namespace
 
-std::optional<Step> step_of(const std::string &instruction, int of) {
+std::optional<Increment> step_of(const std::string &instruction, int of) {
   std::string rest, name = name_of(instruction, &rest);
   std::vector<std::string> all = operands_of(rest);
   bool is_less = begins_with(name, {"sub", "dec"});
-  if (begins_with(name, {"inc", "dec"})) return Step{is_less ? -1 : 1, -1, 1};
+  if (begins_with(name, {"inc", "dec"})) return Increment{is_less ? -1 : 1, -1, 1};
   if (begins_with(name, {"add", "sub"}) && all.size() == 2) return step_by(all[0], is_less ? -1 : 1);
   std::optional<MemoryUse> sum;
   if (begins_with(name, {"lea"})) sum = address_in(all[0], instruction);
   if (!sum || sum->of_file || (sum->base != of && (sum->index != of || sum->scale != 1))) return std::nullopt;
   bool is_base = sum->base == of;
-  return Step{static_cast<int64_t>(sum->displacement), is_base ? sum->index : sum->base, is_base ? sum->scale : 1};
+  return Increment{static_cast<int64_t>(sum->displacement), is_base ? sum->index : sum->base, is_base ? sum->scale : 1};
 }
 
 std::optional<uint64_t> jump_target(const std::string &instruction) {

@@ -25,12 +25,12 @@ int written_register(const std::string &instruction);  // -1 where it writes non
 bool goes_elsewhere(const std::string &instruction);  // as jumps and calls do
 
 // How an instruction changes a register: by a number of bytes, and by another register so often.
-struct Step {
+struct Increment {
   int64_t bytes = 0;
   int by = -1;
   int64_t times = 1;
 };
-std::optional<Step> step_of(const std::string &instruction, int of);  // nothing where it sets it otherwise
+std::optional<Increment> step_of(const std::string &instruction, int of);  // nothing where it sets it otherwise
 
 // What a conditional jump looks at: a register, and another one, or a number.
 struct Compared {

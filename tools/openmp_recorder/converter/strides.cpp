@@ -32,7 +32,7 @@ bool is_written(const Loop &loop, int number) {
 bool add_steps(const Loop &loop, int of, int64_t times, int64_t &bytes, Steps &by) {
   for (auto one = loop.first; one != loop.last && of >= 0; ++one) {
     if (written_register(one->second) != of) continue;
-    std::optional<Step> step = step_of(one->second, of);
+    std::optional<Increment> step = step_of(one->second, of);
     if (!step || (step->by >= 0 && is_written(loop, step->by))) return false;
     bytes += times * step->bytes;
     if (step->by >= 0) by.emplace_back(step->by, times * step->times);

@@ -256,9 +256,8 @@ def asleep_share(facts, name):
 
 
 def kind_of_sleep(facts, name):
-    """A thread that wakes up may wait for a processor, and that counts as sleep too: so where others take processors,
-    and no sample has a call that waits, it is theirs. In no call threads sleep too while others change what memory the
-    program has."""
+    """Sleep includes the wait for a processor after waking up: where other programs take processors, and no sample has
+    a call that waits, it is due to them. Threads also sleep, in no call, while others change the program's memory."""
     is_busy = facts.preempted > BUSY * (facts.code + facts.preempted)
     if facts.calls.ran and name not in facts.calls.slept and A_FAULT * faults_again(facts.usage or {}) > facts.asleep:
         return "system"
@@ -272,9 +271,9 @@ def starved_off_share(facts, name):
     return facts.starved_off.get(name, 0) / max(facts.starved_by.get(name, 0), 1)
 
 
-def collected(kinds, by, kind_of, facts, off_share, for_sleep=False):
-    """While code was preempted, the machine kept those waiting too that were idle for it; and sleep did while it
-    slept, where they had nothing else to run."""
+def add_idle(kinds, by, kind_of, facts, off_share, for_sleep=False):
+    """To the losses `kinds`, the idle time `by` place. While code was preempted, those that were idle for it waited for
+    the machine too; while it slept, for what it slept for, where they had nothing else to run."""
     for name, time in by.items():
         part, kind = int(time * off_share(facts, name)), kind_of(facts, name)
         slept = int((time - part) * asleep_share(facts, name)) if for_sleep else 0
@@ -292,12 +291,12 @@ def idle_losses(facts):
     short = min(sum(missing.values()), starved + facts.delayed)     # a small team leaves work ready, as pieces of loops
     short_delayed = short * facts.delayed // max(starved + facts.delayed, 1)
     starved -= short - short_delayed
-    collected(kinds, divided(starved, facts.starved_by or at_serial(facts)), kind_of_starved, facts, starved_off_share,
+    add_idle(kinds, divided(starved, facts.starved_by or at_serial(facts)), kind_of_starved, facts, starved_off_share,
               for_sleep=True)
     delayed = divided(facts.delayed - short_delayed, facts.delayed_by or {"": 1})
     starting = {name: int(time * starting_share(facts, name)) for name, time in delayed.items()}
-    collected(kinds, starting, lambda *_: "small_regions", facts, delayed_off_share)
-    collected(kinds, {name: time - starting[name] for name, time in delayed.items()}, kind_of_delayed, facts,
+    add_idle(kinds, starting, lambda *_: "small_regions", facts, delayed_off_share)
+    add_idle(kinds, {name: time - starting[name] for name, time in delayed.items()}, kind_of_delayed, facts,
               delayed_off_share)
     return start_of(facts, [Loss(*key, time) for key, time in kinds.items()]) + \
         by_place("too_few_threads", short, missing)

@@ -350,7 +350,7 @@ def times_of(lock):
 
 def lost_sentence(facts, names, loss):
     if not loss.place:
-        loss = type(loss)(loss.kind, max(facts.places, key=lambda name: facts.places[name].cost, default=""), loss.time)
+        loss = loss._replace(place=max(facts.places, key=lambda name: facts.places[name].cost, default=""))
     return BY_KIND[loss.kind].lost.format(**words(facts, names, loss.place))
 
 
