@@ -158,7 +158,7 @@ TEST(a_loop_that_goes_down_a_column_uses_a_line_for_each_element) {
                       {14, step},
                       {17, "addss  %xmm0,%xmm1"},
                       {21, "cmp    %rcx,%rax"},
-                      {24, "jne    10"}};
+                      {24, "jne    a"}};
     Registers registers{};
     registers[0] = 0x10000, registers[1] = stride, registers[2] = 0x10000 + turns * stride;
     Strides strides(code);
@@ -169,7 +169,7 @@ TEST(a_loop_that_goes_down_a_column_uses_a_line_for_each_element) {
   EXPECT(is_wide(8, 100000), false);
   EXPECT(is_wide(4096, 32), false);  // a block, whose lines are still there in the next column
   EXPECT(is_wide(4096, 1000, "mov    (%rbx),%rax"), false);
-  EXPECT(is_wide(64, 1000, "lea    (%rax,%rdx,2),%rax"), true);
+  EXPECT(is_wide(64, 2000, "lea    (%rax,%rdx,2),%rax"), true);
 }
 
 TEST(adjacent_elements_of_a_loop_that_is_unrolled_share_lines) {
@@ -177,7 +177,7 @@ TEST(adjacent_elements_of_a_loop_that_is_unrolled_share_lines) {
                     {14, "movaps 0x10(%rsi,%rax,1),%xmm1"},
                     {18, "sub    $0xffffffffffffffe0,%rax"},
                     {22, "dec    %rcx"},
-                    {24, "jne    10"}};
+                    {24, "jne    a"}};
   Registers registers{};
   registers[2] = 5000;
   std::optional<Walk> walk = walk_of(code, used_near(code, 14)[0]);
