@@ -1,18 +1,15 @@
 //! The kept predecessors of a segment that goes on after another one of its task.
 //!
-//! A finish opens at most two segments (`opening`): the next one of its task, and the first one of
-//! the task that it creates. The kept predecessors of a segment are gathered when it opens,
-//! ascending:
-//! - of the next one here, by how the finished segment closes. Where it creates a task: the
-//!   finished segment, and then the task's last one if the task is undeferred. At a wait: the last
-//!   segments of the children since the previous wait, and then the finished segment. A walk along
-//!   the task's own segments, from `wait_begin` on, meets these children where it creates them. At
-//!   the end of a group: the last segments of the tasks whose innermost group it is, and then the
-//!   finished segment. One pass over all segments from `group_begin` on finds them.
-//! - of the first one in `beginning`: the last segments of the kept siblings, as the table of its
-//!   parent's children has them (`depend_table`), and then the finished segment.
+//! They are gathered ascending, by how the one before it closes:
+//! - Where it creates a task: that segment, and then the task's last one if the task is undeferred.
+//! - At a wait: the last segments of the children since the previous wait, and then the segment
+//!   before. A walk along the task's own segments, from `wait_begin` on, meets these children where
+//!   it creates them.
+//! - At the end of a group: the last segments of the tasks whose innermost group it is, and then the
+//!   segment before. One pass over all segments from `group_begin` on finds them.
 //!
-//! `counters` keeps each list, and counts how many in it are not finished.
+//! `beginning` has those of the first segment of a task: the last segments of the kept siblings, as
+//! the table of its parent's children has them (`depend_table`), and then its creator.
 ghost use Rattle.std.specs.Prelude.{ℕ, Some, ◌≡◌, ◌<◌, ◌≤◌, ◌↔◌, IfOk, IsTrue};
 ghost use Rattle.task_segments.specs.Table.{segment, task};
 ghost use Rattle.task_segments.specs.declared.table.Closing.TheVariants as closings;
