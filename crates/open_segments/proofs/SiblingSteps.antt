@@ -1,7 +1,7 @@
 -- The children that a task has created, as its segments finish.
 use Rattle.std.proofs.Common.{ℕ, zero, suc, ◌+◌, ◌<◌, ◌≤◌, ◌≡◌, Bool, true, false, List, [], ◌∷◌}
 use Rattle.std.proofs.Common.{Option, Some, None, length, get_or, refl, sym, ap, ◌∙◌, subst, arith}
-use Rattle.std.proofs.Common.{inl, inr}
+use Rattle.std.proofs.Common.{inl, inr, ◌⊎◌}
 use Rattle.std.specs.Prelude.{slice_get, slice_set, replicate, if◌then◌else◌}
 use Rattle.std.proofs.lemmas.Bool.{cases_eq, cases_lt, eq-eqb, eqb-true, both_ways}
 use Rattle.std.proofs.lemmas.Option.{same_Some, none-some, slice_get-get_or, slice_get_within}
@@ -17,10 +17,10 @@ use Rattle.depend_table.specs.KeptEdges.{children_below, is_some_of}
 use Rattle.open_segments.specs.Entry.{entry}
 use Rattle.open_segments.specs.WaysToOpen.{AreKeptSiblings}
 use Rattle.open_segments.specs.Counters.{HasValue, AreCreated, AreSiblingsOf, AreSiblings}
-use Rattle.open_segments.proofs.PlaceLemmas.{get-set_same, get-set_other, get-replicate}
+use Rattle.open_segments.proofs.PlaceLemmas.{entry-set_same, entry-set_other, get-set_same}
+use Rattle.open_segments.proofs.PlaceLemmas.{get-set_other, get-replicate}
 use Rattle.open_segments.proofs.Children.{children_more}
 use Rattle.open_segments.proofs.Edges.{creates_one}
-use Rattle.open_segments.proofs.PlaceLemmas.{entry-set_same, entry-set_other}
 
 -- which segments have a value when one more has
 pub has_more : (values : List (Option ℕ)) (s v p : ℕ)
