@@ -24,8 +24,7 @@ use Rattle.open_segments.specs.KeptLists.{AreFirstLists}
 use Rattle.dispatch_core.proofs.KeptEnough.{precedes_of}
 use Rattle.dispatch_core.specs.RecordedGraph.{RecordedGraph, IsGraph, Precedes, predecessors_of}
 use Rattle.dispatch_core.specs.Graph.{IsGraphOf}
-use Rattle.open_segments.proofs.AtFirst.{entry-replicate}
-use Rattle.open_segments.proofs.PlaceLemmas.{get-replicate}
+use Rattle.open_segments.proofs.PlaceLemmas.{entry-replicate, get-replicate}
 
 nothing_started : (s : ℕ) → ¬ HasStarted [] s
 nothing_started s h = let within = h.started.1 in absurd (omega arith)

@@ -16,10 +16,9 @@ use Rattle.open_segments.specs.Counters.{AreLowered, IsCounted, unfinished_count
 use Rattle.open_segments.specs.Entry.{entry}
 use Rattle.open_segments.specs.Facts.{IsSoundTable}
 use Rattle.open_segments.specs.NumberLists.{IsListed}
-use Rattle.open_segments.proofs.AtFirst.{entry-replicate}
+use Rattle.open_segments.proofs.PlaceLemmas.{entry-replicate}
 use Rattle.open_segments.proofs.Falls.{IsOnce, add_one, all_counted, count_falls, counted_above}
-use Rattle.open_segments.proofs.Falls.{counts_after, none_left, once_listed}
-use Rattle.open_segments.proofs.OpenSteps.{lowered_like}
+use Rattle.open_segments.proofs.Falls.{counts_after, lowered_like, none_left, once_listed}
 use Rattle.dispatch_core.specs.declared.event.Event.{Event}
 use Rattle.dispatch_core.specs.declared.event.Event.TheVariants.{Finish}
 use Rattle.dispatch_core.specs.Graph.{IsGraphOf}

@@ -144,16 +144,6 @@ kept_depending family siblings items kept is lists =
     (subst (λ (l : List Sibling). Lists (IsKept l items) kept) is lists)
     (kept_of_all siblings items) (kept_of_depending siblings items)
 
--- of none nothing is kept
-pub none_kept : (items : List Item) (t : ℕ) → ¬ IsKept [] items t
-none_kept items t kept = elim kept.among [ ]
-
--- a child without depend items adds none
-pub not_depending : (child : Sibling) (siblings : List Sibling) → child.items ≡ []
-    → depending (child ∷ siblings) ≡ depending siblings
-not_depending child siblings is =
-    ap (λ (l : List Item). if has_items l then child ∷ depending siblings else depending siblings) is
-
 pub one_depending : (child : Sibling) (siblings : List Sibling) → has_items child.items ≡ true
     → depending (child ∷ siblings) ≡ child ∷ depending siblings
 one_depending child siblings is =

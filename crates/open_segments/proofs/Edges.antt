@@ -10,7 +10,7 @@ use Rattle.task_segments.specs.InPlace.{IsReadInPlace}
 use Rattle.task_segments.specs.declared.table.Closing.{Closing}
 use Rattle.task_segments.specs.declared.table.Closing.TheVariants.{Creates, Waits, EndsGroup}
 use Rattle.task_segments.specs.declared.table.Closing.TheVariants.{EndsTask}
-use Rattle.task_segments.specs.Precedence.{IsSegment, IsTask, Continues, Creation, Resumption}
+use Rattle.task_segments.specs.Precedence.{IsTask, Continues, Creation, Resumption}
 use Rattle.depend_table.specs.Siblings.{Sibling, IsAmong, IsKept}
 use Rattle.depend_table.specs.Siblings.IsAmong.{Newest, Below}
 use Rattle.depend_table.specs.KeptEdges.{children_below, is_some_of, KeptDependence, IsKeptEdge}
@@ -285,14 +285,6 @@ pub kept_task : (table : Table) (child u : ℕ) (kept : List ℕ) → AreKeptSib
 kept_task table child u kept given facts has =
     let sibling = kept_sibling table given.parent child u ((given.lists.each u).0 has) in
     facts.with_parent u given.parent sibling.of_parent
-
--- a kept dependence begins at a segment
-pub dependence_from : (table : Table) (p t : ℕ) → IsReadInPlace table → KeptDependence table p t
-    → IsSegment table p
-dependence_from table p t facts depends =
-    let sibling = kept_sibling table depends.parent depends.later depends.earlier depends.kept in
-    let is_task = facts.with_parent depends.earlier depends.parent sibling.of_parent in
-    subst (IsSegment table) depends.last (facts.last_of depends.earlier is_task).is_segment
 
 -- the sibling of a kept dependence is kept
 kept_of : (table : Table) (child p : ℕ) (kept : List ℕ) (given : AreKeptSiblings table child kept)

@@ -1,10 +1,10 @@
 -- How a finish changes the counts.
 use Rattle.std.proofs.Common.{ℕ, ◌+◌, ◌-◌, ◌<◌, ◌≡◌, ◌≢◌, ◌⊎◌, ◌↔◌, zero, suc, Bool, true, false}
-use Rattle.std.proofs.Common.{List, [], ◌∷◌, ◌++◌, Option, Some, None, length, cond, take, get_or}
+use Rattle.std.proofs.Common.{List, [], ◌∷◌, Option, Some, None, length, cond, take, get_or}
 use Rattle.std.proofs.Common.{refl, sym, ap, ◌∙◌, subst, arith, inl, inr}
-use Rattle.std.specs.Prelude.{slice_get, slice_set, slice_index_or, Contains, is_none, IsTrue}
-use Rattle.std.specs.Prelude.{AllPairs, if◌then◌else◌}
-use Rattle.std.proofs.lemmas.Bool.{cases_eq, both_ways}
+use Rattle.std.specs.Prelude.{slice_get, slice_set, slice_index_or, Contains, is_none}
+use Rattle.std.specs.Prelude.{AllPairs}
+use Rattle.std.proofs.lemmas.Bool.{cases_eq}
 use Rattle.std.proofs.lemmas.Option.{same_Some}
 use Rattle.std.proofs.lemmas.List.Sums.{sum_by-cons}
 use Rattle.std.proofs.lemmas.List.Kept.{AllPairs-from_increasing}
@@ -255,33 +255,6 @@ pub next_here : (before list now : List ℕ) (k x : ℕ) (counted : IsCounted be
 next_here before list now k x counted within is once so_far =
     so_far.others x (fresh_next list k x within is once) ∙ counted.is
 
-pub ready_step : (counts list ready : List ℕ) (k x : ℕ) (keep : Bool)
-    → k < length list
-    → x ≡ get_or list k x
-    → IsTrue keep ↔ (slice_get counts x ≡ Some 1)
-    → ((t : ℕ) → Contains ready t ↔ (Contains (take k list) t × (slice_get counts t ≡ Some 1)))
-    → (t : ℕ)
-    → Contains (if keep then ready ++ x ∷ [] else ready) t
-    ↔ (Contains (take (k + 1) list) t × (slice_get counts t ≡ Some 1))
-ready_step counts list ready k x true within is passes so_far t = (
-  λ h. elim (Contains-push_cases ready x t h) [
-    | inl was ↦ let before = (so_far t).0 was in (still_has list k x t within before.0, before.1)
-    | inr same ↦ (
-      subst (λ (n : ℕ). Contains (take (k + 1) list) n) same
-          (next_has list k x within is),
-      subst (λ (n : ℕ). slice_get counts n ≡ Some 1) same (passes.0 refl),
-    )
-  ],
-  λ h. elim (next_cases list k x t within is h.0) [
-    | inl before ↦ Contains-append_left ready (x ∷ []) t ((so_far t).1 (before, h.1))
-    | inr same ↦ subst (λ (n : ℕ). Contains (ready ++ x ∷ []) n) (sym same) (Contains-push ready x)
-  ],
-)
-ready_step counts list ready k x false within is passes so_far t = (
-  λ h. let before = (so_far t).0 h in (still_has list k x t within before.0, before.1),
-  λ h. elim (next_cases list k x t within is h.0) [
-    | inl before ↦ (so_far t).1 (before, h.1)
-    | inr same ↦ absurd
-        (both_ways false refl (passes.1 (subst (λ (n : ℕ). slice_get counts n ≡ Some 1) same h.1)))
-  ],
-)
+pub lowered_like : (before after : List ℕ) (P Q : ℕ → Type 0) → ((t : ℕ) → P t ↔ Q t)
+    → AreLowered before P after → AreLowered before Q after
+lowered_like before after P Q same lowered = grind arith

@@ -16,9 +16,9 @@ use Rattle.open_segments.specs.Entry.{entry}
 use Rattle.open_segments.specs.Facts.{IsSoundTable}
 use Rattle.open_segments.specs.Counters.{HasValue}
 use Rattle.open_segments.specs.KeptLists.{AreEntered, AreFirstLists}
-use Rattle.open_segments.proofs.AtFirst.{entry-replicate}
+use Rattle.open_segments.proofs.PlaceLemmas.{entry-replicate}
 use Rattle.open_segments.proofs.ListLemmas.{Lists-none}
-use Rattle.open_segments.proofs.OpenSteps.{has_more, has_new, had_value}
+use Rattle.open_segments.proofs.SiblingSteps.{has_more, has_new, had_value}
 use Rattle.open_segments.proofs.SiblingSteps.{IsNextChild, next_child, siblings_first}
 use Rattle.open_segments.proofs.SiblingSteps.{siblings_more, siblings_so_far, siblings_still}
 

@@ -10,12 +10,7 @@ pub mod Openers
 pub mod Since
 pub mod Joining
 pub mod Falls
-pub mod Turning
-pub mod Rooms
-pub mod OpenSteps
 pub mod SiblingSteps
-pub mod AtFirst
-pub mod Stages
 pub mod KeptLists
 pub mod Members
 pub mod Depending

@@ -1,7 +1,7 @@
 -- A write to one place of a list, and how many places pass a test.
 use Rattle.std.proofs.Common.{ℕ, ◌+◌, ◌<◌, ◌≡◌, ◌≢◌, zero, suc, Bool, true, false, List, []}
-use Rattle.std.proofs.Common.{◌∷◌, ◌++◌, Option, Some, None, length, cond, get_or, sum_by, map}
-use Rattle.std.proofs.Common.{refl, sym, ap, ◌∙◌, arith, replicate}
+use Rattle.std.proofs.Common.{◌∷◌, ◌++◌, Option, Some, None, length, cond, get_or}
+use Rattle.std.proofs.Common.{refl, ap, ◌∙◌, arith, replicate}
 use Rattle.std.specs.Prelude.{slice_get, slice_set, count_by}
 use Rattle.std.specs.Option.{option_flatten}
 use Rattle.open_segments.specs.Entry.{entry}
@@ -90,10 +90,7 @@ pub entry-set_other : (list : List (Option ℕ)) (at other : ℕ) (v : Option �
     → entry (slice_set list at v) other ≡ entry list other
 entry-set_other list at other v h = ap option_flatten (get-set_other list at other v h)
 
-pub sum_by-of_map : {A B : Type 0} (g : B → ℕ) (f : A → B) (xs : List A)
-    → sum_by g (map f xs) ≡ sum_by (λ x. g (f x)) xs
-sum_by-of_map g f [] = refl
-sum_by-of_map g f (x ∷ xs) =
-    sum_by-cons g (f x) (map f xs)
-    ∙ ap (λ n. g (f x) + n) (sum_by-of_map g f xs)
-    ∙ sym (sum_by-cons (λ y. g (f y)) x xs)
+pub entry-replicate : (n v i : ℕ) → ¬ (entry (replicate n None) i ≡ Some v)
+entry-replicate zero v i h = none-some v h
+entry-replicate (suc n) v zero h = none-some v h
+entry-replicate (suc n) v (suc i) h = entry-replicate n v i h

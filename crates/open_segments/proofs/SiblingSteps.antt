@@ -1,11 +1,10 @@
 -- The children that a task has created, as its segments finish.
 use Rattle.std.proofs.Common.{ℕ, zero, suc, ◌+◌, ◌<◌, ◌≤◌, ◌≡◌, Bool, true, false, List, [], ◌∷◌}
 use Rattle.std.proofs.Common.{Option, Some, None, length, get_or, refl, sym, ap, ◌∙◌, subst, arith}
-use Rattle.std.proofs.Common.{inl, inr}
+use Rattle.std.proofs.Common.{inl, inr, ◌⊎◌}
 use Rattle.std.specs.Prelude.{slice_get, slice_set, replicate, if◌then◌else◌}
 use Rattle.std.proofs.lemmas.Bool.{cases_eq, cases_lt, eq-eqb, eqb-true, both_ways}
 use Rattle.std.proofs.lemmas.Option.{same_Some, none-some, slice_get-get_or, slice_get_within}
-use Rattle.std.proofs.lemmas.Option.{get_or_from_slice_get}
 use Rattle.std.proofs.lemmas.List.{length-set, length-replicate}
 use Rattle.task_segments.specs.Table.{Table, segment, task}
 use Rattle.task_segments.specs.declared.table.Closing.TheVariants.{Creates}
@@ -18,17 +17,33 @@ use Rattle.depend_table.specs.KeptEdges.{children_below, is_some_of}
 use Rattle.open_segments.specs.Entry.{entry}
 use Rattle.open_segments.specs.WaysToOpen.{AreKeptSiblings}
 use Rattle.open_segments.specs.Counters.{HasValue, AreCreated, AreSiblingsOf, AreSiblings}
-use Rattle.open_segments.proofs.PlaceLemmas.{get-set_same, get-set_other, get-replicate}
+use Rattle.open_segments.proofs.PlaceLemmas.{entry-set_same, entry-set_other, get-set_same}
+use Rattle.open_segments.proofs.PlaceLemmas.{get-set_other, get-replicate}
 use Rattle.open_segments.proofs.Children.{children_more}
 use Rattle.open_segments.proofs.Edges.{creates_one}
-use Rattle.open_segments.proofs.OpenSteps.{has_more, has_new, had_value}
 
--- what stands at a place
-pub stands_at : (siblings : List (List Sibling)) (p : ℕ) (row list : List Sibling)
-    → row ≡ get_or siblings p row
-    → slice_get siblings p ≡ Some list
-    → row ≡ list
-stands_at siblings p row list is there = is ∙ get_or_from_slice_get siblings p list row there
+-- which segments have a value when one more has
+pub has_more : (values : List (Option ℕ)) (s v p : ℕ)
+    → s < length values
+    → HasValue values p
+    → HasValue (slice_set values s (Some v)) p
+has_more values s v p within has = elim (cases_eq p s) [
+  | inl same ↦ record {
+    value = v;
+    is = ap (λ (n : ℕ). entry (slice_set values s (Some v)) n) same ∙ entry-set_same values s v within;
+  }
+  | inr apart ↦ record { value = has.value; is = entry-set_other values s p (Some v) apart ∙ has.is }
+]
+
+pub has_new : (values : List (Option ℕ)) (s v : ℕ)
+    → s < length values
+    → HasValue (slice_set values s (Some v)) s
+has_new values s v within = record { value = v; is = entry-set_same values s v within }
+
+pub had_value : (values : List (Option ℕ)) (s v p : ℕ)
+    → HasValue (slice_set values s (Some v)) p
+    → HasValue values p ⊎ (p ≡ s)
+had_value values s v p has = grind (arith, cases_eq, entry-set_other)
 
 -- what the table of a child's parent keeps are its kept siblings
 pub are_kept : (table : Table) (child parent : ℕ) (siblings : List Sibling) (items : List Item)

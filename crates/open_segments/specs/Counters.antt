@@ -1,14 +1,11 @@
--- Carried out: what is recorded of open segments: their kept predecessors and successors, counts of
--- unfinished ones, and created siblings.
-use Rattle.std.specs.Prelude.{ℕ, ◌+◌, ◌<◌, ◌≡◌, ◌≢◌, ◌⊎◌, ◌↔◌, List, [], Option, Some, None, length}
-use Rattle.std.specs.Prelude.{slice_get, count_by, is_none, Contains, AllPairs}
+-- Carried out: counts of unfinished predecessors, and created siblings.
+use Rattle.std.specs.Prelude.{ℕ, ◌+◌, ◌<◌, ◌≡◌, ◌⊎◌, List, Option, Some, length}
+use Rattle.std.specs.Prelude.{slice_get, count_by, is_none}
 use Rattle.task_segments.specs.Table.{Table, task}
 use Rattle.task_segments.specs.Precedence.{Continues, Creation, IsSegment, MustPrecede}
 use Rattle.task_segments.specs.Schedule.{IsJoined}
 use Rattle.depend_table.specs.Siblings.{Sibling}
 use Rattle.depend_table.specs.KeptEdges.{IsKeptEdge, children_below}
-use Rattle.depend_table.specs.Lists.{Lists}
-use Rattle.open_segments.specs.NumberLists.{IsListed}
 use Rattle.open_segments.specs.Entry.{entry}
 
 -- how many of these segments have no value yet
@@ -34,22 +31,6 @@ pub record HasValue (values : List (Option ℕ)) (s : ℕ) : Type 0 where
   pub value : ℕ
   pub is : entry values s ≡ Some value
 
--- it is the first segment, or the one that opens it has a value
-abbrev pub IsOpenBy : Table → List (Option ℕ) → ℕ → Type 0
-IsOpenBy table values t =
-    (t ≡ 0) ⊎ ((s : ℕ) × (Continues table s t ⊎ Creation table s t) × HasValue values s)
-
--- the kept predecessors of an open segment, and none of another
-abbrev pub AreKeptOf : Table → (ℕ → Type 0) → ℕ → List ℕ → Type 0
-AreKeptOf table is_open t list =
-    (is_open t × Lists (λ p. IsKeptEdge table p t) list) ⊎ ((¬ is_open t) × (list ≡ []))
-
-pub record AreKept (table : Table) (is_open : ℕ → Type 0) (preds : List (List ℕ)) : Type 0 where
-  pub each : length preds ≡ length table.segments
-  pub lists : (t : ℕ) (list : List ℕ)
-      → slice_get preds t ≡ Some list
-      → AreKeptOf table is_open t list
-
 -- for each segment the number of its recorded predecessors that are not finished
 pub record AreCounts (values : List (Option ℕ)) (preds : List (List ℕ)) (counts : List ℕ) : Type
     0 where
@@ -57,20 +38,6 @@ pub record AreCounts (values : List (Option ℕ)) (preds : List (List ℕ)) (cou
   pub counted : (t : ℕ) (list : List ℕ)
       → slice_get preds t ≡ Some list
       → slice_get counts t ≡ Some (unfinished_count values list)
-
--- for each unfinished segment those that have it among their recorded predecessors, each once
-pub record AreSuccessors (values : List (Option ℕ)) (preds successors : List (List ℕ)) : Type
-    0 where
-  pub each : length successors ≡ length preds
-  pub listed : (s : ℕ) (list : List ℕ)
-      → slice_get successors s ≡ Some list
-      → entry values s ≡ None
-      → (t : ℕ)
-      → Contains list t ↔ IsListed preds t s
-  pub once : (s : ℕ) (list : List ℕ)
-      → slice_get successors s ≡ Some list
-      → entry values s ≡ None
-      → AllPairs (λ x y. x ≢ y) list
 
 -- of the children of a task, those with a number below this one are created: their creators are
 -- finished

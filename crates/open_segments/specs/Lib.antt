@@ -2,12 +2,9 @@ pub mod Entry
 pub mod NumberLists
 pub mod FlatLists
 pub mod FilledLists
-pub mod Rooms
 pub mod WaysToOpen
 pub mod Counters
 pub mod Facts
-pub mod UpToDate
-pub mod Openings
 pub mod KeptLists
 pub mod Members
 pub mod Families

@@ -2,7 +2,7 @@
 ghost use Rattle.std.specs.Prelude.{◌≡◌, ◌<◌, ◌+◌, ◌-◌, IfOk, OnOk, length};
 ghost use Rattle.task_segments.specs.Table.{segment};
 ghost use Rattle.task_segments.specs.declared.table.Closing.TheVariants as closings;
-ghost use Rattle.task_segments.specs.Precedence.{Continues, IsSegment};
+ghost use Rattle.task_segments.specs.Precedence.{IsSegment};
 ghost use Rattle.depend_table.specs.KeptEdges.{IsKeptEdge};
 ghost use Rattle.depend_table.specs.Lists.{Lists};
 ghost use Rattle.open_segments.specs.Families.{AreInFamilies};
@@ -14,7 +14,7 @@ use crate::continuing::next_predecessors;
 use crate::families::{Families, enter_depending, kept_children, no_families};
 use crate::flat_lists::FlatLists;
 use crate::opener::opener;
-use crate::waiting_groups::{Members, after_members, group_members};
+use crate::waiting_groups::{Members, group_members};
 use std::alloc::Global;
 use task_program::AllocFault;
 use task_segments::table::{BoundedTable, Closing};
@@ -60,26 +60,8 @@ fn predecessors<const SEGMENTS: u32, const TASKS: u32>(
         return enter_child(alloc, table, families, before, child);
     }
     match opener(table, segment) {
-        Some(opener) => after_opener(alloc, table, members, opener, segment),
+        Some(opener) => next_predecessors(alloc, table, members, opener, segment),
         None => unreachable!(),
-    }
-}
-
-/// The kept predecessors of the segment that goes on after `before` in its task.
-fn after_opener<const SEGMENTS: u32, const TASKS: u32>(
-    alloc: Global,
-    table: &BoundedTable<SEGMENTS, TASKS>,
-    members: &Members,
-    before: u32,
-    next: u32,
-) -> Result<Vec<u32>, AllocFault>
-    requires follows { Continues table.now before next }
-    requires members { AreMembers table.now members.now }
-    ensures { IfOk result (λ preds. Lists (λ p. IsKeptEdge table.now p next) preds.items) }
-{
-    match table.closing(before) {
-        Closing::EndsGroup => after_members(alloc, table, members, before, next),
-        _ => next_predecessors(alloc, table, before, next),
     }
 }
 

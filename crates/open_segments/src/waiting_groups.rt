@@ -1,7 +1,7 @@
 //! For each segment that opens after the end of a group the tasks that it waits for, in one pass over
 //! all segments.
 ghost use Rattle.std.specs.Prelude.{ℕ, Some, ◌≡◌, ◌<◌, ◌+◌, ◌++◌, ◌∷◌, [], ◌↔◌, IfOk, OnOk, length};
-ghost use Rattle.std.specs.Prelude.{slice_index_or, slice_set, Contains, IsTrue};
+ghost use Rattle.std.specs.Prelude.{slice_index_or, slice_set, replicate, Contains, IsTrue};
 ghost use Rattle.std.specs.List.Sorted.{IsStrictlyIncreasing};
 ghost use Rattle.task_segments.specs.InPlace.{EndsBefore};
 ghost use Rattle.task_segments.specs.Precedence.{Continues, IsSegment};
@@ -12,7 +12,6 @@ ghost use Rattle.depend_table.specs.Lists.{Lists};
 ghost use Rattle.open_segments.specs.Members.{AreMembers, AreMembersBelow};
 ghost use Rattle.open_segments.specs.NumberLists.{lists_of};
 
-use crate::number_lists::no_lists;
 use crate::picked::push_if;
 use std::alloc::Global;
 use task_program::AllocFault;
@@ -39,6 +38,17 @@ pub fn group_members<const SEGMENTS: u32, const TASKS: u32>(
         enter_member(table, &groups, &mut lists, segment)?;
     }
     Ok(Members { groups, lists })
+}
+
+/// As many empty lists.
+fn no_lists(alloc: Global, count: usize) -> Result<Vec<Vec<u32>>, AllocFault>
+    ensures { IfOk result (λ lists. lists_of lists.items ≡ replicate count []) }
+{
+    let mut lists = Vec::with_capacity(alloc, count)?;
+    for _ in 0..count {
+        lists.push(Vec::new(alloc))?;
+    }
+    Ok(lists)
 }
 
 /// The segments after the ends of groups, ascending.

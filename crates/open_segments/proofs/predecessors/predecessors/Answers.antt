@@ -25,8 +25,8 @@ returns-in-Creates-clause-entered g c =
     (AreInFamilies c.args.table.now t c.enter_child.new.families)) next
     c.enter_child.ensures.entered
 
-pub after_opener-requires : goal.after_opener-requires
-after_opener-requires g c = (
+pub next_predecessors-requires : goal.next_predecessors-requires
+next_predecessors-requires g c = (
   search rules,
   (
     (let facts = c.reads_in_place.ensures in
@@ -63,4 +63,4 @@ returns-clause-entered g c =
     let entered : AreInFamilies table c.args.segment c.args.families.now =
     subst (λ (t : ℕ). AreInFamilies table t c.args.families.now) next
     (families_still table before c.args.families.now known none c.requires.so_far) in
-    on_ok c.after_opener.result entered
+    on_ok c.next_predecessors.result entered
