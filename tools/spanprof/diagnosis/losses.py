@@ -292,12 +292,12 @@ def idle_losses(facts):
     short_delayed = short * facts.delayed // max(starved + facts.delayed, 1)
     starved -= short - short_delayed
     add_idle(kinds, divided(starved, facts.starved_by or at_serial(facts)), kind_of_starved, facts, starved_off_share,
-              for_sleep=True)
+             for_sleep=True)
     delayed = divided(facts.delayed - short_delayed, facts.delayed_by or {"": 1})
     starting = {name: int(time * starting_share(facts, name)) for name, time in delayed.items()}
     add_idle(kinds, starting, lambda *_: "small_regions", facts, delayed_off_share)
     add_idle(kinds, {name: time - starting[name] for name, time in delayed.items()}, kind_of_delayed, facts,
-              delayed_off_share)
+             delayed_off_share)
     return start_of(facts, [Loss(*key, time) for key, time in kinds.items()]) + \
         by_place("too_few_threads", short, missing)
 
@@ -451,10 +451,10 @@ def striding(facts):
             for name, strides in facts.calls.strides.items() if ran.get(name)}
 
 
-def contended_lines(facts, name):
-    """What the lines of a place took, by samples, that use contended memory: what else stands in them may wait too."""
-    shares, at, ran = (found.get(name, {}) for found in (facts.calls.shares, facts.calls.at, facts.calls.ran))
-    took, whole = sum(at.get(line, 0) for line in shares), sum(ran.values())
+def slowed_lines(facts, name, uses):
+    """What the lines of a place took, by samples, that have such uses of memory: what else stands in them may wait too."""
+    used, at, ran = (found.get(name, {}) for found in (uses, facts.calls.at, facts.calls.ran))
+    took, whole = sum(at.get(line, 0) for line in used), sum(ran.values())
     return int(facts.places[name].cost * min(1, took / whole)) if whole and name in facts.places else 0
 
 
