@@ -58,7 +58,7 @@ TABLE = (
           "shorten what they wait for: divide it evenly, or hold it for less"),
     Cause("memory", "memory", 0.1, "{contended}", "{instead}", ABOUT),
     Cause("strides", "strides", 0.1, "the inner loop at {strides_at} uses a new cache line for each element",
-          "adjacent elements at {strides_at}: swap or block loops, or split structs", ABOUT),
+          "adjacent elements at {strides_at}: swap or block loops", ABOUT),
     Cause("allocation", "memory allocation", 0.08,
           "allocating memory takes {allocating} % of parallel code, mostly in {where}",
           "allocate once, outside the loop, or per thread", ABOUT),

@@ -455,10 +455,10 @@ def striding(facts):
     return {name: int(OF_ITS_LINE * cost) for name, cost in by_samples(facts, facts.calls.strides).items()}
 
 
-def contended_lines(facts, name):
-    """What the lines of a place took, by samples, that use contended memory: what else stands in them may wait too."""
-    shares, at, ran = (found.get(name, {}) for found in (facts.calls.shares, facts.calls.at, facts.calls.ran))
-    took, whole = sum(at.get(line, 0) for line in shares), sum(ran.values())
+def slowed_lines(facts, name, uses):
+    """What the lines of a place took, by samples, that have such uses of memory: what else stands in them may wait too."""
+    used, at, ran = (found.get(name, {}) for found in (uses, facts.calls.at, facts.calls.ran))
+    took, whole = sum(at.get(line, 0) for line in used), sum(ran.values())
     return int(facts.places[name].cost * min(1, took / whole)) if whole and name in facts.places else 0
 
 

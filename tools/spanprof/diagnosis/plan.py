@@ -5,8 +5,8 @@ from typing import Optional
 from spanprof.diagnosis.allocation import parallel_places
 from spanprof.diagnosis.causes import AT_BEST, BY_KIND, ESTIMATED, WORTH_A_CHANGE
 from spanprof.diagnosis.changes import Change
-from spanprof.diagnosis.losses import (OF_ITS_LINE, OF_SHAPE, contended_lines, in_code_losses, is_in_a_row,
-                                       kind_of_task, least_of, most_shared, share_of_start)
+from spanprof.diagnosis.losses import (OF_SHAPE, in_code_losses, is_in_a_row, kind_of_task, least_of,
+                                       most_shared, share_of_start, slowed_lines)
 from spanprof.diagnosis.own_code import own_share
 from spanprof.diagnosis.places import SERIAL, TASK
 from spanprof.program_text import BEGINNING, where
@@ -171,10 +171,9 @@ def bound_of(facts, now, loss, found=()):
     after = low = left(facts, now, loss, found)
     if freed_with(loss, found)["memory"]:
         low = 0
-    elif loss.kind == "strides":
-        low = left(facts, now, loss._replace(time=int(loss.time / OF_ITS_LINE)), found)
-    elif loss.kind == "memory" and facts.cost_on_one is None:
-        low = left(facts, now, loss._replace(time=max(loss.time, contended_lines(facts, loss.place))), found)
+    elif loss.kind == "strides" or loss.kind == "memory" and facts.cost_on_one is None:
+        uses = facts.calls.strides if loss.kind == "strides" else facts.calls.shares
+        low = left(facts, now, loss._replace(time=max(loss.time, slowed_lines(facts, loss.place, uses))), found)
     return Step(loss.kind, loss.place, now, after, low, int(now - BOUND_LEAST * (now - after)))
 
 
