@@ -456,7 +456,7 @@ def striding(facts):
 
 
 def slowed_lines(facts, name, uses):
-    """What the lines of a place took, by samples, that have such uses of memory: what else stands in them may wait too."""
+    """What the lines of a place took, by samples, that use memory so: what else stands in them may wait too."""
     used, at, ran = (found.get(name, {}) for found in (uses, facts.calls.at, facts.calls.ran))
     took, whole = sum(at.get(line, 0) for line in used), sum(ran.values())
     return int(facts.places[name].cost * min(1, took / whole)) if whole and name in facts.places else 0

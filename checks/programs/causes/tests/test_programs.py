@@ -33,7 +33,8 @@ class Programs(unittest.TestCase):
 
     def test_chosen_by_kind_or_name(self):
         self.assertEqual([one.name for one in programs(HERE, ["lock_object"])], ["lock_object"])
-        self.assertEqual([one.name for one in programs(HERE, ["lock", "serial"])], ["serial", "lock", "lock_object"])
+        self.assertEqual([one.name for one in programs(HERE, ["lock", "serial"])],
+                         ["serial", "lock", "lock_object", "lock_ordered"])
 
 
 if __name__ == "__main__":
