@@ -74,11 +74,17 @@ def is_shared_out(words):
     return is_one_of((LOOP, SECTIONS), words)
 
 
-def words_of(text):
-    """The tokens of a text, each with the comment of its line."""
+def lines_of(text):
+    """The tokens of each line, and its comment."""
     for line in text.split("\n"):
         code, _, comment = line.partition("#")
-        yield from ((word, comment.strip()) for word in TOKEN.findall(code))
+        yield TOKEN.findall(code), comment.strip()
+
+
+def words_of(text):
+    """The tokens of a text, each with the comment of its line."""
+    for words, comment in lines_of(text):
+        yield from ((word, comment) for word in words)
 
 
 def has_loops(text):
