@@ -10,6 +10,7 @@ from typing import NamedTuple
 
 from spanprof import client
 from spanprof.c_calls import MOST_THREADS
+from spanprof.errors import Fault
 from spanprof.head import head_of
 from spanprof.limits import is_long
 from spanprof.recording import open_recording, shown_name
@@ -118,8 +119,8 @@ class Answers:
             found = read_code(client.ask(["show"], self.file).splitlines(True), self.name)
         else:
             found = code_in(self.path)
-        wanted = self.numbers["segments"], self.numbers["work"]
-        assert (len(found), sum(found.cost)) == wanted, "the text was read otherwise"
+        if (len(found), sum(found.cost)) != (self.numbers["segments"], self.numbers["work"]):
+            raise Fault("%s: its table of segments is of another text" % self.name)
         return found
 
     @cached_property

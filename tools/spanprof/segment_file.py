@@ -25,14 +25,14 @@ def file_beside(text):
 
 def columns_in(data, count):
     """Block by block."""
+    if len(data) != count * sum(size for _, size in COLUMNS):
+        raise ValueError("%d bytes of columns" % len(data))
     out, at = [array(of) for of, _ in COLUMNS], 0
     for first in range(0, count, OF_A_BLOCK):
         for column, (_, size) in zip(out, COLUMNS):
             end = at + size * min(OF_A_BLOCK, count - first)
             column.frombytes(data[at:end])
             at = end
-    if at != len(data):
-        raise ValueError("%d bytes of columns" % len(data))
     return out
 
 
@@ -46,6 +46,15 @@ def widened(costs, exceptions):
     return out
 
 
+def check(code):
+    """That its numbers are of kinds and segments that it has."""
+    kinds, segments = set(range(len(code.kinds))), range(len(code.of))
+    if set(code.of) != kinds or not {kind for kind, *_ in code.clauses} <= kinds | {None}:
+        raise ValueError("kinds that it does not have")
+    if max(code.task) not in segments or not all(map(segments.__contains__, code.own)):
+        raise ValueError("segments that it does not have")
+
+
 def read_into(code, path, kind_of):
     """`kind_of` makes a kind of its words."""
     with reading(path), open(path, "rb") as file:
@@ -57,5 +66,7 @@ def read_into(code, path, kind_of):
         for is_root, *words in reported["kinds"]:
             code.add(kind_of(is_root, *(word.strip() for word in words)))
         code.own, code.groups = (array("I", reported["own"][first::2]) for first in (0, 1))
-        code.clauses = [(kind, words.replace(" ", ""), *numbers) for kind, words, *numbers in reported["clauses"]]
+        code.clauses = [(kind, words.replace(" ", ""), count + 0, again + 0)
+                        for kind, words, count, again in reported["clauses"]]
+        check(code)
     return code

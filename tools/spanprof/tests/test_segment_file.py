@@ -54,6 +54,14 @@ class OfARecording(unittest.TestCase):
             with self.assertRaisesRegex(Fault, "segments is damaged"):
                 read(data)
 
+    def test_numbers_that_it_does_not_have(self):
+        for name, value in (("segments", 10 ** 18), ("kinds", KINDS[1:]), ("kinds", KINDS + KINDS), ("own", [7, 1]),
+                            ("clauses", [[7, "if(0)", 1, 0]]), ("clauses", [[1, "if(0)", "", 0]])):
+            with self.assertRaisesRegex(Fault, "segments is damaged"):
+                read(table(ROWS, {**TOLD, name: value}))
+        with self.assertRaisesRegex(Fault, "segments that it does not have"):
+            read(table([(0, 1 << 31, 7), *ROWS[1:]], TOLD))
+
     def test_it_lies_beside_the_text_of_a_recording(self):
         reported = {"segments": 3, "kinds": KINDS[:2] + KINDS[3:4], "long": [], "own": [], "clauses": []}
         with tempfile.TemporaryDirectory() as folder:
