@@ -6,6 +6,12 @@ import struct
 import sys
 
 LETTERS = "ACDEFGHIKLMNPQRSTVWY"
+# MD5-based hashes of passwords that are not among the words, as john reads them.
+HASHES = "a:$1$ab$6p7K2oY92TM2ksdYZe0Wi/\nb:$1$cd$0uwsGDFQ5TJlo3rnna.si0\nc:$1$ef$iDCSoN7GYaLdqpv9Uemvo/\n"
+# Wavelengths of a nebula's lines, their fluxes and how far these may be wrong, as neat reads them.
+NEBULA = ((3726.03, 38, 2), (3728.82, 42, 2), (4101.74, 26, 1), (4340.47, 47, 2), (4363.21, 2.1, 0.3),
+          (4861.33, 100, 3), (4958.91, 150, 5), (5006.84, 450, 10), (5754.6, 0.4, 0.1), (5875.66, 12, 1),
+          (6548.1, 5, 0.5), (6562.77, 286, 8), (6583.5, 15, 1), (6716.44, 9, 1), (6730.82, 8, 1))
 DRAWN = {"H": "9/9/9/f/9/9/9", "L": "8/8/8/8/8/8/f", "O": "6/9/9/9/9/9/6", "E": "f/8/8/e/8/8/f"}    # four points a row
 
 
@@ -121,6 +127,39 @@ def commands(count):
                    % (200000 * (1 + 3 * (i % 5 == 0)), i) for i in range(count))
 
 
+def words(chance, count, length):
+    return ["".join(chance.choice("abcdefgh") for _ in range(length)) for _ in range(count)]
+
+
+def crystal():
+    """Aluminium, as elk reads it."""
+    return "tasks\n  0\n\navec\n  3.8 3.8 0\n  3.8 0 3.8\n  0 3.8 3.8\n\nsppath\n  '/usr/share/elk-lapw/species/'\n\n" \
+        "atoms\n  1\n  'Al.in'\n  1\n  0 0 0  0 0 0\n\nngridk\n  3 3 3\n\nmaxscl\n  3\n"
+
+
+def pdf_page(chance, number):
+    """The objects of a page of text and what it shows."""
+    lines = (" ".join(words(chance, 12, 5)) for _ in range(50))
+    shown = "".join("1 0 0 1 50 %d Tm (%s) Tj\n" % (780 - 14 * row, line) for row, line in enumerate(lines))
+    yield "/Type /Page /Parent 2 0 R /MediaBox [0 0 595 842] /Resources << /Font << /F1 3 0 R >> >> " \
+        "/Contents %d 0 R" % (5 + 2 * number), ""
+    yield "/Length %d" % (len(shown) + 16), "\nstream\nBT /F1 11 Tf\n%sET\nendstream" % shown
+
+
+def pdf(chance, pages):
+    """Pages of text, as pdf2djvu reads them."""
+    kids = " ".join("%d 0 R" % (4 + 2 * number) for number in range(pages))
+    objects = [("/Type /Catalog /Pages 2 0 R", ""), ("/Type /Pages /Kids [%s] /Count %d" % (kids, pages), ""),
+               ("/Type /Font /Subtype /Type1 /BaseFont /Helvetica", "")]
+    objects += [one for number in range(pages) for one in pdf_page(chance, number)]
+    out, places = "%PDF-1.4\n", []
+    for number, (entries, stream) in enumerate(objects, 1):
+        places.append("%010d 00000 n \n" % len(out))
+        out += "%d 0 obj\n<< %s >>%s\nendobj\n" % (number, entries, stream)
+    return out + "xref\n0 %d\n0000000000 65535 f \n%strailer\n<< /Size %d /Root 1 0 R >>\nstartxref\n%d\n%%%%EOF\n" % (
+        len(places) + 1, "".join(places), len(places) + 1, len(out))
+
+
 def learnt():
     """What timbl and xgboost learn from."""
     chance = random.Random(4)
@@ -138,6 +177,10 @@ def inputs():
     found["old.po"], found["new.pot"] = (catalogue(random.Random(3), *what) for what in ((1500,), (600, " x")))
     found.update(learnt(), **{"field.raw": field(64), "song.mid": song(40), "inverters.cir": inverters(60),
                               "commands": commands(8)})
+    found.update({"hashes": HASHES, "elk.in": crystal(), "pages.pdf": pdf(random.Random(5), 8),
+                  "lines.dat": "".join("%s %s %s\n" % line for line in NEBULA),
+                  "words": "\n".join(words(random.Random(6), 4000, 7)) + "\n",
+                  "water.mop": "PM7 1SCF THREADS=2\nwater\n\n" + "\n".join(water(3).split("\n")[2:])})
     genomes = enumerate(sequences(chance, 3, 60000, 0.05, "ACGT"))
     return dict(found, **{"genome%d.fasta" % number: fasta([pair]) for number, pair in genomes})
 

@@ -84,9 +84,9 @@ def differences(plain, other):
             yield "%s differs" % name
 
 
-def faults(plain, again, recorded):
-    """Files that differ between two runs without the recorder tell nothing."""
-    varies = set(differences(plain, again))
+def faults(plain, others, recorded):
+    """Files that differ between runs without the recorder tell nothing."""
+    varies = {fault for other in others for fault in differences(plain, other)}
     yield from (fault for fault in differences(plain, recorded) if fault not in varies)
     if not RUNTIME.search(recorded.said):
         yield "the summary names no runtime: %s" % recorded.said.strip()
@@ -137,7 +137,10 @@ def try_program(words, recorder):
         path = os.path.join(out, "told")
         options = ["--all", "--json", path, "--out", os.path.join(out, "run")]
         recorded = run([recorder, *options, "--", *words], environment)
-        found = [*faults(plain, again, recorded), *reported_faults(recorded.said, path)]
+        found = list(faults(plain, [again], recorded))
+        if found:   # two runs may be alike by chance
+            found = list(faults(plain, [again, run(words, environment)], recorded))
+        found += reported_faults(recorded.said, path)
     named, lost = RUNTIME.search(recorded.said), re.search(r"^lost +(.*)", recorded.said, re.M)
     return found, "status %s, on %s: %s" % (plain.status, named[1] if named else "nothing", lost[1] if lost else "")
 

@@ -37,10 +37,10 @@ class RealTest(unittest.TestCase):
 
     def test_faults(self):
         same, other = left(**{OUTPUT: b"1"}), left(**{OUTPUT: b"2"})
-        self.assertEqual(list(faults(same, same, same)), [])
-        self.assertEqual(list(faults(same, same, other)), [OUTPUT + " differs"])
-        self.assertEqual(list(faults(same, other, other)), [])
-        self.assertIn("names no runtime", list(faults(same, same, left(said="spanprof", **{OUTPUT: b"1"})))[0])
+        self.assertEqual(list(faults(same, [same], same)), [])
+        self.assertEqual(list(faults(same, [same], other)), [OUTPUT + " differs"])
+        self.assertEqual(list(faults(same, [same, other], other)), [])
+        self.assertIn("names no runtime", list(faults(same, [same], left(said="spanprof", **{OUTPUT: b"1"})))[0])
 
     def test_forbidden_sentences(self):
         loops = SUMMARY + "do  a lower cutoff\nsure 1 run\ntasks         0, 1,000 pieces of loops\n"

@@ -333,10 +333,18 @@ def missing_threads(facts):
             if region.threads < wanted}
 
 
+def preempt_each_other(facts):
+    """Whether more threads than processors do for half of the time in which they are preempted: as long as they use all
+    processors, so many of them wait."""
+    more, usage = facts.most_threads - (facts.processors or facts.most_threads), facts.usage or {}
+    used = (usage.get("user_ns") or 0) + (usage.get("system_ns") or 0)
+    return more > 0 and (not used or 2 * used * more >= facts.preempted * facts.processors)
+
+
 def kind_of_preempted(facts):
-    """More threads than processors preempt each other, and so do those that share one: then other programs used less
-    than what they waited for."""
-    if facts.processors and facts.most_threads > facts.processors:
+    """Threads that share a processor preempt each other too: then other programs used less than what they waited
+    for."""
+    if preempt_each_other(facts):
         return "too_many_threads"
     is_idle = facts.others is not None and facts.preempted - facts.others > BUSY * (facts.code + facts.preempted)
     return "affinity" if is_idle else "machine"

@@ -274,6 +274,12 @@ class Kinds(unittest.TestCase):
         self.assertEqual(diagnose(found).causes[0].kind, "too_many_threads")
         self.assertEqual(diagnose(found).causes[0].place, "image.c:30")
 
+    def test_many_threads_that_used_little_are_preempted_by_others(self):
+        for used, kind in ((20 * MS, "machine"), (400 * MS, "too_many_threads")):
+            found = facts([place(TASKS)], threads=16, preempted=900 * MS, others=900 * MS, usage={"user_ns": used},
+                          regions=[Region("image.c:20", 16, 90 * MS)])
+            self.assertEqual(self.first(found), kind)
+
     def test_nested_teams(self):
         found = facts([place(TASKS)], threads=16, delayed=900 * MS, delayed_by={TASKS: 900 * MS},
                       regions=[Region("image.c:20", 4, 90 * MS)], inner=[Region("image.c:30", 4, 80 * MS, times=90)])
