@@ -47,7 +47,8 @@ class Files(unittest.TestCase):
         head = found.source.partition("*/")[0]
         for words in ("At stake: a promise of the standard.",
                       "gcc 12.2, libgomp1 12.2.0: 20 of 20 runs of the file fail.",
-                      "gcc -O1 -fopenmp -pthread some.c && OMP_WAIT_POLICY=passive MALLOC_PERTURB_=170 ./a.out", "omptasks 1"):
+                      "gcc -O1 -fopenmp -pthread some.c && OMP_WAIT_POLICY=passive MALLOC_PERTURB_=170 ./a.out",
+                      "omptasks 1"):
             self.assertIn(words, head)
 
     def test_a_file_that_does_not_fail(self):
