@@ -22,7 +22,8 @@ def options_of(words=None):
     add("family", choices=FAMILIES, help="gomp: gcc's runtime; kmp: LLVM's")
     add("folder", type=pathlib.Path, help="where the libraries go")
     add("names", nargs="*", help="these mutants alone")
-    add("--patches", type=lambda word: pathlib.Path(word).resolve(), help="other mutants, as of operators.py")
+    add("--patches", type=lambda word: pathlib.Path(word).resolve(),
+        help="other mutants, such as those of operators.py")
     add("--archive", default="", help="the source archive (the newest in /usr/src)")
     add("--jobs", type=int, default=2, help="how many are built side by side (2)")
     add("--flags", default="", help="more flags for the compiler, such as --coverage")

@@ -16,8 +16,8 @@ class Setting:
         return f"{self.shows}: `{' '.join(filter(None, reported))}`" if any(reported) else self.shows
 
 
-# A library that reads memory before it writes it, or after it gave it back, finds no zeros there. The variable is
-# the C library of GNU.
+# A runtime that reads memory before it writes it, or after it gave it back, finds no zeros there. The variable is that
+# of the C library of GNU.
 OVERWRITTEN = {"MALLOC_PERTURB_": "170"}
 
 
