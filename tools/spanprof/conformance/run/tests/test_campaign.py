@@ -1,7 +1,7 @@
 """Cases of a campaign, their conditions, and their running side by side."""
-import time
 import unittest
 from dataclasses import replace
+from unittest import mock
 
 from spanprof.conformance.run.campaign import (Running, cases_of, directed_cases, random_cases, run_cases,
                                                self_checking_cases, spread, telling_first)
@@ -11,14 +11,12 @@ from spanprof.conformance.generate.program import C_KINDS
 from spanprof.conformance.tests.helpers import PLAN, StubBench, body_of, case_of, failure_of
 
 ALL = ["tied", "untied", "mixed"]
-LONG = 0.05     # seconds that a program hangs
 
 
 class HangingBench(StubBench):
     """Every program hangs with busy threads."""
 
     def tally(self, case, at):
-        time.sleep(LONG)
         failure = failure_of(case, at.threads, "hung", f"of {case.name}")
         return Tally(at, 1, 0, [replace(failure, verdict=Verdict("hung", "busy"))])
 
@@ -95,8 +93,10 @@ class SideBySide(unittest.TestCase):
         self.assertEqual(results.failed_programs(), ["b"])
 
     def test_one_hang_is_tried_again_though_the_time_is_over(self):
-        results = run_cases(HangingBench(), [case_of(name) for name in "ab"], PLAN, 2, seconds=LONG / 2)
-        self.assertEqual(len(results.failed_programs()), 1)
+        bench, cases = HangingBench(), [case_of(name) for name in "ab"]
+        with mock.patch.object(Running, "is_over", lambda _: len(bench.tried) >= len(cases)):
+            results = run_cases(bench, cases, replace(PLAN, threads=(2,)), 2)
+        self.assertEqual((len(results.failed_programs()), len(bench.tried)), (1, 3))
 
     def test_an_error_ends_it(self):
         def breaks(body):
