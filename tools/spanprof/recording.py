@@ -74,7 +74,7 @@ def how_again(folder):
 def check_facts(meta):
     """That tools can read on; any fact may be missing."""
     groups = [meta.get(name) or {} for name in ("threads", "usage", "host", "counters", "cost_on_one")]
-    groups.append({name: meta.get(name) for name in ("processors", "elapsed_ns")})
+    groups.append({name: meta.get(name) for name in ("processors", "elapsed_ns", "children_ns")})
     numbers = [number for group in groups for number in group.values() if number is not None]
     numbers += [run[name] for run in meta.get("runs") or [] for name in ("work_ns", "span_ns")]
     numbers += [*(meta.get("true_one") or []), *(meta.get("true_many") or [])]

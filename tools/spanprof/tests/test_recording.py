@@ -65,7 +65,8 @@ class Folders(InFolder):
             write(os.path.join(folder, "recording.json"), words)
             self.refused("recording.json is damaged: ")
         for fact in ('"threads": 5', '"usage": {"user_ns": "x"}', '"host": [1]', '"runs": 3', '"runs": [{}]',
-                     '"unit": 7', '"elapsed_ns": NaN', '"processors": 1e999', '"runtime": "gnu"', '"true_one": [null]'):
+                     '"unit": 7', '"children_ns": {}', '"elapsed_ns": NaN', '"processors": 1e999',
+                     '"runtime": "gnu"', '"true_one": [null]'):
             write(os.path.join(folder, "recording.json"), '{"schema": 1, "files": {}, %s}' % fact)
             self.refused("recording.json is damaged: ")
 
