@@ -1,36 +1,27 @@
-// What each of 1,400 customers bought of 1,400 goods, summed by goods: the inner loop goes down a column of the table. The
-// repair sums row by row.
+// A product of matrices: the inner loop goes down a column of the second one. The repair swaps the two inner loops.
 #include <cstdio>
 #include <vector>
 
-constexpr int customers = 1400, goods = 1400, weeks = 12;
+constexpr int size = 560;
 
 int main() {
-    std::vector<double> bought(customers * goods), sums(goods);
-#pragma omp parallel for
-    for (int i = 0; i < customers * goods; i++) bought[i] = i % 1009 * 0.25;
-    for (int week = 0; week < weeks; week++) {
-#ifdef FIXED
-#pragma omp parallel
-        {
-            std::vector<double> own(goods);
-#pragma omp for nowait
-            for (int one = 0; one < customers; one++)
-                for (int what = 0; what < goods; what++) own[what] += bought[one * goods + what];
-#pragma omp critical
-            for (int what = 0; what < goods; what++) sums[what] += own[what];
-        }
-#else
+    std::vector<double> one(size * size), other(size * size), product(size * size);
+    for (int i = 0; i < size * size; i++) one[i] = i % 17, other[i] = i % 13;
 #pragma omp parallel for // <- cause
-        for (int what = 0; what < goods; what++) { // <- cause
+    for (int row = 0; row < size; row++) // <- cause
+#ifdef FIXED
+        for (int k = 0; k < size; k++)
+            for (int column = 0; column < size; column++)
+                product[row * size + column] += one[row * size + k] * other[k * size + column];
+#else
+        for (int column = 0; column < size; column++) { // <- cause
             double sum = 0;
-            for (int one = 0; one < customers; one++) // <- cause
-                sum += bought[one * goods + what]; // <- cause
-            sums[what] += sum;
+            for (int k = 0; k < size; k++) // <- cause
+                sum += one[row * size + k] * other[k * size + column]; // <- cause
+            product[row * size + column] = sum;
         }
 #endif
-    }
     double sum = 0;
-    for (double one : sums) sum += one;
-    std::printf("%.2f\n", sum);
+    for (double number : product) sum += number;
+    std::printf("%.3f\n", sum);
 }
