@@ -73,10 +73,6 @@ void say_unseen(uint32_t what) {
   if (what & log_form::unseen_runtime) notice("a second libgomp in the process is not recorded");
 }
 
-log_form::HowEnded how_it_ends() {
-  return inside_a_region() ? log_form::HowEnded::InsideARegion : log_form::HowEnded::ByRuntime;
-}
-
 // Also runs where the program never met OpenMP (`life` is null).
 void end_of_process() {
   if (life && life->process == getpid()) end_recording();
@@ -163,11 +159,11 @@ void expect_end_by_this_thread() { on_exit(on_end_by_exit, nullptr); }
 // Several threads may come here, by `exit`, the runtime's end and the library's: the first one ends the log.
 void end_recording() {
   if (life->ended.exchange(true)) return;
-  end_log(how_it_ends());
+  end_log(inside_a_region() ? log_form::HowEnded::InsideARegion : log_form::HowEnded::ByRuntime);
   life->at_end = processor_time();
 }
 
-// No exit function and no destructor comes behind it. A child that shares its parent's memory ends nothing.
-void end_at_once() {
-  if (life && life->process == getpid() && !life->ended.exchange(true)) end_log_at_once(how_it_ends());
+// Of a child that shares its parent's memory nothing is noted.
+void note_usage_at_exit() {
+  if (life && life->process == getpid()) note_usage();
 }

@@ -10,4 +10,4 @@ void report_unseen(uint32_t more);  // found later: any thread
 void expect_end_by_this_thread();  // by `exit`, beside others perhaps
 // Any thread may call it, several times and at once: the first one writes the end. Only after `begin_recording`.
 void end_recording();  // the log has when, once
-void end_at_once();  // by `_exit`, in a handler perhaps
+void note_usage_at_exit();  // by `_exit`, in a handler perhaps: the log has no end then

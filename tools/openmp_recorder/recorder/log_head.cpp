@@ -237,10 +237,6 @@ void stop_log(Stopped why) {
 void end_log(log_form::HowEnded how) {
   Moment now = moment_now();
   if (thread_log && !is_stopped()) thread_log->look_at_clocks(now);  // no record may follow
-  end_log_at_once(how);
-}
-
-void end_log_at_once(log_form::HowEnded how) {
   stop_log(Stopped::End);
   if (!head) return;
   head->end = read_pair();

@@ -23,7 +23,6 @@ void lose_switches();  // what threads lose their processors to is estimated fro
 void set_time_of_beginning(uint64_t took);  // which is no code of the program
 // Other threads may be in a callback meanwhile: what they still write lies in blocks of their own.
 void end_log(log_form::HowEnded how);
-void end_log_at_once(log_form::HowEnded how);  // without a record: in a handler too
 void take_end_back();  // the program went on, and nothing more is told but its usage
 void note_usage();  // so far: also now and then before the end, which a kill may come before; in handlers
 // Any thread, several times and at once, but no handler: it may print.

@@ -1,4 +1,4 @@
-// Ends of the process that call none of this library's functions: the child of a fork ends so.
+// Ends of the process that call none of this library's functions: the child of a fork ends so, without a notice.
 #include <stdlib.h>
 #include <sys/syscall.h>
 #include <unistd.h>
@@ -7,7 +7,7 @@
 #include "systems.hpp"
 
 ENTRY void _exit(int status) {
-  end_at_once();
+  note_usage_at_exit();
   for (;;) syscall(SYS_exit_group, status);
 }
 
