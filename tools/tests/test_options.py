@@ -1,4 +1,4 @@
-"""Each option that a tool's --help lists has its place in the tool's page and in the completion of zsh."""
+"""Each option that a tool's --help lists has its place in the tool's page, and zsh completes those of --help."""
 import contextlib
 import io
 import os
@@ -26,15 +26,13 @@ def read(*path):
 
 class Options(unittest.TestCase):
     def test_each_has_its_places(self):
-        completion = "completion/_spanprof"
-        functions = dict(re.findall(r"(?ms)^_spanprof_(\w+)\(\) \{\n(.*?)^\}", read(completion)))
-        for tool in sorted(set(TOOLS) - OTHERS):
-            page = "man/spanprof-%s.1" % tool
-            for path, text in ((page, read(page).replace("\\-", "-")), (completion, functions[tool])):
-                options = set(options_of(tool))
-                self.assertIn("--version", options)
-                missing = options - set(OPTION.findall(text))
-                self.assertEqual(sorted(missing), [], "tools/%s lacks these options of spanprof-%s" % (path, tool))
+        by_help = re.findall(r"(?m)^_spanprof_(\w+)\(\) \{ _spanprof_by_help ", read("completion/_spanprof"))
+        self.assertEqual(sorted(by_help), sorted(set(TOOLS) - OTHERS))
+        for tool in by_help:
+            page, options = "man/spanprof-%s.1" % tool, set(options_of(tool))
+            self.assertIn("--version", options)
+            missing = options - set(OPTION.findall(read(page).replace("\\-", "-")))
+            self.assertEqual(sorted(missing), [], "tools/%s lacks these options of spanprof-%s" % (page, tool))
 
 
 if __name__ == "__main__":
