@@ -214,9 +214,9 @@ def difference(reported):
 LINES = {
     "recorded": read_recorded, "region": read_region, "whole program": read_whole, "covers": read_coverage,
     "divided": read_divided, "lock": read_lock, "place": read_place, "short chunks": read_chunks,
-    "few turns": lambda head, at: head.few_turns.update(
-        {words(at["at"]): [number(at["turns"]), number(at["threads"])]}),
-    "source": lambda head, at: head.sources.update({words(at["file"]): words(at["path"])})}
+    "few turns": lambda head, loop: head.few_turns.update({
+        words(loop["at"]): [number(loop["turns"]), number(loop["threads"])]}),
+    "source": lambda head, one: head.sources.update({words(one["file"]): words(one["path"])})}
 # Those that are one field, and how it is read.
 FIELDS = {
     "clock reading": ("clock_reading", number), "untimed": ("untimed", number), "elapsed": ("elapsed", number),

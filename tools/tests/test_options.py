@@ -1,4 +1,4 @@
-"""Each option that a tool's --help lists has its place in the tool's page; zsh completes what --help lists."""
+"""Each option that a tool's --help lists has its place in the tool's page, and zsh completes those of --help."""
 import contextlib
 import io
 import os
@@ -26,7 +26,9 @@ def read(*path):
 
 class Options(unittest.TestCase):
     def test_each_has_its_places(self):
-        for tool in sorted(set(TOOLS) - OTHERS):
+        by_help = re.findall(r"(?m)^_spanprof_(\w+)\(\) \{ _spanprof_by_help ", read("completion/_spanprof"))
+        self.assertEqual(sorted(by_help), sorted(set(TOOLS) - OTHERS))
+        for tool in by_help:
             page, options = "man/spanprof-%s.1" % tool, set(options_of(tool))
             self.assertIn("--version", options)
             missing = options - set(OPTION.findall(read(page).replace("\\-", "-")))
