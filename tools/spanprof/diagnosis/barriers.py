@@ -21,7 +21,7 @@ class Phase(NamedTuple):
 
 def waits_of(costs):
     """Of threads that had so much, until the last one has ended."""
-    return len(costs) * max(costs) - sum(costs)
+    return len(costs) * max(costs, default=0) - sum(costs)
 
 
 def part_of(program, first, end):
@@ -72,7 +72,9 @@ def chains_of(phases):
 
 def evened(chain):
     """What threads would wait less that went through these phases without barriers."""
-    whole = sum(map(Counter, (phase.costs for phase in chain)), Counter())
+    whole = Counter()
+    for phase in chain:     # a sum of counters leaves out threads without cost
+        whole.update(phase.costs)
     return sum(waits_of(phase.costs.values()) for phase in chain) - waits_of(whole.values())
 
 

@@ -1,7 +1,7 @@
 import unittest
 from types import SimpleNamespace
 
-from spanprof.diagnosis.barriers import needless_barriers
+from spanprof.diagnosis.barriers import Phase, evened, needless_barriers
 from spanprof.diagnosis.facts import Region
 from spanprof.diagnosis.losses import Loss, of_barriers
 from spanprof.diagnosis.names import Names
@@ -41,6 +41,10 @@ class Barriers(unittest.TestCase):
     def test_where_the_same_thread_has_more_the_schedule_is_the_cause(self):
         self.assertEqual(barriers([(90, 10), (90, 10)], [0, 1, 0, 1]), {})
         self.assertEqual(barriers([(90, 10), (60, 40), (40, 60)], [0, 1, 0, 1, 0, 1]), {})
+
+    def test_threads_without_cost_count(self):
+        for costs, less in (((0, 0), (0, 0)), 0), (((5, 0), (5, 0)), 0), (((5, 0), (0, 5)), 10):
+            self.assertEqual(evened([Phase("a", dict(enumerate(one))) for one in costs]), less)
 
     def test_what_one_thread_runs_is_waited_for(self):
         self.assertEqual(barriers([(90, 10), (0, 99), (10, 90)], [0, 1, 0, 1, 0, 1]), {})
