@@ -158,6 +158,18 @@ std::optional<MemoryUse> memory_use(const std::string &instruction) {
   return use;
 }
 
+unsigned bytes_at(const std::string &instruction) {
+  std::string name = name_of(instruction);
+  if (name[0] == 'v') name.erase(0, 1);
+  bool is_scalar = name.size() > 1 && name[name.size() - 2] == 's' && (name.back() == 's' || name.back() == 'd');
+  if (is_scalar || begins_with(name, {"movh", "movl", "movsd", "movss", "pinsr", "pextr"}) || name == "movq" ||
+      name == "movd")
+    return 8;
+  for (auto [vector, bytes] : {std::pair{"%zmm", 64}, {"%ymm", 32}, {"%xmm", 16}})
+    if (instruction.find(vector) != std::string::npos) return static_cast<unsigned>(bytes);
+  return 8;
+}
+
 // A line is `  4014a5:<tab>add    $0x1,%rax`.
 Instructions disassembled(const ModuleOfRun &module, uint64_t first, uint64_t end) {
   char range[96];

@@ -21,6 +21,7 @@ struct MemoryUse {
 // `lock addq $0x1,0x10(,%rcx,8)`: the memory that it uses, and whether its registers are still the same behind it;
 // nothing where it uses none, or one that only the processor knows.
 std::optional<MemoryUse> memory_use(const std::string &instruction);
+unsigned bytes_at(const std::string &instruction);  // how many it uses there: 16, 32 or 64 of a vector, else 8
 int written_register(const std::string &instruction);  // -1 where it writes none, or none that is known
 bool goes_elsewhere(const std::string &instruction);  // as jumps and calls do
 

@@ -192,7 +192,7 @@ std::vector<Contended> contending(const Stacks &stacks, const ModulesOfRun &modu
     Instructions code = disassembled(module, function.second, found.end);
     found.instructions = between(code, found, stacks, module);
     std::map<uint64_t, const void *> waited = waiting(code, found, stacks, module);
-    Strides strides(code);
+    Strides strides(code, caches_of_machine());
     for (size_t i : found.samples) {
       const Interrupted &one = stacks.interrupted[i];
       if (const void *place = waited[in_file(one, module)]) {
@@ -203,7 +203,7 @@ std::vector<Contended> contending(const Stacks &stacks, const ModulesOfRun &modu
         auto *place = reinterpret_cast<const void *>(module.base + use.code + 1);
         uint64_t address = address_of(use, one.registers, module);
         all.push_back({i, address, one.thread, one.wall, use.writes, place, use.is_atomic});
-        strides.meet(i, use, one.registers);
+        strides.meet(i, one.thread, use, address, one.registers);
       }
     }
     wide.merge(strides.wide());

@@ -1,11 +1,13 @@
 #include "strides.hpp"
 
+#include <unistd.h>
+
 #include <algorithm>
 #include <cstdlib>
 
 namespace {
-constexpr int64_t line_bytes = 64;
-constexpr uint64_t lines_near = 512;  // of a processor's first cache, of 32 KB or little more
+constexpr int64_t line_bits = 6, line_bytes = 1 << line_bits;
+constexpr long usual_first = 32768, usual_second = 262144;  // bytes of caches
 constexpr unsigned most_between = 4;  // instructions between a loop's comparison and its jump
 
 using Steps = std::vector<std::pair<int, int64_t>>;
@@ -40,13 +42,26 @@ bool add_steps(const Loop &loop, int of, int64_t times, int64_t &bytes, Steps &b
   return true;
 }
 
-unsigned uses_in(const Loop &loop, const MemoryUse &use) {
+// The bytes that a turn uses by the same registers, each once, at their displacements.
+std::map<int64_t, unsigned> uses_in(const Loop &loop, const MemoryUse &use, unsigned &count) {
   bool by_base = use.base >= 0 && is_written(loop, use.base), by_index = use.index >= 0 && is_written(loop, use.index);
-  auto is_same = [&](auto &one) {
-    std::optional<MemoryUse> other = memory_use(one.second);
-    return other && (!by_base || other->base == use.base) && (!by_index || other->index == use.index);
-  };
-  return static_cast<unsigned>(std::count_if(loop.first, loop.last, is_same));
+  std::map<int64_t, unsigned> out;
+  for (auto one = loop.first; one != loop.last; ++one) {
+    std::optional<MemoryUse> other = memory_use(one->second);
+    if (!other || (by_base && other->base != use.base) || (by_index && other->index != use.index)) continue;
+    unsigned &bytes = out[static_cast<int64_t>(other->displacement)];
+    bytes = std::max(bytes, bytes_at(one->second));
+    count++;
+  }
+  return out;
+}
+
+// Whether lines are used by less than half of their bytes.
+bool is_sparse(const std::map<int64_t, unsigned> &uses) {
+  std::set<int64_t> lines;
+  int64_t used = 0;
+  for (auto [displacement, bytes] : uses) lines.insert(displacement >> line_bits), used += bytes;
+  return 2 * used < static_cast<int64_t>(lines.size()) << line_bits;
 }
 
 void set_end(const Loop &loop, Walk &walk) {
@@ -72,7 +87,8 @@ std::optional<Walk> walk_of(const Instructions &code, const MemoryUse &use) {
   if (!loop || !add_steps(*loop, use.base, 1, walk.bytes, walk.by) ||
       !add_steps(*loop, use.index, use.scale, walk.bytes, walk.by))
     return std::nullopt;
-  walk.uses = std::max(1u, uses_in(*loop, use));
+  walk.is_sparse = is_sparse(uses_in(*loop, use, walk.uses));
+  walk.uses = std::max(1u, walk.uses);
   set_end(*loop, walk);
   return walk;
 }
@@ -89,18 +105,34 @@ uint64_t turns_left(const Walk &walk, const Registers &registers) {
   return static_cast<uint64_t>(std::max<int64_t>(0, value_of(walk.end.number, left, registers) / step));
 }
 
-void Strides::meet(size_t sample, const MemoryUse &use, const Registers &registers) {
+Caches caches_of_machine() {
+  auto bytes = [](int name, long usual) {
+    long found = sysconf(name);
+    return static_cast<uint64_t>(found > 0 ? found : usual);
+  };
+  return {bytes(_SC_LEVEL1_DCACHE_SIZE, usual_first), bytes(_SC_LEVEL2_CACHE_SIZE, usual_second)};
+}
+
+void Strides::meet(size_t sample, unsigned thread, const MemoryUse &use, uint64_t address, const Registers &registers) {
   auto [walk, is_new] = walks.try_emplace(use.code);
   if (is_new) walk->second = walk_of(code, use);
-  if (!walk->second) return;
-  uint64_t &most = longest[use.code];
-  most = std::max(most, turns_left(*walk->second, registers) * walk->second->uses);
-  if (std::llabs(stride_of(*walk->second, registers)) >= line_bytes) far.emplace_back(sample, use.code);
+  if (!walk->second || !walk->second->is_sparse || std::llabs(stride_of(*walk->second, registers)) < line_bytes) return;
+  Far &found = far[use.code];
+  found.samples.push_back(sample);
+  found.lines = std::max(found.lines, turns_left(*walk->second, registers) * walk->second->uses);
+  auto [range, is_first] = found.ranges.try_emplace(thread, address, address);
+  range->second = {std::min(range->second.first, address), std::max(range->second.second, address)};
+}
+
+bool Strides::is_wide(const Far &found) const {
+  return found.lines << line_bits >= caches.first &&
+         std::any_of(found.ranges.begin(), found.ranges.end(),
+                     [&](auto &one) { return one.second.second - one.second.first >= caches.second; });
 }
 
 std::set<size_t> Strides::wide() const {
   std::set<size_t> out;
-  for (auto [sample, use] : far)
-    if (longest.at(use) >= lines_near) out.insert(sample);
+  for (auto &[use, found] : far)
+    if (is_wide(found)) out.insert(found.samples.begin(), found.samples.end());
   return out;
 }

@@ -152,8 +152,17 @@ TEST(a_loop_that_changes_anything_waits_for_nobody) {
   EXPECT(waits({"mov    (%rdi),%eax", "test   %eax,%eax", "jne    30 <f>"}), false);
 }
 
+// A loop of samples in the midst of it and near its end, in caches of 512 and 4,096 lines.
+bool is_wide(const Instructions &code, const Registers &registers, uint64_t apart = 262144) {
+  Strides strides(code, {32768, 262144});
+  for (uint64_t address : {uint64_t{0}, apart})
+    for (MemoryUse &use : used_near(code, 14)) strides.meet(7, 1, use, address, registers);
+  return strides.wide().count(7) == 1;
+}
+
 TEST(a_loop_that_goes_down_a_column_uses_a_line_for_each_element) {
-  auto is_wide = [](uint64_t stride, uint64_t turns, const char *step = "add    %rdx,%rax") {
+  auto is_wide_by = [](uint64_t stride, uint64_t turns, const char *step = "add    %rdx,%rax",
+                       uint64_t apart = 262144) {
     Instructions code{{10, "movss  (%rax),%xmm0"},
                       {14, step},
                       {17, "addss  %xmm0,%xmm1"},
@@ -161,15 +170,14 @@ TEST(a_loop_that_goes_down_a_column_uses_a_line_for_each_element) {
                       {24, "jne    a"}};
     Registers registers{};
     registers[0] = 0x10000, registers[1] = stride, registers[2] = 0x10000 + turns * stride;
-    Strides strides(code);
-    for (MemoryUse &use : used_near(code, 14)) strides.meet(7, use, registers);
-    return strides.wide().count(7) == 1;
+    return is_wide(code, registers, apart);
   };
-  EXPECT(is_wide(4096, 1000), true);
-  EXPECT(is_wide(8, 100000), false);
-  EXPECT(is_wide(4096, 32), false);  // a block, whose lines are still there in the next column
-  EXPECT(is_wide(4096, 1000, "mov    (%rbx),%rax"), false);
-  EXPECT(is_wide(64, 2000, "lea    (%rax,%rdx,2),%rax"), true);
+  EXPECT(is_wide_by(4096, 512), true);
+  EXPECT(is_wide_by(8, 100000), false);
+  EXPECT(is_wide_by(4096, 500), false);  // whose lines are still there in the next column
+  EXPECT(is_wide_by(4096, 512, "add    %rdx,%rax", 65536), false);  // all of it stays in the second cache
+  EXPECT(is_wide_by(4096, 2000, "mov    (%rbx),%rax"), false);
+  EXPECT(is_wide_by(64, 2000, "lea    (%rax,%rdx,2),%rax"), true);
 }
 
 TEST(adjacent_elements_of_a_loop_that_is_unrolled_share_lines) {
@@ -184,6 +192,38 @@ TEST(adjacent_elements_of_a_loop_that_is_unrolled_share_lines) {
   EXPECT(walk.has_value(), true);
   EXPECT(stride_of(*walk, registers), 16);
   EXPECT(turns_left(*walk, registers), 5000u);
+}
+
+TEST(long_walks_with_small_strides_do_not_count_for_short_ones_with_wide_strides) {
+  Instructions code{{10, "movb   $0x1,(%rax)"}, {14, "add    %rdx,%rax"}, {21, "cmp    %rcx,%rax"}, {24, "jne    a"}};
+  Strides strides(code, {32768, 262144});
+  for (auto [stride, address] : {std::pair<uint64_t, uint64_t>{3, 0}, {1021, 0}, {3, 1000000}, {1021, 1000000}}) {
+    Registers registers{};
+    registers[1] = stride, registers[2] = 65536;
+    for (MemoryUse &use : used_near(code, 14)) strides.meet(0, 1, use, address, registers);
+  }
+  EXPECT(strides.wide().size(), 0u);
+}
+
+TEST(a_loop_down_the_rows_of_a_block_uses_lines_as_a_whole) {
+  auto is_sparse = [](const char *first, const char *second) {
+    Instructions code{{10, first}, {14, second}, {18, "add    $0x900,%rax"}, {22, "dec    %rcx"}, {24, "jne    a"}};
+    MemoryUse use = *memory_use(first);
+    use.code = 10;
+    return walk_of(code, use)->is_sparse;
+  };
+  EXPECT(is_sparse("movups (%rax),%xmm0", "mulps  0x10(%rax),%xmm1"), false);
+  EXPECT(is_sparse("vmovups -0x20(%rax),%ymm0", "vmulps (%rax),%ymm1,%ymm1"), false);
+  EXPECT(is_sparse("movss  (%rax),%xmm0", "mulss  0x4(%rax),%xmm1"), true);
+  EXPECT(is_sparse("movups (%rax),%xmm0", "movups 0x900(%rax),%xmm1"), true);
+}
+
+TEST(instructions_use_as_many_bytes_as_their_registers_have) {
+  EXPECT(bytes_at("vmovupd 0x20(%rax),%zmm3"), 64u);
+  EXPECT(bytes_at("paddd  (%rax),%xmm0"), 16u);
+  EXPECT(bytes_at("vfmadd231sd (%rax),%xmm0,%xmm1"), 8u);
+  EXPECT(bytes_at("movq   (%rax),%xmm0"), 8u);
+  EXPECT(bytes_at("add    (%rax),%rdx"), 8u);
 }
 
 TEST(a_line_is_contended_where_threads_use_it_at_once_and_one_writes) {
