@@ -155,7 +155,8 @@ void Reporter::write(Region &region, const std::string &name) {
   if (options.lines) places.look_up(codes_of(region));
   int64_t work = work_in_units(region, options.unit);
   std::string words = head(region, work);
-  Style style{options.unit, size.tasks > most_tasks, region.has_events};
+  bool has_off = recording.whole && static_cast<WholeProgram &>(region).has_off;
+  Style style{options.unit, size.tasks > most_tasks, region.has_events || has_off};
   Events events(name);
   auto take_part = [&](const Region &part, uint32_t first, uint32_t end) {
     if (region.has_events) events.take(region, part, first, end);
@@ -284,7 +285,7 @@ void report_whole(const Job &job, Run &run, Recording recording, int64_t end) {
   reporter.write_regions(run, time, job.out);
   reporter.write(*run.whole, job.out);
   reporter.write_locks(job.threads, job.out);
-  if (run.whole->has_events) reporter.write_off(*run.whole, *job.stacks, job.out);
+  if (run.whole->has_off) reporter.write_off(*run.whole, *job.stacks, job.out);
 }
 }  // namespace
 

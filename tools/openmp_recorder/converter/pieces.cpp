@@ -169,8 +169,8 @@ void leave_out_joined(Task &part, JoinedTimes &times) {
 }
 
 // The chunks' tasks become pieces.
-JoinedTimes write(const Rows &rows, int64_t least, bool timed) {
-  JoinedTimes times(timed);
+JoinedTimes write(const Rows &rows, int64_t least, bool timed, const OffTimes &off) {
+  JoinedTimes times(timed, off);
   std::set<Task *> parts;
   rows.each([&](const Row &row) {
     Task &part = *row[0]->task->parent;
@@ -253,7 +253,7 @@ void choose_pieces(WholeProgram &whole, int64_t unit) {
   if (!least) least = INT64_MAX;
   bool moves_span = chooser.longer(least) > span / share_that_moves_little;
   chooser.remark(least, moves_span);
-  JoinedTimes joined = write(Rows(whole.chunk_list, released_chunks(whole)), least, whole.has_events);
+  JoinedTimes joined = write(Rows(whole.chunk_list, released_chunks(whole)), least, whole.has_events, whole.off);
   joined.apply(whole.events);
   joined.apply(whole.off);
   add_up(whole);
@@ -270,7 +270,7 @@ void put_pieces(WholeProgram &whole, size_t stretch, const std::vector<Task *> &
     chunk.is_task = chunk.task->parent;  // else, in a damaged log, its part stands nowhere
   }
   if (own.empty()) return;
-  JoinedTimes joined = write(Rows(own, 0), whole.least_piece, !events.empty());
+  JoinedTimes joined = write(Rows(own, 0), whole.least_piece, !events.empty(), whole.off);
   joined.apply(events);
   joined.apply(whole.off);
 }

@@ -166,6 +166,7 @@ struct WholeProgram : Region {
   int64_t least_piece = 0;  // of loops, in nanoseconds
   int64_t recorder = 0;  // its own time outside of regions, on the first thread
   OffTimes off;  // of its segments
+  bool has_off = false;  // else the text has others than ran
   int64_t serial = 0, in_loops = 0;  // of the cost: outside of regions; in chunks of loops
   std::map<const void *, ShortChunks> short_chunks;  // by the loop's code: those that began soon after others
   std::map<const void *, MostTurns> most_turns;  // by the loop's code: of one time, and the threads that divide them

@@ -113,11 +113,12 @@ void Stretches::take_sums(const Region &stretch, int64_t unit) {
   constructs.add(stretch);
 }
 
-void each_stretch(Region &region, bool timed, const std::function<void(Region &)> &take) {
+void each_stretch(Region &region, bool numbered, const std::function<void(Region &)> &take) {
   if (!region.before) return;
   auto &whole = static_cast<WholeProgram &>(region);
+  bool timed = numbered && region.has_events;
   whole.before->each(timed, [&](Region &stretch, std::size_t number, const std::vector<Task *> &tasks) {
-    if (timed) whole.off.take_back(number, tasks);
+    if (numbered) whole.off.take_back(number, tasks);
     put_pieces(whole, number, tasks, stretch.events);
     take(stretch);
   });

@@ -50,6 +50,6 @@ class Stretches {
   void get_events(EventList &events, std::size_t count, const std::vector<Task *> &all);
 };
 
-// What was let go of a region, in the order of the text, with its pieces of loops; it is not added up. `timed`: with
-// the times of its tasks.
-void each_stretch(Region &region, bool timed, const std::function<void(Region &)> &take);
+// What was let go of a region, in the order of the text, with its pieces of loops; it is not added up.
+// `numbered`: with the times of its tasks, and what they ran.
+void each_stretch(Region &region, bool numbered, const std::function<void(Region &)> &take);

@@ -16,7 +16,7 @@ constexpr uint64_t most_room = 1 << 16;
 Reader::Reader(const HowToRead &chosen) : how(chosen) {
   if (!how.whole) return;
   run.whole = std::make_unique<WholeProgram>();
-  run.whole->has_events = how.times;
+  run.whole->has_events = run.whole->has_off = how.times;
   run.whole->root = fresh(run.whole.get(), false);
   run.whole->root->part = true;
   run.whole->tasks.begin_block();
@@ -79,7 +79,7 @@ void Reader::meet_region(Region &region) {
 
 // Of what the whole program's text has otherwise than it ran.
 void Reader::give_up_times() {
-  run.whole->has_events = false;
+  run.whole->has_events = run.whole->has_off = false;
   run.whole->events = EventList();
   run.whole->off = {};
 }

@@ -91,6 +91,25 @@ TEST(samples_belong_to_the_segment_that_runs) {
   EXPECT(off_lines(*made.found.whole, made.found.whole->off), "");
 }
 
+TEST(samples_are_known_of_more_chunks_than_have_times) {
+  Program made;
+  made.add(0, RecordKind::Divided, 4, 1, 0, 50).add(0, RecordKind::Chunk, 1).after(300).add(0, RecordKind::Chunk, 1);
+  made.sample(0, 0, 4000).after(400).add(0, RecordKind::Chunk, 1).after(2000).sample(0, 0, 8000);
+  made.add(0, RecordKind::DividedEnd, 0, 1).sample(0, 0, 2000).after(9);
+  end_region(made);
+  Stacks stacks;
+  stacks.number({code(100)});
+  Places places;
+  places.put_frames(code(100), {{"main", "a.c:1"}});
+  for (uint64_t most : {UINT64_MAX, uint64_t{2}}) {
+    made.whole({}, most);
+    EXPECT(made.found.whole->has_events, most > 2);
+    text_of(*made.found.whole);
+    EXPECT(sampled_lines(*made.found.whole, made.found.whole->off, stacks, places),
+           "2 ran 4000 main\n2 at 4000 a.c:1\n4 ran 8000 main\n4 at 8000 a.c:1\n6 ran 2000 main\n6 at 2000 a.c:1\n");
+  }
+}
+
 TEST(an_instruction_uses_memory_by_its_registers) {
   ModuleOfRun module{0x5000, 0, 0, false, "", nullptr, {}};
   Registers registers{};

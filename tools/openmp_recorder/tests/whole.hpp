@@ -17,9 +17,9 @@ constexpr int64_t us = 1000;
 class Program : public Made {
  public:
   using Made::Made;
-  Run &whole(Ending ending = {}) {
+  Run &whole(Ending ending = {}, uint64_t most_timed = UINT64_MAX) {
     int64_t end = ending.killed ? 0 : now();
-    found = read(ending, {UINT64_MAX, true, began, ending.wall ? 0 : now(), nullptr, true, began, end});
+    found = read(ending, {most_timed, true, began, ending.wall ? 0 : now(), nullptr, true, began, end});
     finish_whole(found, {0, true, began, now()}, 1);
     size_of(*found.whole);
     return found;

@@ -7,9 +7,8 @@ manual, and programs of its name in checks/programs/causes.
 from typing import NamedTuple
 
 AT_BEST = "at best"
-OR_LESS = "or less"     # other code may be cheaper too
-# No bound on either side. Without contention the same lines still take some time, and other code may take less or more
-# where memory is not new. Some barriers may stay, and the same code on one thread may be much cheaper.
+# No bound on either side. Some locks, calls, tasks or barriers may stay, and without contention the same lines still
+# take some time. Other code may be cheaper too, and on one thread much cheaper.
 ABOUT = "about"
 
 
@@ -38,20 +37,20 @@ TABLE = (
     Cause("wait", "waits", 0.05, "threads wait at {where}, where other tasks could run"),
     Cause("small_tasks", "small tasks", 0.1,
           "{all_tasks} tasks of {average_task} each: creating and starting them costs too much",
-          "larger tasks at {at}: a cutoff or grainsize", OR_LESS),
+          "larger tasks at {at}: a cutoff or grainsize", ABOUT),
     Cause("creation", "creating tasks", 0.1,
           "one thread creates all {all_tasks} tasks, {average_task} each: the others wait for it",
-          "{less_creating}", OR_LESS),
+          "{less_creating}", ABOUT),
     Cause("small_regions", "small regions", 0.1, "{short_regions} costs too much", "{longer_regions}", ABOUT),
     Cause("small_chunks", "small chunks", 0.1,
           "over {chunks} chunks of {at}, one per {a_chunk}: scheduling them costs too much",
-          "schedule(static) at {at}, or schedule(dynamic, {of_turns})", OR_LESS),
+          "schedule(static) at {at}, or schedule(dynamic, {of_turns})", ABOUT),
     Cause("undeferred", "undeferred tasks", 0.05,
           "{tasks} of {where} run immediately, in the thread that creates them"),
     Cause("loop_schedule", "loop schedule", 0.05, "threads wait at the end of {at}: {uneven}", "{shared}"),
     Cause("barrier", "barriers", 0.05, "threads wait for each other at {at}, though each has as much to do in all",
           "{nowait}, if each thread uses its own results"),
-    Cause("lock", "lock", 0.1, "threads wait for {lock}, {times}", "{less_locking}", OR_LESS),
+    Cause("lock", "lock", 0.1, "threads wait for {lock}, {times}", "{less_locking}", ABOUT),
     Cause("exclusion", "exclusion", 0.1, "tasks of {where} exclude each other: mutexinoutset",
           "exclude only the update at {at}, or use smaller items"),
     Cause("spin", "spinning", 0.1, "threads spin at {spins} until another thread writes there",
@@ -63,9 +62,9 @@ TABLE = (
           "allocating memory takes {allocating} % of parallel code, mostly in {where}",
           "allocate once, outside the loop, or per thread", ABOUT),
     Cause("system", "operating system", 0.1,
-          "{system} % of the processor time is spent in the kernel: {kernel} in {where}", "{less_kernel}", OR_LESS),
+          "{system} % of the processor time is spent in the kernel: {kernel} in {where}", "{less_kernel}", ABOUT),
     Cause("sleep", "asleep", 0.1, "{sleeper} waits {in_what}",
-          "wait less at {sleeps_at}: start it earlier, or {sooner}", OR_LESS),
+          "wait less at {sleeps_at}: start it earlier{sooner}"),
     Cause("too_few_threads", "too few threads", 0.1, "{got} in the region at {where}{others}",
           "{more_threads}"),
     Cause("too_many_threads", "too many threads", 0.1, "{threads} threads on {processors}, {in_region}", "{fewer}"),

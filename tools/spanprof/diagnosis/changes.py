@@ -145,9 +145,13 @@ class Bench:
         self.longest = max(self.longest, time.monotonic() - begun)
         return end
 
+    def end_on(self, threads):
+        """The same without changes, on so many threads."""
+        return self.end_of(self.path, threads) * self.unit
+
     def greedy_end(self, requests):
         if not requests:
-            return self.end_of(self.path, self.facts.usable) * self.unit
+            return self.end_on(self.facts.usable)
         made = changes(requests, self.seen, self.costs)
         lines = applied(self.kept, made).text()
         if not all(one.count for one in made):

@@ -2,10 +2,11 @@
 from dataclasses import dataclass, field
 from typing import List
 
+from spanprof.diagnosis.bounds import bounds
 from spanprof.diagnosis.causes import BUSY, BY_KIND, EFFICIENT, SECOND
 from spanprof.diagnosis.losses import NO_CAUSE, OF_SHAPE, Loss, code_on_one, least_of, losses, merged
 from spanprof.diagnosis.own_code import interpreted_time, is_interpreter
-from spanprof.diagnosis.plan import best_of, bounds, step_of, steps_after
+from spanprof.diagnosis.plan import best_of, step_of, steps_after
 
 POOL = 0.25     # of what the shape lost, that a change wins back of whose kind it is then
 
@@ -103,7 +104,7 @@ def diagnose(facts, bench=None):
     code, facts.taken = code_on_one(facts, found), taken_by_others(facts, found)
     if facts.target == 1:
         return Diagnosis(facts, found, code_on_one=code)
-    steps = bounds(facts, facts.now, found)
+    steps = bounds(facts, facts.now, found, bench)
     if bench:
         before = bench.end([])
         steps += [step_of(facts, bench.seen, facts.now, before, one) for one in bench.tries(bench.candidates())]

@@ -231,6 +231,8 @@ def set_by_greedy(facts, head, end):
         heaviest = max(facts.places, key=lambda name: facts.places[name].cost)
         facts.starved_by, facts.starved_off = {"": facts.starved, heaviest: waited}, {heaviest: waited}
         facts.starved += waited
+    facts.asleep = min(facts.code, sum(facts.asleep_by.values()))
+    facts.code -= facts.asleep
 
 
 def off_by_segment(path, head):

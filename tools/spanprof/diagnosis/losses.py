@@ -2,18 +2,16 @@
 
 Threads x elapsed time = code as on one thread + the losses.
 """
-from collections import Counter
 from typing import NamedTuple
 
 from spanprof.diagnosis.allocation import allocating, most_allocating
 from spanprof.diagnosis.calls import A_SAMPLE, AT_START, RUNTIME, in_system, shares
 from spanprof.diagnosis.causes import BUSY, BY_KIND, SECOND
+from spanprof.diagnosis.kernel import A_FAULT, begun, faults_again, system_time
 from spanprof.diagnosis.own_code import of_interpreter, serial_places
 from spanprof.diagnosis.places import A_START, AROUND_REGIONS, OF_THREADS, OWN, SERIAL, SHARE
-from spanprof.marks import CREATING
 from spanprof.program_text import BEGINNING, TURNS, where
 
-MAPPING = ("mmap", "munmap", "mremap", "madvise", "brk", "sbrk")
 SMALL = 5000            # nanoseconds of code in a task, below which creating and starting it costs much beside it
 A_TASK = 10000          # nanoseconds that each thread loses at most by making, waking for and starting one task
 A_TAKING = 1000         # nanoseconds that taking a chunk of a loop may cost
@@ -24,8 +22,6 @@ MANY = 8                # tasks for each thread, from which on to make them may 
 UNSURE = 0.1
 MUCH = 0.1              # of the run's time, from which on handling tasks may be what is lost
 UNEVEN = 1.5            # of the average piece: from which on the largest one is uneven
-A_FAULT, A_PAGE = 4000, 4096    # nanoseconds, with the page that it clears, of so many bytes
-MUCH_SYSTEM = 0.25      # of the processor time, from which on time in the kernel is a loss
 STARTED = 5000000       # nanoseconds that a program and its runtime take to start
 SIBLINGS = 2            # times as much that code costs at most where two threads share a core
 BEYOND_CACHES = 1 << 27     # bytes
@@ -359,66 +355,6 @@ def off_losses(facts):
          loss._replace(kind=kind_of_sleep(facts, loss.place))
          for loss in by_place("sleep", facts.asleep, facts.asleep_by or at_heaviest(facts))] + \
         by_place(kind_of_preempted(facts), facts.preempted, facts.preempted_by)
-
-
-def system_time(facts):
-    """Of code in the kernel, other than that before all constructs, or than the first use of memory. Idle threads are
-    in the kernel too, where they yield the processor: code is there for its page faults, and for what it lasted longer
-    than all time outside."""
-    usage = facts.usage or {}
-    system, user = usage.get("system_ns") or 0, usage.get("user_ns") or 0
-    if not system or system < MUCH_SYSTEM * (system + user):
-        return min(system, A_FAULT * faults_again(usage))
-    for_faults = min(fault_time(facts), facts.code * system // (system + user))
-    first = for_faults * first_use_share(usage)
-    return max(0, min(system, max(for_faults, facts.code - user)) - max(begun(facts), int(first)))
-
-
-def fault_time(facts):
-    return A_FAULT * ((facts.usage or {}).get("minor_faults") or 0)
-
-
-def faults_again(usage):
-    """Page faults beyond one for each page that the program had at once: of memory that it gave back and took again."""
-    return max(0, (usage.get("minor_faults") or 0) - usage["peak_bytes"] // A_PAGE) if usage.get("peak_bytes") else 0
-
-
-def first_use_share(usage):
-    """Of the page faults: no memory is without them that is used at all."""
-    return 1 - faults_again(usage) / usage["minor_faults"] if usage.get("peak_bytes") and usage.get("minor_faults") \
-        else 0.0
-
-
-def has_many_faults(facts):
-    """Whether page faults are most of what is lost to the system."""
-    return 2 * fault_time(facts) >= system_time(facts)
-
-
-def maps_memory(facts):
-    """Whether the functions of the system in which most samples were map memory, or give it back."""
-    found = Counter()
-    for ran in facts.calls.ran.values():
-        for calls, time in ran.items():
-            found[in_system(calls) in MAPPING] += time * bool(in_system(calls))
-    return found[True] > found[False]
-
-
-def copying_at(facts):
-    """The line of tasks at whose creation as much as most of the system's time is spent, and not in the runtime: it
-    copies what they have of their own. Empty where there is none."""
-    found = Counter()
-    for name, lines in facts.calls.at.items():
-        place = facts.places.get(name)
-        if place and name.startswith("after " + CREATING):
-            in_runtime = sum(time for calls, time in facts.calls.ran.get(name, {}).items() if calls[-1] == RUNTIME)
-            found[place.at] += max(0, lines.get(place.at, 0) - in_runtime)
-    line = max(found, key=found.get, default="")
-    return line if 2 * 1000 * found[line] > system_time(facts) else ""
-
-
-def begun(facts):
-    """What the code before all constructs took."""
-    return facts.places[BEGINNING].cost if BEGINNING in facts.places else 0
 
 
 def loading(facts):

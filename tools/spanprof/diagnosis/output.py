@@ -2,12 +2,12 @@
 import os
 from dataclasses import dataclass
 
+from spanprof.diagnosis.bounds import bounds
 from spanprof.diagnosis.changes import Bench
 from spanprof.diagnosis.diagnose import Diagnosis, diagnose, taken_by_others
 from spanprof.diagnosis.facts import facts_of, greedy_end
 from spanprof.diagnosis.losses import losses
 from spanprof.diagnosis.names import Names
-from spanprof.diagnosis.plan import bounds
 from spanprof.diagnosis.schema import as_json
 from spanprof.diagnosis.sentences import short_lines, sum_lines
 from spanprof.errors import Fault

@@ -1,20 +1,16 @@
 """The change that brings most, and the best one on top of it, each with the run's time before and after."""
-from dataclasses import dataclass, replace
-from typing import Optional
+from dataclasses import replace
 
-from spanprof.diagnosis.allocation import parallel_places
-from spanprof.diagnosis.causes import AT_BEST, BY_KIND, ESTIMATED, WORTH_A_CHANGE
-from spanprof.diagnosis.changes import Change
-from spanprof.diagnosis.losses import (OF_SHAPE, in_code_losses, is_in_a_row, kind_of_task, least_of,
-                                       most_shared, share_of_start, slowed_lines)
+from spanprof.diagnosis.bounds import bounds
+from spanprof.diagnosis.causes import WORTH_A_CHANGE
+from spanprof.diagnosis.losses import is_in_a_row, kind_of_task, most_shared, share_of_start
 from spanprof.diagnosis.own_code import own_share
 from spanprof.diagnosis.places import SERIAL, TASK
-from spanprof.program_text import BEGINNING, where
+from spanprof.diagnosis.step import Step, least_time, predicted
+from spanprof.program_text import BEGINNING
 
-FOR_CODE = (*OF_SHAPE, "undeferred", "loop_schedule")   # in which threads wait while others run it
 STEPS = 3
 SPREAD = 0.16       # of a predicted time: nine of ten were within
-BOUND_LEAST = 0.3   # of the gain of a bound: less is rare
 # How often such a change is one that a program allows: what it brings is weighed with it.
 LIKELY = {"in-for-inout": 1.0, "read-only": 0.9, "defer": 1.0, "split": 0.8, "task": 0.6, "drop-depend": 0.3,
           "drop-wait": 0.3}
@@ -27,33 +23,6 @@ ALIKE = 0.7         # of the gain of a change, that another one in its place bri
 LATER = 0.08        # of the time before it, that a change on top of another brings at least
 SHARED = 0.6        # tasks that hold the same to write, and items of their own, seldom have to be divided
 FEW_HOLD = 0.4      # items that fewer than half of a place's tasks hold are seldom read alone
-
-
-@dataclass(frozen=True)
-class Step:
-    """Times are of the run, in nanoseconds. Without a change it is a bound: what is lost by its cause is gone."""
-    kind: str
-    place: str
-    before: int
-    after: int
-    low: int
-    high: int
-    likely: float = 1.0
-    change: Optional[Change] = None
-    is_instead: bool = False    # of the step before it
-
-    @property
-    def gain(self):
-        return self.before - self.after
-
-    @property
-    def worth(self):
-        return self.gain * self.likely
-
-    @property
-    def at_best(self):
-        """Whether no change of this kind brings more."""
-        return self.change is None and BY_KIND[self.kind].without == AT_BEST
 
 
 def holder(facts, name):
@@ -105,16 +74,6 @@ def likely(facts, seen, change):
     return AT_THE_ENDS if is_at_an_end(facts, change.place) else LIKELY[change.kind]
 
 
-def predicted(now, before, end):
-    """The run's time after a change, by how much sooner the greedy run of the text ends."""
-    return int(now * end / before) if before else now
-
-
-def least_time(facts, code):
-    """All of this code on as many threads as run at once."""
-    return int(facts.seen * facts.least_time(code) / max(facts.elapsed, 1))
-
-
 def undivided(facts, name):
     """Of the code at a place, the share in which the program and its runtime start, or that is not the program's."""
     start = share_of_start(facts) if name == BEGINNING else 0.0
@@ -137,50 +96,6 @@ def step_of(facts, seen, now, before, tried):
         after += int((now - after) * left_alone(facts, tried.change))
     return Step(kind, place, now, after, int(after * (1 - SPREAD)), min(now, int(after * (1 + SPREAD))),
                 likely(facts, seen, tried.change), tried.change)
-
-
-def waiting_for(facts, found, loss):
-    """Of the time in which threads wait for code, the share of that code that is lost."""
-    place = facts.places.get(loss.place)
-    slow = [place] if place else parallel_places(facts)
-    cost, names = sum(one.cost for one in slow), {one.name for one in slow}
-    waits = sum(one.time for one in found if one.place in names and one.kind in FOR_CODE)
-    return int(waits * min(1, loss.time / cost)) if loss.kind in ESTIMATED and cost else 0
-
-
-def left(facts, now, loss, found):
-    """Of the run, without what is lost by this cause; all other code is still to run. While one thread records that a
-    small region begins or ends the others wait for it, which no change wins back."""
-    in_code = sum(one.time for one in in_code_losses(facts) if one.kind == loss.kind)
-    in_code = max(in_code, loss.time) if in_code else 0
-    freed = freed_with(loss, found)
-    gone = loss.time + waiting_for(facts, found, loss) + sum(freed.values())
-    gone -= min(loss.time, (facts.threads - 1) * facts.recorder) * (loss.kind == "small_regions")
-    least = least_time(facts, facts.code - in_code - freed["memory"])
-    return min(now, max(int(now * (1 - facts.own_share(gone))), least))
-
-
-def freed_with(loss, found):
-    """By kind, what else goes where threads meet less often at a region: lines that pass between them, and waits."""
-    return {kind: sum(one.time for one in found if loss.kind == "small_regions" and one.kind == kind
-                      and where(one.place) == loss.place) for kind in ("memory", "loop_schedule")}
-
-
-def bound_of(facts, now, loss, found=()):
-    """As if what is lost by this cause were gone. The least is 0 where lines pass: not all of these were seen."""
-    after = low = left(facts, now, loss, found)
-    if freed_with(loss, found)["memory"]:
-        low = 0
-    elif loss.kind == "strides" or loss.kind == "memory" and facts.cost_on_one is None:
-        uses = facts.calls.strides if loss.kind == "strides" else facts.calls.shares
-        low = left(facts, now, loss._replace(time=max(loss.time, slowed_lines(facts, loss.place, uses))), found)
-    return Step(loss.kind, loss.place, now, after, low, int(now - BOUND_LEAST * (now - after)))
-
-
-def bounds(facts, now, found):
-    """Of the losses for which no change of the text is tried."""
-    least = {kind: least_of(facts, found, kind) for kind, cause in BY_KIND.items() if cause.is_bound}
-    return [bound_of(facts, now, loss, found) for loss in found if loss.kind in least and loss.time >= least[loss.kind]]
 
 
 def best_of(steps, least=WORTH_A_CHANGE):
@@ -206,7 +121,7 @@ def steps_after(facts, bench, found, first, ranked):
         now, before = plan[-1].after, bench.end(made)
         tried = bench.tries([step.change for step in ranked if step.change and step.change != first.change][:2 * STEPS],
                             made)
-        steps = [step_of(facts, bench.seen, now, before, one) for one in tried] + bounds(facts, now, found)
+        steps = [step_of(facts, bench.seen, now, before, one) for one in tried] + bounds(facts, now, found, bench)
         step = best_of([one for one in steps if (one.kind, one.place) not in done], LATER)
         if not step:
             break

@@ -4,11 +4,11 @@ from collections import Counter
 
 from spanprof.diagnosis.allocation import allocating, parallel_code
 from spanprof.diagnosis.calls import NO_NAME, OFFSET, ONE_AT_A_TIME, SHARES, innermost, together
-from spanprof.diagnosis.causes import ABOUT, AT_BEST, BY_KIND, NAMES, OR_LESS, SECOND
+from spanprof.diagnosis.causes import ABOUT, AT_BEST, BY_KIND, NAMES, SECOND
 from spanprof.diagnosis.facts import Region
-from spanprof.diagnosis.losses import (A_TASK, MANY, average_task, copying_at, has_many_faults, holds_neighbours,
-                                       is_bandwidth, is_in_a_row, is_maker, losses, maps_memory, missing_threads,
-                                       most_shared, useful_time)
+from spanprof.diagnosis.kernel import copying_at, has_many_faults, maps_memory
+from spanprof.diagnosis.losses import (A_TASK, MANY, average_task, holds_neighbours, is_bandwidth, is_in_a_row,
+                                       is_maker, losses, missing_threads, most_shared, useful_time)
 from spanprof.diagnosis.own_code import interpreted_share, is_interpreter, words_of_interpreter
 from spanprof.diagnosis.places import AFTER_REGION, OWN, SERIAL, SHARE
 from spanprof.diagnosis.plan import holder
@@ -33,7 +33,7 @@ TRIED = {
     "defer": "defer more tasks at {at}: change its if or final",
     "outside": "create the tasks of {at} inside parallel and single",
     "task": "make {where} a task of its own"}
-BOUNDS = {ABOUT: "about %s", OR_LESS: "%s or less", AT_BEST: "%s"}     # the first of several holds for all
+BOUNDS = {ABOUT: "about %s", AT_BEST: "%s"}     # the first of several holds for all
 DIVIDED = r"\b(for|do|sections|loop|taskloop|workshare)\b"
 ONE_EACH = re.compile(r"schedule\s*\(\s*(\w+\s*:\s*)?(dynamic|(static|dynamic)\s*,\s*1)\s*\)", re.IGNORECASE)
 ONE_BY_ONE = r"schedule\s*\(\s*(\w+\s*:\s*)?(dynamic|guided)"
@@ -326,7 +326,7 @@ def words(facts, names, name):
     """What a sentence may have, of a place, a wait, a lock or a region."""
     place = facts.places.get(name)
     out = dict(words_of_run(facts, names), where=names.place(name), at=names.at(name), item="",
-               sleeper=sleeper(names, name), sleeps_at=place_of_sleep(names, name), sooner=sooner(facts, name),
+               sleeper=sleeper(names, name), sleeps_at=place_of_sleep(names, name),
                in_what=words_of_sleep(facts, name, sleeper(names, name)), tasks="", many="", largest="", average="",
                contended="", chunks="", a_chunk="", of_turns="",
                alone=words_of_interpreter(facts) if is_interpreter(name) else "the others wait",
@@ -372,7 +372,8 @@ def kind_of_parts(step, place):
 def change_sentence(facts, names, step):
     """What to do, of a change that was tried or of a bound."""
     if not step.change:
-        return BY_KIND[step.kind].change.format(**words(facts, names, step.place))
+        return BY_KIND[step.kind].change.format(**words(facts, names, step.place),
+                                                sooner=sooner(facts, step.place, step.threads))
     kind, place = step.change.kind, step.change.place
     if kind == "split":
         return SPLIT[kind_of_parts(step, facts.places[step.place])].format(**words(facts, names, step.place))
@@ -392,11 +393,10 @@ def shortened(text, width):
 
 def after_words(step):
     """What the run takes after a step; where samples give no number, between which times it is likely."""
-    word = BY_KIND[step.kind].without if step.low else OR_LESS
-    if word == ABOUT and not step.change and step.low < step.after:
+    if not step.change and 0 < step.low < step.after:
         return "%s to %s" % (lasting(step.low), lasting(step.high))
-    at_best = "at best " if word == AT_BEST and not step.change else ""
-    return at_best + (lasting(step.after) if step.change else BOUNDS[word] % lasting(step.after))
+    word = "" if step.change else "at best " if step.at_best else "about "
+    return word + lasting(step.after)
 
 
 def word_of_best(found):

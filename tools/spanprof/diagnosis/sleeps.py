@@ -8,6 +8,7 @@ from spanprof.diagnosis.directives import COMMENT, code_of
 MOST = 0.8      # of a place's sleep, from which on one call is reported as all of it
 LEAST = 0.1     # from which on a call is reported beside another
 MOST_LINES = 2
+MOST_EACH = 5   # threads for each processor: more take longer to start, and memory
 OF_LIBRARY = re.compile("^(__)?libc_")      # before the name of a function, where the C library has it twice
 FOR_PROGRAMS = ("system", "wait", "waitpid", "wait4", "waitid", "pclose")
 
@@ -31,9 +32,19 @@ def is_of_programs(facts, name):
     return any(call in FOR_PROGRAMS and share >= MOST for (call, _), share in by_call(facts.calls.slept.get(name, {})))
 
 
-def sooner(facts, name):
-    """What else ends the waits sooner."""
-    return "the longest first" if is_of_programs(facts, name) else "use more threads"
+def threads_for_sleep(facts):
+    """So many that all processors run code while others sleep, but for few that wait most of the time; 0 where the run
+    had as many."""
+    busy = max(facts.code / max(facts.code + facts.asleep, 1), 1 / MOST_EACH)
+    number = round(facts.usable / busy)
+    return number if number > facts.threads else 0
+
+
+def sooner(facts, name, threads):
+    """What else ends the waits sooner; `threads` as a step has them."""
+    if is_of_programs(facts, name):
+        return ", or the longest first"
+    return {None: ", or use more threads", 0: ""}.get(threads, ", or use %s threads" % threads)
 
 
 def words_of_sleep(facts, name, reported):

@@ -1,5 +1,5 @@
 """The first screen: a sentence, three times, where the threads' time went, the change as a diff, the plan, how sure."""
-from spanprof.diagnosis.causes import BY_KIND
+from spanprof.diagnosis.causes import AT_BEST
 from spanprof.diagnosis.sentences import (after_words, change_sentence, loss_name, lost_sentence, several, speed_words,
                                           sure_words, unsure, word_of_best, words_of_threads)
 from spanprof.diagnosis.source_change import diff
@@ -26,9 +26,8 @@ def one_time(time, words):
 def times(found):
     now = "now, on " + words_of_threads(found.facts)
     first = [one_time(lasting(step.after), "after the first change, %s" % (
-        "predicted" if step.change else BY_KIND[step.kind].without.replace("about", "estimated")))
-             for step in found.plan[:1]]
-    how = {"about": ", estimated", "or less": ", or less", "at best": ""}[word_of_best(found)]
+        "predicted" if step.change else "at best" if step.at_best else "estimated")) for step in found.plan[:1]]
+    how = "" if word_of_best(found) == AT_BEST else ", estimated"
     return tag("div", one_time(lasting(found.now), now), *first,
                one_time(lasting(found.best), "at best%s: all threads busy all the time" % how), class_="times")
 

@@ -2,11 +2,11 @@ import unittest
 from collections import Counter
 from types import SimpleNamespace
 
-from spanprof.diagnosis.calls import Sampled
 from spanprof.diagnosis.changes import Change, Tried, single
 from spanprof.diagnosis.diagnose import diagnose
 from spanprof.diagnosis.places import SERIAL, SHARE
-from spanprof.diagnosis.plan import bound_of, is_at_an_end, likely, predicted
+from spanprof.diagnosis.plan import is_at_an_end, likely
+from spanprof.diagnosis.step import predicted
 from spanprof.diagnosis.losses import Loss
 from spanprof.diagnosis.tests.worked import MS, facts, place
 from spanprof.whatif.requests import Request
@@ -139,48 +139,6 @@ class Steps(unittest.TestCase):
     def test_a_time_follows_the_greedy_end(self):
         self.assertEqual(predicted(120, 100, 50), 60)
         self.assertEqual(predicted(120, 0, 0), 120)
-
-    def test_a_bound_is_that_of_losing_nothing(self):
-        step = bound_of(facts(code=200 * MS), 100 * MS, Loss("lock", "", 100 * MS))
-        self.assertEqual((step.after, step.low, step.high), (75 * MS, 75 * MS, 92500000))
-
-    def test_a_bound_leaves_the_code_unless_it_is_in_code_that_time_is_lost(self):
-        run = facts(code=320 * MS, usage={"user_ns": 20 * MS, "system_ns": 300 * MS})
-        after = {kind: bound_of(run, 100 * MS, Loss(kind, "", 300 * MS)).after for kind in ("sleep", "system")}
-        self.assertEqual(after, {"sleep": 80 * MS, "system": 25 * MS})
-
-    def test_threads_wait_less_for_code_that_is_no_longer_slowed(self):
-        run = facts([place(TASKS, cost=200 * MS)], code=200 * MS, cost_on_one={TASKS: 100 * MS})
-        lost, waits = Loss("memory", TASKS, 100 * MS), Loss("imbalance", TASKS, 80 * MS)
-        others = [Loss("imbalance", "task at image.c:40", 20 * MS), Loss("machine", TASKS, 20 * MS)]
-        self.assertEqual(bound_of(run, 100 * MS, lost, [lost, *others]).after, 75 * MS)
-        self.assertEqual(bound_of(run, 100 * MS, lost, [lost, waits, *others]).after, 65 * MS)
-        self.assertEqual(bound_of(run, 100 * MS, lost._replace(kind="lock"), [lost, waits]).after, 75 * MS)
-        self.assertEqual(bound_of(run, 100 * MS, Loss("allocation", "allocation at a.c:9", 100 * MS), [waits]).after,
-                         65 * MS)
-
-    def test_at_most_all_that_contended_lines_take_is_gone(self):
-        sampled = Sampled({TASKS: {("main",): 100000}}, {}, {TASKS: {"image.c:26": 50000}},
-                          {TASKS: {"image.c:26": 75000, "image.c:27": 25000}})
-        run = facts([place(TASKS, cost=400 * MS)], calls=sampled)
-        step = bound_of(run, 100 * MS, Loss("memory", TASKS, 200 * MS))
-        self.assertEqual((step.low, step.after), (25 * MS, 50 * MS))
-        run.cost_on_one = {TASKS: 200 * MS}     # measured
-        self.assertEqual(bound_of(run, 100 * MS, Loss("memory", TASKS, 200 * MS)).low, 50 * MS)
-
-    def test_what_passes_between_threads_from_region_to_region_goes_with_small_ones(self):
-        lost, waits = Loss("small_regions", "image.c:25", 100 * MS), Loss("loop_schedule", TASKS, 20 * MS)
-        shared, others = Loss("memory", TASKS, 80 * MS), Loss("memory", "task at image.c:40", 40 * MS)
-        run = facts(code=240 * MS)
-        for found, after, low in (([others], 75, 75), ([others, waits], 70, 70), ([shared, others, waits], 50, 0)):
-            step = bound_of(run, 100 * MS, lost, [lost, *found])
-            self.assertEqual((step.after, step.low), (after * MS, low * MS))
-        self.assertEqual(bound_of(run, 100 * MS, lost._replace(kind="lock"), [shared, waits]).after, 75 * MS)
-
-    def test_small_regions_wait_for_the_recorder_too(self):
-        lost, run = Loss("small_regions", "image.c:25", 100 * MS), facts(code=240 * MS, recorder=8 * MS)
-        self.assertEqual(bound_of(run, 100 * MS, lost).after, 81 * MS)
-        self.assertEqual(bound_of(run, 100 * MS, lost._replace(kind="lock")).after, 75 * MS)
 
     def test_a_wait_that_some_turns_reach_is_likely_needless(self):
         change = single("drop-wait", "taskwait at a.c:9")

@@ -3,8 +3,7 @@ import unittest
 
 from spanprof.diagnosis.calls import Sampled
 from spanprof.diagnosis.facts import Region
-from spanprof.diagnosis.losses import (Loss, by_place, code_on_one, divided, finest_name, losses, missing_threads,
-                                       system_time)
+from spanprof.diagnosis.losses import Loss, by_place, code_on_one, divided, finest_name, losses, missing_threads
 from spanprof.diagnosis.places import OF_THREADS, SERIAL, SHARE, TASK
 from spanprof.diagnosis.tests.worked import MS, facts, place
 
@@ -90,16 +89,6 @@ class Losses(unittest.TestCase):
         for preempted, lock in ((80, 50), (20, 80), (0, 100)):
             found = losses(facts([place("task at a.c:1")], preempted=preempted * MS, **run))
             self.assertEqual(sum(loss.time for loss in found if loss.kind == "lock"), lock * MS)
-
-    def test_time_in_the_kernel_is_that_of_code_and_not_of_idle_threads(self):
-        def system(**usage):
-            return system_time(facts([place("task at a.c:1")], starved=100 * MS, usage=usage))
-        self.assertEqual(system(user_ns=60 * MS, system_ns=350 * MS), 240 * MS)     # of 300 ms of code
-        self.assertEqual(system(user_ns=310 * MS, system_ns=120 * MS), 0)
-        self.assertEqual(system(user_ns=290 * MS, system_ns=110 * MS, minor_faults=10000), 40 * MS)
-        for first, lost in ((10000, 0), (2500, 30 * MS), (0, 40 * MS)):     # pages that are used for the first time
-            self.assertEqual(system(user_ns=290 * MS, system_ns=110 * MS, minor_faults=10000,
-                                    peak_bytes=first * 4096), lost)
 
     def test_pages_that_are_taken_again_are_a_loss_and_those_that_are_taken_once_are_not(self):
         def lost(pages, asleep=0):

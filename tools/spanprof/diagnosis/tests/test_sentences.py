@@ -12,7 +12,7 @@ from spanprof.diagnosis.lock_times import Held
 from spanprof.diagnosis.losses import Loss
 from spanprof.diagnosis.names import Names, Suspect, block_end, items_in
 from spanprof.diagnosis.places import AFTER_REGION, OF_THREADS, OWN, SERIAL, SHARE, TASK, Place
-from spanprof.diagnosis.plan import Step
+from spanprof.diagnosis.step import Step
 from spanprof.diagnosis.schema import as_json
 from spanprof.diagnosis.sentences import (WIDTH, after_words, change_sentence, first_digits, joined, less_locking,
                                           lost_sentence, short_lines, shortened, speed_words, sum_lines, times_of,
@@ -222,9 +222,9 @@ class Sentences(unittest.TestCase):
         lines = short_lines(diagnose(run), Names(run, SOURCES))
         self.assertTrue(lines[2].endswith(" 100 ms -> 25.0 ms to 82.0 ms"), lines[2])
 
-    def test_small_regions_through_which_lines_pass_may_cost_less(self):
-        step = Step("small_regions", TASKS, 100 * MS, 50 * MS, 50 * MS, 60 * MS)
-        self.assertEqual([after_words(step), after_words(replace(step, low=0))], ["about 50.0 ms", "50.0 ms or less"])
+    def test_where_lines_pass_between_threads_no_time_is_the_least(self):
+        step = Step("spin", TASKS, 100 * MS, 50 * MS, 50 * MS, 60 * MS)
+        self.assertEqual([after_words(step), after_words(replace(step, low=0))], ["at best 50.0 ms", "about 50.0 ms"])
 
     def test_code_that_streams_and_shares_no_lines_lacks_bandwidth(self):
         run = found(cost_on_one={TASKS: 10 * MS}, usage={"user_ns": 1, "system_ns": 0, "peak_bytes": 1 << 28})

@@ -4,8 +4,8 @@ from types import SimpleNamespace
 from spanprof.diagnosis.calls import Sampled
 from spanprof.diagnosis.names import Names
 from spanprof.diagnosis.places import OF_THREADS, OWN
-from spanprof.diagnosis.sleeps import by_call, place_of_sleep, sleeper, sooner, words_of_sleep
-from spanprof.diagnosis.tests.worked import facts, place
+from spanprof.diagnosis.sleeps import by_call, place_of_sleep, sleeper, sooner, threads_for_sleep, words_of_sleep
+from spanprof.diagnosis.tests.worked import MS, facts, place
 
 PLACE = "the beginning"
 READS, WRITES = ("main", "load", "read@libc.so.6"), ("main", "save", "write")
@@ -32,8 +32,13 @@ class Sleeps(unittest.TestCase):
     def test_other_programs(self):
         sampled = {("main", "libc_system@libc.so.6"): 80}
         self.assertEqual(self.words(sampled), "in system for a program that it started")
-        found = [sooner(facts(calls=Sampled({}, {PLACE: one})), PLACE) for one in (sampled, {READS: 9})]
-        self.assertEqual(found, ["the longest first", "use more threads"])
+        found = [sooner(facts(calls=Sampled({}, {PLACE: one})), PLACE, threads)
+                 for one, threads in ((sampled, 0), ({READS: 9}, None), ({READS: 9}, 0), ({READS: 9}, 8))]
+        self.assertEqual(found, [", or the longest first", ", or use more threads", "", ", or use 8 threads"])
+
+    def test_threads_run_code_while_others_sleep(self):
+        for asleep, threads in ((0, 0), (40, 0), (200, 8), (300, 16), (390, 20)):
+            self.assertEqual(threads_for_sleep(facts(asleep=asleep * MS)), threads)
 
     def test_without_samples(self):
         self.assertEqual(self.words({}), "for files, a network or other locks")

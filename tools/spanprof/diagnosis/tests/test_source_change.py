@@ -2,7 +2,7 @@ import unittest
 
 from spanprof.diagnosis.changes import single
 from spanprof.diagnosis.names import Names
-from spanprof.diagnosis.plan import Step
+from spanprof.diagnosis.step import Step
 from spanprof.diagnosis.source_change import diff, read_only
 from spanprof.diagnosis.tests.test_sentences import SOURCES, TASKS, found
 
