@@ -18,6 +18,7 @@ from dataclasses import dataclass
 import inputs
 
 SECONDS = 240
+OPENBLAS = "/usr/lib/x86_64-linux-gnu/openblas-openmp"  # where that on threads of its own is installed too
 VARIES = re.compile(rb"time|second|\bsec\b|date|speedup|memory|\d:\d\d|\d s\b", re.I)
 RUNTIME = re.compile(r"threads? of ((?:gcc|LLVM) \d+)")
 OUTPUT = "standard output"
@@ -131,7 +132,7 @@ def reported_faults(said, path):
 
 def try_program(words, recorder):
     """What is wrong, the runtime's name, and what costs time."""
-    environment = dict(os.environ, OMP_NUM_THREADS="2", OMP_WAIT_POLICY="passive")
+    environment = dict(os.environ, OMP_NUM_THREADS="2", OMP_WAIT_POLICY="passive", LD_LIBRARY_PATH=OPENBLAS)
     plain, again = run(words, environment), run(words, environment)
     with tempfile.TemporaryDirectory() as out:
         path = os.path.join(out, "told")

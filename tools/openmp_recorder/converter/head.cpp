@@ -179,27 +179,26 @@ void Head::lock(Object &fields, const LockUse &use) {
   line("lock", fields);
 }
 
+// Of each object the time inside it bounds the run; they are told by place and kind, whatever was locked there.
 void Head::locks(const Region &region) {
-  std::vector<LockUse> uses;
-  for (auto &[name, use] : region.locks) uses.push_back(use);
-  std::stable_sort(uses.begin(), uses.end(), [](auto &a, auto &b) { return a.inside > b.inside; });
+  LockSums sums;
   int64_t alone = 0;
-  for (const LockUse &use : uses) alone = std::max(alone, use.alone);
+  for (auto &[name, use] : region.locks) add(sums, use, places), alone = std::max(alone, use.alone);
   if (alone) line("most held lock", in_units(alone));
   LockUse others;
-  for (size_t i = 0; i < uses.size(); i++) {
-    if (i >= most_locks) {
-      others.add(uses[i]);
+  size_t count = 0;
+  for (auto &[name, use] : most_first(sums, &LockUse::inside)) {
+    if (count++ >= most_locks) {
+      others.add(use);
       continue;
     }
     Object fields;
-    std::string at = places.at(uses[i].code);
-    fields.put("kind", lock_kind(uses[i].kind));
-    if (!at.empty()) fields.put("at", at);
-    lock(fields, uses[i]);
+    fields.put("kind", name.second);
+    if (!name.first.empty()) fields.put("at", name.first);
+    lock(fields, use);
   }
   Object fields;
-  if (others.times) lock(fields.put("others", uses.size() - most_locks), others);
+  if (others.times) lock(fields.put("others", count - most_locks), others);
 }
 
 // A place, and the functions that it is in, from the innermost on.

@@ -3,22 +3,18 @@
 #include <omp-tools.h>
 
 #include <algorithm>
-#include <map>
 
 #include "json.hpp"
 
 namespace {
-using Named = std::pair<std::string, std::string>;  // place and kind
-
-void put(std::string &out, const Named &name, const LockUse &use) {
+void put(std::string &out, const LockSums::key_type &name, const LockUse &use) {
   Object line;
   line.put("place", name.first).put("kind", name.second).put("times", use.times);
   line.put("inside_ns", use.inside).put("waited_ns", use.waiting);
   out += line.end() + "\n";
 }
-}  // namespace
 
-std::string lock_kind(int kind) {
+std::string lock_kind(int kind) {  // as OMPT has it
   switch (kind) {
     case ompt_mutex_critical: return "critical";
     case ompt_mutex_atomic: return "atomic";
@@ -30,6 +26,17 @@ std::string lock_kind(int kind) {
     default: return "omp_lock";
   }
 }
+}  // namespace
+
+void add(LockSums &sums, const LockUse &use, const Places &places) {
+  sums[{places.at(use.code), lock_kind(use.kind)}].add(use);
+}
+
+LockRows most_first(const LockSums &sums, int64_t LockUse::*time) {
+  LockRows rows(sums.begin(), sums.end());
+  std::stable_sort(rows.begin(), rows.end(), [time](auto &a, auto &b) { return a.second.*time > b.second.*time; });
+  return rows;
+}
 
 std::vector<const void *> codes_of_locks(const std::vector<Records *> &threads) {
   std::vector<const void *> codes;
@@ -39,13 +46,10 @@ std::vector<const void *> codes_of_locks(const std::vector<Records *> &threads) 
 }
 
 std::string lock_table(const std::vector<Records *> &threads, const Places &places) {
-  std::map<Named, LockUse> sums;
+  LockSums sums;
   for (const Records *thread : threads)
-    for (auto &[place, use] : thread->log.locks.by_place())
-      sums[{places.at(place.first), lock_kind(place.second)}].add(use);
-  std::vector<std::pair<Named, LockUse>> rows(sums.begin(), sums.end());
-  std::stable_sort(rows.begin(), rows.end(), [](auto &a, auto &b) { return a.second.waiting > b.second.waiting; });
+    for (auto &[place, use] : thread->log.locks.by_place()) add(sums, use, places);
   std::string out;
-  for (auto &[name, use] : rows) put(out, name, use);
+  for (auto &[name, use] : most_first(sums, &LockUse::waiting)) put(out, name, use);
   return out;
 }

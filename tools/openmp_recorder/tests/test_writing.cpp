@@ -233,11 +233,27 @@ TEST(the_head_tells_the_recording) {
 )");
 }
 
-TEST(locks_beyond_ten_are_told_together) {
+TEST(locks_of_one_place_are_told_together) {
   Run run = two_tasks();
   Region &region = only_region(run);
-  for (uint64_t name = 1; name <= 13; name++) region.locks[name] = {ompt_mutex_lock, nullptr, 1, 40, 2, 0};
-  EXPECT_PART(head_of(region, {}, Options(), Places()),
+  for (uint64_t name = 1; name <= 13; name++) region.locks[name] = {ompt_mutex_lock, nullptr, 1, 40, 2, 30};
+  region.locks[14] = {ompt_mutex_critical, nullptr, 1, 900, 2, 20};
+  EXPECT_PART(head_of(region, {}, Options(), Places()), R"(# most held lock: 30
+# lock: {"kind": "critical", "times": 1, "inside": 900, "waiting": 2}
+# lock: {"kind": "omp_lock", "times": 13, "inside": 520, "waiting": 26}
+)");
+}
+
+TEST(places_of_locks_beyond_ten_are_told_together) {
+  Run run = two_tasks();
+  Region &region = only_region(run);
+  Places places;
+  const char code[13] = {};
+  for (unsigned at = 0; at < sizeof code; at++) {
+    places.put(code + at, "a.c:" + std::to_string(at));
+    region.locks[at] = {ompt_mutex_lock, code + at, 1, 40, 2, 0};
+  }
+  EXPECT_PART(head_of(region, {}, Options(), places),
               "# lock: {\"others\": 3, \"times\": 3, \"inside\": 120, \"waiting\": 6}\n");
 }
 

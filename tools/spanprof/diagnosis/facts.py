@@ -40,9 +40,15 @@ class Region:
     place: str
     threads: int
     elapsed: int
-    asked: Optional[int] = None
+    asked: Optional[int] = None     # by those with the smallest teams
     times: int = 1
     together: int = 1       # at most so many at a time
+    teams: Dict[int, int] = field(default_factory=dict)     # what elapsed with so many threads
+    added: int = 0          # the time of threads that regions inside it had besides
+
+    @property
+    def sizes(self):
+        return self.teams or {self.threads: self.elapsed}
 
 
 @dataclass
@@ -329,14 +335,6 @@ def set_meta(facts, meta):
     facts.cost_on_one = meta.get("cost_on_one")
 
 
-def elapsed_in(place, program):
-    """Of its regions outside of others; of those of one thread without those inside them that had several."""
-    outer = [(region.begin, region.end) for region in place.regions if not region.inside]
-    inner = [(region.begin, region.end) for region in program.regions if region.inside and region.threads > 1]
-    is_alone = all(region.threads == 1 for region in place.regions)
-    return union(outer + inner) - union(inner) if is_alone else place.outermost
-
-
 def inner_regions(program):
     """By place, those inside others that have several threads."""
     found = {}
@@ -383,12 +381,27 @@ def denied_time(program, usable):
     return dict(+found)
 
 
+def added_threads(program):
+    """By place of regions, the time of the threads that those inside them had besides."""
+    found = Counter()
+    for around, *inner in regions_inside(program, lambda region: region.threads > 1):
+        found[around.place] += sum((region.threads - 1) * region.elapsed for region in inner)
+    return found
+
+
+def regions_at(place, added):
+    """As one; those inside others are left out, since their threads are not of the team."""
+    outer, teams = [region for region in place.regions if not region.inside], Counter()
+    for region in outer:
+        teams[region.threads] += region.elapsed
+    asked = max(region.asked for region in outer if region.threads == min(teams))
+    return Region(place.name, max(teams), place.outermost, asked or None, len(outer), teams=dict(teams), added=added)
+
+
 def regions_of(program):
-    """By place; those inside others are left out, since their threads are not of the team."""
-    places = [place for place in program.places if not place.is_inside] if program else []
-    return [Region(place.name, max(region.threads for region in place.regions), elapsed_in(place, program),
-                   max(region.asked for region in place.regions) or None,
-                   sum(not region.inside for region in place.regions)) for place in places]
+    """By place."""
+    added = added_threads(program)
+    return [regions_at(place, added[place.name]) for place in program.places if not place.is_inside] if program else []
 
 
 def of_text(head, program, numbers):

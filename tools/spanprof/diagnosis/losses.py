@@ -322,11 +322,14 @@ def often_begun(facts):
 
 
 def missing_threads(facts):
-    """By region: the time of threads that its team did not have. Those of a region inside it count only as far as the
-    run was asked for as many."""
-    wanted = min(facts.usable, facts.asked or facts.usable)
-    return {region.place: (wanted - region.threads) * region.elapsed for region in facts.regions
-            if region.threads < wanted}
+    """By region: the time of threads that its teams did not have, nor those of regions inside it. What these lack
+    counts only as far as the run was asked for as many."""
+    wanted, found = min(facts.usable, facts.asked or facts.usable), {}
+    for region in facts.regions:
+        missing = sum(max(0, wanted - threads) * elapsed for threads, elapsed in region.sizes.items()) - region.added
+        if missing > 0:
+            found[region.place] = missing
+    return found
 
 
 def preempt_each_other(facts):

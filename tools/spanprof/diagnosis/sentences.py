@@ -220,6 +220,12 @@ def words_of_fewer(facts):
     return threads + ": num_threads or OMP_NUM_THREADS"
 
 
+def words_of_team(sizes):
+    """Of one region, or of several with teams of these sizes."""
+    between = " or " if len(sizes) == 2 else " to "
+    return "%d%s%s" % (sizes[0], between, several(sizes[-1], "thread")) if sizes[1:] else several(sizes[0], "thread")
+
+
 def words_of_region(facts, names, name):
     """Of those that began at one place."""
     others = len(set(missing_threads(facts)) - {name})
@@ -237,7 +243,7 @@ def words_of_region(facts, names, name):
                        fewer=fewer % names.at(name))
     for region in facts.regions + facts.inner:
         if region.place == name:
-            out.update(got=several(region.threads, "thread"))
+            out.update(got=words_of_team(sorted(region.sizes)))
     out["others"] += ": %d can run" % facts.usable
     if name in facts.denied:
         out.update(got="1 thread", others=": nested parallelism is off")

@@ -9,7 +9,7 @@ from unittest import mock
 from spanprof.diagnosis import facts as module
 from spanprof.diagnosis.calls import RUNTIME, Sampled, calls_of
 from spanprof.diagnosis.diagnose import diagnose
-from spanprof.diagnosis.facts import (Facts, denied_time, elapsed_in, function_in, inner_regions, nested_threads,
+from spanprof.diagnosis.facts import (Facts, denied_time, function_in, inner_regions, nested_threads,
                                       of_those_at_once, off_by_segment, regions_of, runtime_name, set_meta, set_off,
                                       set_ranks, set_waiting, starting_shares, stolen_share, used_by_others)
 from spanprof.diagnosis.lock_times import Held, locks_of
@@ -202,11 +202,11 @@ class Starting(unittest.TestCase):
             set_waiting(run)
             self.assertEqual(run.calls.ran["task at a.c:9"], {("main", RUNTIME): left, ("main",): 90000})
 
-    def test_a_region_of_one_thread_is_alone_without_those_inside_it(self):
+    def test_regions_inside_others_add_their_threads(self):
         outer, inner, alone = (Region(i, 0, *times, 0, 0, 0, i > 1, "a.c:%d" % i) for i, times in
                                ((1, (0, 100, 1)), (2, (20, 70, 4)), (3, (80, 90, 1))))
         run = Program(100, [outer, inner, alone])
-        self.assertEqual(elapsed_in(run.places[0], run), 50)
+        self.assertEqual([(one.elapsed, one.added) for one in regions_of(run)], [(100, 3 * 50)])
         outer = alone._replace(number=4, begin=90, end=99, threads=4, inside=0)
         nested = alone._replace(number=5, begin=91, end=95, threads=2)
         later, beside = nested._replace(begin=95, end=97, threads=3), nested._replace(begin=94, end=99, threads=4)
@@ -216,6 +216,14 @@ class Starting(unittest.TestCase):
         self.assertEqual([(one.place, one.threads, one.times, one.elapsed) for one in inner_regions(run)],
                          [("a.c:2", 4, 1, 50)])
         self.assertEqual([one.together for some in programs[3:] for one in inner_regions(some)], [1, 2])
+
+    def test_regions_at_one_place_may_have_teams_of_several_sizes(self):
+        """Who asked for the smallest is told."""
+        teams = ((10, 4, 4), (20, 2, 2), (30, 2, 3), (40, 4, 9))
+        some = [Region(1 + i, 0, 0, end, threads, 0, 0, 0, 0, "a.c:1", asked) for i, (end, threads, asked) in
+                enumerate(teams)]
+        found, = regions_of(Program(90, some))
+        self.assertEqual((found.sizes, found.asked, found.times), ({4: 50, 2: 50}, 3, 4))
 
     def test_a_region_inside_another_that_got_one_thread_of_several(self):
         """Of three regions the longest lasts 60; all of them together would last 20 on four threads."""

@@ -53,6 +53,15 @@ class Losses(unittest.TestCase):
         self.assertEqual(missing_threads(facts([], threads=3, asked=2, regions=team)), {})
         self.assertEqual(missing_threads(facts([], threads=3, asked=3, regions=team)), {"a.c:2": 90 * MS})
 
+    def test_a_team_lacks_no_threads_that_regions_inside_it_have(self):
+        for added, missing in ((0, 180), (70, 110), (180, 0), (200, 0)):
+            team = [Region("a.c:2", 2, 90 * MS, added=added * MS)]
+            self.assertEqual(missing_threads(facts([], regions=team)), {"a.c:2": missing * MS} if missing else {})
+
+    def test_of_several_teams_the_small_ones_lack_threads(self):
+        team = [Region("a.c:2", 4, 90 * MS, teams={4: 40 * MS, 2: 30 * MS, 1: 20 * MS})]
+        self.assertEqual(missing_threads(facts([], regions=team)), {"a.c:2": (2 * 30 + 3 * 20) * MS})
+
     def test_a_part_of_the_beginning_starts_the_program(self):
         begins = place("the beginning", SERIAL, cost=20 * MS, pieces=1, tasks=0)
         found = losses(facts([begins], starved=60 * MS, starved_by={begins.name: 60 * MS}))

@@ -389,6 +389,10 @@ class Sentences(unittest.TestCase):
         self.assertEqual(who_asked(run, Region("image.c:20", 2, MS)), ": num_threads, OMP_NUM_THREADS")
         self.assertEqual(lost_sentence(run, Names(run, None), Loss("too_few_threads", "image.c:20", MS)),
                          "1 thread in the region at image.c:20 and in 1 other: 4 can run")
+        for teams, words in (({4: MS, 2: MS}, "2 or 4 threads"), ({4: MS, 3: MS, 1: MS}, "1 to 4 threads")):
+            run = facts([tone()], regions=[Region("image.c:9", 4, 90 * MS, teams=teams)])
+            self.assertEqual(lost_sentence(run, Names(run, None), Loss("too_few_threads", "image.c:9", MS)),
+                             words + " in the region at image.c:9: 4 can run")
 
     def test_a_region_inside_another_that_got_one_thread(self):
         run = facts([tone()], denied={"image.c:9": 200 * MS})
