@@ -51,8 +51,9 @@ class Patches(unittest.TestCase):
 
 class Building(unittest.TestCase):
     def test_options(self):
-        options = build.options_of("gomp out one two --jobs 3".split())
+        options = build.options_of("gomp out one two --jobs 3 --archive some.tar".split())
         self.assertEqual((options.family, options.names, options.jobs), ("gomp", ["one", "two"], 3))
+        self.assertEqual(options.archive, pathlib.Path.cwd() / "some.tar")   # it is unpacked in another folder
 
     def test_no_archive(self):
         with unittest.mock.patch.object(sources.Gomp, "archives", "/nowhere/*.xz"):
