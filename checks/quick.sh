@@ -90,7 +90,7 @@ fi
 # What nothing but tests uses, apart from names that Python, argparse or a table of methods calls, and of programs that
 # are kept for what was measured.
 installed vulture --exclude '*/tests/*,*test_*.py' tools checks bench examples \
-    --ignore-names 'write_*,dont_write_bytecode,__getattr__,namespace,option_string,only_first'
+    --ignore-names 'write_*,dont_write_bytecode,__getattr__,namespace,option_string'
 names=()
 for test in tools/tests/test_*.py tools/spanprof/{,*/,*/*/}tests/test_*.py; do
     if concerned "$test"; then test=${test#tools/} && test=${test%.py} && names+=("${test//\//.}"); fi

@@ -16,18 +16,21 @@ from patches import NoMutant, mutants_of
 from sources import FAMILIES, NoSource, archive_of, build_patched, tree_of, unpack
 
 
+def resolved(word):
+    return pathlib.Path(word).resolve()
+
+
 def options_of(words=None):
     parser = argparse.ArgumentParser(description=__doc__.split("\n", maxsplit=1)[0])
     add = parser.add_argument
     add("family", choices=FAMILIES, help="gomp: gcc's runtime; kmp: LLVM's")
-    add("folder", type=pathlib.Path, help="where the libraries go")
+    add("folder", type=resolved, help="where the libraries go")
     add("names", nargs="*", help="these mutants alone")
-    add("--patches", type=lambda word: pathlib.Path(word).resolve(),
-        help="other mutants, such as those of operators.py")
-    add("--archive", default="", help="the source archive (the newest in /usr/src)")
+    add("--patches", type=resolved, help="other mutants, such as those of operators.py")
+    add("--archive", type=resolved, help="the source archive (the newest in /usr/src)")
     add("--jobs", type=int, default=2, help="how many are built side by side (2)")
     add("--flags", default="", help="more flags for the compiler, such as --coverage")
-    add("--tree", type=pathlib.Path, help="build there, one after another, and keep it, as --coverage needs")
+    add("--tree", type=resolved, help="build there, one after another, and keep it, as --coverage needs")
     return parser.parse_args(words)
 
 
@@ -64,12 +67,11 @@ def main():
     try:
         mutants = mutants_of(options.family, options.names, options.patches)
         options.folder.mkdir(parents=True, exist_ok=True)
-        options.folder = options.folder.resolve()
         with tempfile.TemporaryDirectory(prefix="mutants-") as folder:
             folder = pathlib.Path(folder)
             source = unpack(options.family, archive_of(options.family, options.archive), folder)
             jobs = max(1, min(options.jobs, len(mutants) + 1))
-            folders = [options.tree.resolve()] if options.tree else [folder / f"tree{job}" for job in range(jobs)]
+            folders = [options.tree] if options.tree else [folder / f"tree{job}" for job in range(jobs)]
             with concurrent.futures.ThreadPoolExecutor(jobs) as pool:
                 trees = list(pool.map(lambda tree: tree_of(options.family, source, tree, options.flags), folders))
             wrong = [f"{name}: {reason}" for name, reason in built(options, mutants, trees) if reason]

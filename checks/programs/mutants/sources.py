@@ -59,7 +59,7 @@ class Kmp:
 FAMILIES = {"gomp": Gomp, "kmp": Kmp}
 
 
-def archive_of(family, named=""):
+def archive_of(family, named=None):
     """The source archive that is named, or the newest that is installed."""
     found = named or max(glob.glob(FAMILIES[family].archives), default=None)
     if not found:

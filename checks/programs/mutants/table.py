@@ -16,7 +16,6 @@ def options_of(words=None):
     add("folder", type=pathlib.Path, help="what build.py made")
     add("seen", type=pathlib.Path, help="the report of the tester")
     add("own", type=pathlib.Path, nargs="?", help="what own_tests.py wrote")
-    add("--names", action="store_true", help="a row for each mutant too")
     return parser.parse_args(words)
 
 
@@ -26,10 +25,9 @@ class Counts:
     def __init__(self, mutants, seen, own):
         wrong = [name for name, fields in mutants.items() if fields["breaks"] == "yes" and name in seen]
         self.wrong, self.kept = len(wrong), sum(name in seen for name in mutants) - len(wrong)
-        self.caught = sum(bool(seen[name]["failed"]) for name in wrong)
-        self.escaped = [name for name in wrong if not seen[name]["failed"]]
-        self.false = [name for name, fields in mutants.items()
-                      if fields["breaks"] != "yes" and seen.get(name, {"failed": {}})["failed"]]
+        self.caught = sum(bool(seen[name]["program"]) for name in wrong)
+        self.escaped = [name for name in wrong if not seen[name]["program"]]
+        self.false = [name for name in mutants if name in seen and name not in wrong and seen[name]["program"]]
         self.own = sum(bool(own.get(name)) for name in wrong)
 
     def cells(self, has_own):
@@ -53,14 +51,6 @@ def lines_of(heads, table):
         yield "| " + " | ".join(map(str, row)) + " |"
 
 
-def by_name(mutants, seen, own):
-    """A row for each mutant."""
-    for name, fields in sorted(mutants.items(), key=lambda pair: (pair[1]["rule"], pair[0])):
-        if name in seen:
-            yield [f"`{name}`", fields["rule"], fields["breaks"].split(":")[0], len(seen[name]["failed"]),
-                   "; ".join(seen[name]["ways"]), len(own.get(name, []))]
-
-
 def main():
     options = options_of()
     mutants = json.loads((options.folder / "mutants.json").read_text())
@@ -69,9 +59,6 @@ def main():
     heads = ["rule", "break it", "caught", "not", *(["by its own tests"] if own else []), "break nothing",
              "of these refused"]
     print("\n".join(lines_of(heads, rows(mutants, seen, own))))
-    if options.names:
-        heads = ["mutant", "rule", "breaks it", "programs", "seen as", "own tests"]
-        print("\n" + "\n".join(lines_of(heads, by_name(mutants, seen, own))))
     return 0
 
 

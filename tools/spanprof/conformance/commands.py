@@ -136,10 +136,10 @@ def try_built(options, bench):
                               lambda name, fields: journal.add({"mutant": name, "campaign": fields}))
         for mutant, campaign in campaigns.run(mutants):
             print(tables.built_line(mutant, campaign), flush=True)
-            seen[mutant.name] = {**asdict(campaign), "ways": campaign.ways()}
+            seen[mutant.name] = asdict(campaign)
             if options.report:
                 pathlib.Path(options.report).write_text(json.dumps(seen, indent=1) + "\n")
-            wrong |= mutant.is_wrong != bool(campaign.failed)
+            wrong |= mutant.is_wrong != bool(campaign.program)
     return 1 if wrong else 0
 
 

@@ -37,11 +37,10 @@ class Names:
 
 @dataclass
 class Matched:
-    """Costs of two recordings by place, of the segments that both have; and what only one has."""
+    """Costs of two recordings by place, of the segments that both have; and what the second has besides."""
     first: Dict[str, int]
     second: Dict[str, int]
-    only_first: int = 0
-    only_second: int = 0
+    only_second: int
 
 
 def matched(first, second):
@@ -56,5 +55,4 @@ def matched(first, second):
             segment = numbers[name]
             by_place[program.places[segment]] += program.costs[segment]
         sums.append(dict(by_place))
-    left = [sum(program.costs) - sum(found.values()) for program, found in zip((first, second), sums)]
-    return Matched(*sums, *left)
+    return Matched(*sums, sum(second.costs) - sum(sums[1].values()))

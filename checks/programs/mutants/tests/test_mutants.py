@@ -51,8 +51,9 @@ class Patches(unittest.TestCase):
 
 class Building(unittest.TestCase):
     def test_options(self):
-        options = build.options_of("gomp out one two --jobs 3".split())
+        options = build.options_of("gomp out one two --jobs 3 --archive some.tar".split())
         self.assertEqual((options.family, options.names, options.jobs), ("gomp", ["one", "two"], 3))
+        self.assertEqual(options.archive, pathlib.Path.cwd() / "some.tar")   # it is unpacked in another folder
 
     def test_no_archive(self):
         with unittest.mock.patch.object(sources.Gomp, "archives", "/nowhere/*.xz"):
@@ -135,24 +136,20 @@ class Tables(unittest.TestCase):
                "early": {"rule": "taskwait", "breaks": "yes"}, "detached": {"rule": "detach", "breaks": "yes"}}
 
     @staticmethod
-    def seen(*programs):
-        return {"failed": {name: [2, "free", "hung"] for name in programs}, "ways": ["hung"]}
+    def seen(program=""):
+        return {"program": program}
 
     def row(self, title, seen, own=()):
         return next(row for row in table.rows(self.MUTANTS, seen, dict(own)) if row[0] == title)[1:]
 
     def test_rows(self):
-        seen = {"lost": self.seen("a", "b"), "slow": self.seen(), "early": self.seen(), "detached": self.seen("c")}
+        seen = {"lost": self.seen("a"), "slow": self.seen(), "early": self.seen(), "detached": self.seen("c")}
         self.assertEqual(self.row("once", seen), [1, 1, "", 1, 0])
         self.assertEqual(self.row("taskwait", seen, {"early": ["x"]}.items()), [1, 0, "`early`", 1, 0, 0])
         self.assertEqual(self.row("**all**", seen), [3, 2, "`early`", 1, 0])
 
     def test_what_breaks_nothing_and_was_refused(self):
         self.assertEqual(self.row("once", {"slow": self.seen("a")}), [0, 0, "", 1, 1])
-
-    def test_a_row_for_each_mutant(self):
-        rows = list(table.by_name(self.MUTANTS, {"lost": self.seen("a", "b")}, {"lost": ["x", "y"]}))
-        self.assertEqual(rows, [["`lost`", "once", "yes", 2, "hung", 2]])
 
 
 class OwnTests(unittest.TestCase):

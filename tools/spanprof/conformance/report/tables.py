@@ -85,13 +85,14 @@ def mutant_line(name, meaning, results):
     return line_of((f"`{name}`", meaning, len(programs), seen, first_few(programs), f"{results.seconds:.0f}"))
 
 
-BUILT_HEADS = ("mutant", "rule", "breaks it", "tried", "seen as", "programs that caught it", "seconds")
+BUILT_HEADS = ("mutant", "rule", "breaks it", "tried", "seen as", "program", "tasks", "threads", "setting", "seconds")
 
 
 def built_line(mutant, campaign):
     """The row of one runtime that was built from a changed source."""
-    return line_of((f"`{mutant.name}`", mutant.rule, mutant.breaks.split(":")[0], campaign.tried,
-                    "; ".join(campaign.ways()), first_few(sorted(campaign.failed)), f"{campaign.seconds:.0f}"))
+    return line_of((f"`{mutant.name}`", mutant.rule, mutant.breaks.split(":")[0], campaign.tried, campaign.how,
+                    campaign.program, campaign.tasks, campaign.threads or "", campaign.setting,
+                    f"{campaign.seconds:.0f}"))
 
 
 def matrix(caught):

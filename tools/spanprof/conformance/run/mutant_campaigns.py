@@ -2,34 +2,36 @@
 import concurrent.futures
 import math
 import time
-from dataclasses import asdict, dataclass, field
+from dataclasses import asdict, dataclass
 
 
 @dataclass
 class Campaign:
-    """What a campaign saw: of the program that failed where and how it did, and how many cases were tried."""
-    failed: dict = field(default_factory=dict)  # by program, [threads, setting, how]
+    """What a campaign saw: the program that failed, if one did, where and how, and how many cases were tried."""
+    program: str = ""
+    tasks: str = ""
+    threads: int = 0
+    setting: str = ""
+    how: str = ""
     tried: int = 0
     seconds: float = 0
 
-    def add(self, failure):
-        how = f"hung: {failure.rule}" if failure.verdict.kind == "hung" else failure.rule
-        self.failed[failure.case.name] = [failure.conditions.threads, failure.conditions.setting, how]
-
-    def ways(self):
-        return sorted({how for _, _, how in self.failed.values()})
+    def see(self, failure):
+        self.program, self.tasks = failure.case.name, failure.case.variant
+        self.threads, self.setting = failure.conditions.threads, failure.conditions.setting
+        self.how = f"hung: {failure.rule}" if failure.verdict.kind == "hung" else failure.rule
 
 
 def campaign_on(bench, cases, plan, seconds=math.inf):
     """A campaign on the bench's runtime, which ends once a program has failed, or after so many seconds."""
     begun, found = time.monotonic(), Campaign()
     for case in cases:
-        if found.failed or time.monotonic() - begun > seconds:
+        if found.program or time.monotonic() - begun > seconds:
             break
         failure = bench.first_failure(case, plan.conditions(case))
         found.tried += 1
         if failure:
-            found.add(failure)
+            found.see(failure)
     found.seconds = time.monotonic() - begun
     return found
 

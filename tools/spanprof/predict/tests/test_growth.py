@@ -28,12 +28,12 @@ class Matching(unittest.TestCase):
     def test_costs_by_place(self):
         found = matched(read_program(FEWER), read_program(MORE))
         self.assertEqual((found.first["task at a.c:1"], found.second["task at a.c:1"]), (100, 150))
-        self.assertEqual((found.only_first, found.only_second), (0, 0))
+        self.assertEqual(found.only_second, 0)
 
     def test_what_only_one_has(self):
         found = matched(read_program(FEWER), read_program("omptasks 1\ntask {  # a.c:1\nwork 7\ntask { work 5 }\n}\n"))
         self.assertEqual((found.first["task at a.c:1"], found.second["task at a.c:1"]), (100, 7))
-        self.assertEqual((found.only_first, found.only_second), (301, 5))
+        self.assertEqual(found.only_second, 5)
 
     def test_the_second_of_a_place(self):
         found = matched(read_program(FEWER), read_program(FEWER + "task {  # a.c:1\nwork 9\n}\n"))

@@ -40,19 +40,19 @@ class OnMutants(unittest.TestCase):
 
     def test_all_programs_where_none_fails(self):
         seen, bench, keeps = self.campaigns(lambda case: False)
-        self.assertEqual([(one.tried, one.failed) for one in seen.values()], [(4, {}), (4, {})])
+        self.assertEqual([(one.tried, one.program) for one in seen.values()], [(4, ""), (4, "")])
         self.assertEqual(len({case.name for case in bench.tried}), 4)
         self.assertEqual(sorted(name for name, _ in keeps), ["late", "lost"])
 
     def test_it_ends_with_the_first_program_that_fails(self):
         seen, _, _ = self.campaigns(lambda case: case.name > "a")
-        self.assertEqual((seen["lost"].tried, list(seen["lost"].failed), seen["lost"].ways()), (2, ["b"], ["taskwait"]))
-        self.assertEqual(seen["late"].failed, {})
+        self.assertEqual((seen["lost"].tried, seen["lost"].program, seen["lost"].how), (2, "b", "taskwait"))
+        self.assertEqual(seen["late"].program, "")
 
     def test_goes_on_from_what_was_kept(self):
-        kept = [("lost", {"failed": {"p": [2, "free", "taskwait"]}, "tried": 3, "seconds": 1.5})]
+        kept = [("lost", {"program": "p", "how": "taskwait", "tried": 3, "seconds": 1.5})]
         seen, bench, keeps = self.campaigns(lambda case: True, kept)
-        self.assertEqual((list(seen["lost"].failed), len(bench.tried)), (["p"], 4))
+        self.assertEqual((seen["lost"].program, len(bench.tried)), ("p", 4))
         self.assertEqual([name for name, _ in keeps], ["late"])
 
 
