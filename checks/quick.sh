@@ -16,7 +16,7 @@ if [ "${1:-}" = --changed ]; then
     base=$(git merge-base "${2:-origin/main}" HEAD) || exit 2
     changed=$(git diff --name-only "$base"; git ls-files --others --exclude-standard)
     changed=${changed:-no change}
-    ! grep -qE '^checks/(quick\.sh|sources/reached\.py)$' <<< "$changed" || changed=   # then all are
+    ! grep -qE '^checks/(quick\.sh|unit_tests\.py|sources/reached\.py)$' <<< "$changed" || changed=   # then all are
 fi
 declare -A reached=()   # files that the changes concern by their imports
 if [ -n "$changed" ]; then
@@ -70,9 +70,10 @@ installed() {
 # no_symbolic_links: the gate refuses a checkout that has one.
 no_symbolic_links() { ! git ls-files -s | grep '^120000'; }
 
-# tested FOLDER TOP: the unit tests of a folder, which import from TOP.
-tested() { ! concerned "$1"/test_*.py || wanted=1 passes "$1" python3 -B -m unittest discover -q -s "$1" -t "$2"; }
-
+tests=()
+while read -r test; do ! concerned "$test" || tests+=("$test"); done < <(find tools checks bench -name 'test_*.py')
+wanted=${tests:+1}
+passes unit_tests.py python3 -B checks/unit_tests.py "${tests[@]}"
 wanted=1
 passes no_symbolic_links no_symbolic_links
 for script in version sentences links speed_numbers places; do   # which read files of all kinds
@@ -91,16 +92,6 @@ fi
 # are kept for what was measured.
 installed vulture --exclude '*/tests/*,*test_*.py' tools checks bench examples \
     --ignore-names 'write_*,dont_write_bytecode,__getattr__,namespace,option_string'
-names=()
-for test in tools/tests/test_*.py tools/spanprof/{,*/,*/*/}tests/test_*.py; do
-    if concerned "$test"; then test=${test#tools/} && test=${test%.py} && names+=("${test//\//.}"); fi
-done
-for part in 0 1 2; do   # three processes for all of the tools
-    own=()
-    for ((i = part; i < ${#names[@]}; i += 3)); do own+=("${names[i]}"); done
-    wanted=${own:+1}
-    passes "tests of the tools, part $((part + 1))" env -C tools python3 -B -m unittest -q "${own[@]}"
-done
 reads '^crates|^docs/|^README\.md$|^checks/edits/'
 for script in definitions proof_map; do
     passes "$script.py" python3 -B "checks/sources/$script.py" --check
@@ -115,15 +106,6 @@ read -rd '' -a files < <(these '\.sh$|^demo$|^\.ci/run$' demo .ci/run "$(git ls-
 [ ${#files[@]} -eq 0 ] || installed shellcheck -S warning "${files[@]}"
 reads '^tools/openmp_recorder/.*pp$'
 passes cpp_format.sh checks/sources/cpp_format.sh
-wanted=
-for test in checks/*/test_*.py checks/sources/waiting/test_*.py checks/agree/large_recordings/test_*.py bench/test_*.py \
-    bench/recording/test_*.py; do
-    ! concerned "$test" || wanted=1 passes "$test" python3 -B "$test"
-done
-tested checks/sources/believed/tests checks/sources
-for tests in checks/llvm/tests checks/real/tests checks/programs/*/tests checks/recorders/*/tests; do
-    tested "$tests" "${tests%/tests}"
-done
 wait
 failed=()
 for ((number = 1; number <= count; number++)); do

@@ -10,6 +10,5 @@ cd "$(dirname "$0")/../.."
 needs_llvm
 built=crates/spanprof_large/out/spanprof_large
 [ -n "${SPANPROF_LARGE:-}" ] || [ -x $built ] || skip "no program $built; tools/prove_program.sh spanprof_large makes it"
-(cd checks/agree/large_recordings && python3 -B -m unittest -q test_whole_graph)
 make -s -C tools/openmp_recorder LLVM="$llvm" librecorder.so
 LLVM=$llvm exec python3 -B checks/agree/large_recordings/compare.py "$@"

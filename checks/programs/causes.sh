@@ -15,7 +15,6 @@ set -euo pipefail
 cd "$(dirname "$0")/../.."
 # shellcheck source=checks/needs.sh
 . checks/needs.sh
-python3 -B -m unittest discover -q -s checks/programs/causes/tests -t checks/programs/causes
 needs_spanprof
 if [ "${1:-}" = kept ]; then exec python3 -B checks/programs/causes/kept.py; fi
 programs=checks/programs/causes compiler=clang words=()

@@ -87,7 +87,6 @@ test_futures() { # FLAGS of the compiler
 }
 
 cd tools/conformance
-(cd .. && python3 -B -m unittest discover -s spanprof/conformance -t .) || fail "unit tests"
 test_futures || fail "the pool of threads: a run is not accepted"
 test_futures -DDONE_TOO_EARLY && fail "the broken pool of threads is accepted"
 grep -q '^run 0: refused: ' "$folder/judged.txt" || fail "the broken pool of threads is not refused"

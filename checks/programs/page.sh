@@ -29,9 +29,7 @@ fi
 wrong=0
 fail() { echo "  $1"; wrong=$((wrong + 1)); }
 
-unit_tests() {
-    python3 -m unittest discover -s tools/spanprof/report/tests -t tools || fail "unit tests of the page"
-    python3 -m unittest discover -s checks/programs/page/tests -t checks/programs/page || fail "unit tests of the client"
+kept_answers() {
     (cd tools && python3 -m spanprof.report.tests.worked check) ||
         fail "spanprof answers otherwise than the unit tests have it"
 }
@@ -131,7 +129,7 @@ make_page() { # NAME: the page of a text of the folder, and its numbers
     echo "$name: $(tail -1 "$folder/compared"), $(wc -c < "$folder/$name.html") bytes"
 }
 
-unit_tests
+kept_answers
 cp examples/*.tasks "$folder"
 for text in examples/openmp/recorded/*.tasks; do cp "$text" "$folder/kept_$(basename "$text")"; done
 checks/programs/page/large_text.py "$folder"

@@ -11,7 +11,6 @@ cd "$(dirname "$0")/../.."
 # shellcheck source=checks/needs.sh
 . checks/needs.sh
 needs_spanprof
-python3 -B -m unittest discover -q -s checks/programs/whatif/tests -t checks/programs/whatif
 python3 -B checks/programs/whatif/rewrites.py kept
 [ "${1:-}" != kept ] || exit 0
 

@@ -9,6 +9,5 @@ cd "$(dirname "$0")/../.."
 . checks/needs.sh
 needs_spanprof
 needs_llvm
-python3 -B -m unittest discover -q -s checks/real/tests -t checks/real
 make -s -C tools/openmp_recorder LLVM="$llvm"
 exec python3 -B checks/real/real.py checks/real/programs.txt "$PWD/tools/spanprof-record" "$@"

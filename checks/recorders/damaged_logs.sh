@@ -10,7 +10,6 @@ cd "$(dirname "$0")/../.."
 . checks/needs.sh
 needs_llvm
 needs_spanprof
-python3 -m unittest discover -q -s checks/recorders/damaged_logs/tests -t checks/recorders/damaged_logs
 make -s -C tools/openmp_recorder LLVM="$llvm" librecorder.so convert_log_checked
 for runtime in llvm gnu; do
     RUNTIME=$runtime python3 checks/recorders/damaged_logs/damaged.py tools/openmp_recorder/convert_log_checked "${1:-300}"

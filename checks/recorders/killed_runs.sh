@@ -6,7 +6,6 @@ cd "$(dirname "$0")/../.."
 # shellcheck source=checks/llvm.sh
 . checks/llvm.sh
 find_llvm || { echo "skipped: $no_llvm"; exit 0; }
-python3 -B -m unittest discover -q -s checks/recorders/killed_runs/tests -t checks/recorders/killed_runs
 make -s -C tools/openmp_recorder LLVM="$llvm"
 python3 -B checks/recorders/killed_runs/killed.py "$@"
 RUNTIME=gnu python3 -B checks/recorders/killed_runs/killed.py "$@"

@@ -9,8 +9,6 @@ cd "$(dirname "$0")/../.."
 needs_llvm
 command -v gcc > /dev/null || skip "gcc is missing (package gcc)"
 needs_spanprof
-python3 -m unittest discover -q -s checks/recorders/openmp_cases/tests -t checks/recorders/openmp_cases
-(cd tools && python3 -m unittest discover -q -s tests -t .)
 make -s -C tools/openmp_recorder LLVM="$llvm" librecorder.so test
 checks/recorders/exports.py
 exec python3 checks/recorders/openmp_cases/cases.py "$@"

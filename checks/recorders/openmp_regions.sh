@@ -9,6 +9,5 @@ cd "$(dirname "$0")/../.."
 needs_llvm
 command -v g++ > /dev/null || skip "gcc is missing (package g++)"
 needs_spanprof
-python3 -m unittest discover -q -s checks/recorders/openmp_regions/tests -t checks/recorders/openmp_regions
 [ -n "${RECORDER:-}" ] || make -s -C tools/openmp_recorder LLVM="$llvm"
 LLVM=$llvm exec python3 checks/recorders/openmp_regions/regions.py "${1:-200}" "${@:2}"

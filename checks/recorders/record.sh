@@ -10,7 +10,6 @@ needs_spanprof "$@"
 spanprof=$SPANPROF
 needs_llvm
 
-(cd tools && python3 -B -m unittest discover -s spanprof/record/tests -t .)
 export PATH=$PWD/tools:$PATH OMP_NUM_THREADS=2 SPANPROF_MACHINE=/none
 top=$PWD
 folder=$(mktemp -d)

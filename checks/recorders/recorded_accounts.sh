@@ -14,7 +14,6 @@ SPANPROF=$(realpath "${SPANPROF:-crates/spanprof/out/spanprof}")
 SPANPROF_LARGE=$(realpath "${SPANPROF_LARGE:-crates/spanprof_large/out/spanprof_large}")
 export SPANPROF SPANPROF_LARGE
 skip() { echo "skipped: $1"; exit 0; }
-python3 -B -m unittest discover -q -s checks/recorders/recorded_accounts/tests -t checks/recorders/recorded_accounts
 [ -x "$SPANPROF" ] || { echo "no program $SPANPROF"; exit 1; }
 [ -x "$SPANPROF_LARGE" ] || skip "no program $SPANPROF_LARGE; tools/prove_program.sh spanprof_large makes it"
 find_llvm || skip "$no_llvm"

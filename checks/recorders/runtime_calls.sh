@@ -12,7 +12,6 @@ command -v g++ > /dev/null || skip "gcc is missing (package g++)"
 ls /usr/src/gcc-*/gcc-*.tar.xz > /dev/null 2>&1 || skip "libgomp's tests are missing (package gcc-12-source)"
 export SPANPROF=${SPANPROF:-$PWD/crates/spanprof/out/spanprof}
 [ -x "$SPANPROF" ] || { echo "no program $SPANPROF"; exit 1; }
-python3 -B -m unittest discover -q -s checks/recorders/runtime_calls/tests -t checks/recorders/runtime_calls
 make -s -C checks/recorders/runtime_calls
 make -s -C tools/openmp_recorder  # before many recordings need it at once
 exec python3 -B checks/recorders/runtime_calls/runtime_calls.py "$@"

@@ -10,7 +10,6 @@ cd "$(dirname "$0")/../.."
 # shellcheck source=checks/needs.sh
 . checks/needs.sh
 needs_spanprof
-python3 -B -m unittest discover -q -s checks/recorders/true_words/tests -t checks/recorders/true_words
 
 needs_llvm
 folder=$(mktemp -d)

@@ -11,7 +11,6 @@ cd "$(dirname "$0")/../.."
 # shellcheck source=checks/needs.sh
 . checks/needs.sh
 needs_spanprof
-python3 -B -m unittest discover -q -s checks/recorders/whole_program/tests -t checks/recorders/whole_program
 
 needs_llvm
 [ "$llvm" -ge 16 ] || skip "LLVM $llvm does not tell the chunks of loops"

@@ -7,6 +7,7 @@ functions count as those at the top do.
 """
 import ast
 import sys
+from functools import lru_cache
 
 from style import TOP, files
 
@@ -22,10 +23,15 @@ def named(tree):
             yield from (["%s.%s" % (node.module, alias.name), node.module] for alias in node.names)
 
 
+@lru_cache(maxsize=None)
+def folders_for(folder):
+    """Those in which modules of a folder look for others."""
+    return [one for one in (folder, *folder.parents) if one == TOP or TOP in one.parents] + [PACKAGES]
+
+
 def file_of(name, path, known):
     """The file that this name means in the module `path`, if it is one of the known ones."""
-    folders = [folder for folder in path.parents if folder == TOP or TOP in folder.parents] + [PACKAGES]
-    for folder in folders:
+    for folder in folders_for(path.parent):
         found = folder.joinpath(*name.split(".")).with_suffix(".py")
         if found in known:
             return found

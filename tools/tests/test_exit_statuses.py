@@ -1,11 +1,14 @@
 """Each command ends with the exit statuses that its --help names, as far as no compiler is needed."""
 import os
 import re
-import subprocess
+import sys
 import tempfile
 import unittest
+from types import SimpleNamespace
 
-TOOLS = os.path.dirname(os.path.dirname(os.path.abspath(__file__)))
+from spanprof.front.command import main
+from spanprof.front.routes import main_of
+
 TEXT = "omptasks 1\nwork 1\n"
 CASES = {  # by tool, words and the status with which they end it; {text} and {log} are there, {none} is not
     "record": (("--nothing", 2), ("/bin/true", 125), ("{none}", 127), ("{text}", 126)),
@@ -28,6 +31,17 @@ def reported_in(words):
     return set(map(int, re.findall(r"\b\d+\b", sentence))) - {0}
 
 
+def end_with_status(tool, words):
+    """Nothing of what this process does at its end is done twice."""
+    try:
+        main("spanprof-" + tool, words)
+    except SystemExit as end:
+        sys.stdout.flush()
+        os._exit(end.code or 0)
+    finally:
+        os._exit(255)
+
+
 class Statuses(unittest.TestCase):
     def setUp(self):
         kept = tempfile.TemporaryDirectory()
@@ -41,12 +55,22 @@ class Statuses(unittest.TestCase):
         self.path = kept.name + os.pathsep + os.environ["PATH"]
 
     def run_tool(self, tool, words):
+        """In a child of this process, which has imported all of it."""
         words = [word.format(**self.names) for word in words.split()]
-        return subprocess.run([os.path.join(TOOLS, "spanprof-" + tool), *words], capture_output=True, text=True,
-                              env={**os.environ, "SPANPROF_LARGE": "/bin/true", "PATH": self.path}, check=False)
+        with tempfile.TemporaryFile("w+") as stdout, tempfile.TemporaryFile("w+") as stderr:
+            child = os.fork()
+            if not child:
+                os.environ.update({"SPANPROF_LARGE": "/bin/true", "PATH": self.path})
+                os.dup2(stdout.fileno(), 1)
+                os.dup2(stderr.fileno(), 2)
+                end_with_status(tool, words)
+            status = os.waitstatus_to_exitcode(os.waitpid(child, 0)[1])
+            stdout.seek(0), stderr.seek(0)
+            return SimpleNamespace(returncode=status, stdout=stdout.read(), stderr=stderr.read())
 
     def test_each(self):
         for tool, cases in CASES.items():
+            main_of(tool)   # imports it
             usage = self.run_tool(tool, "--help")
             self.assertEqual((usage.returncode, usage.stderr), (0, ""), tool)
             for words, status in cases:
