@@ -5,8 +5,8 @@ import shlex
 import subprocess
 
 from measured import what_was_measured_is_reported
-from timelines import (fingers_are_reported, fingers_zoom, names_stand_in_bars, runs_zoom_by_themselves,
-                       segments_are_chosen)
+from timelines import (fingers_are_reported, fingers_zoom, names_stand_in_bars, regions_and_threads_are_chosen,
+                       runs_zoom_by_themselves, segments_are_chosen)
 
 TOP = os.path.dirname(os.path.dirname(os.path.dirname(os.path.dirname(os.path.abspath(__file__)))))
 WHATIF = os.path.join(TOP, "tools", "spanprof-whatif")
@@ -178,7 +178,7 @@ def focus_goes_through(page):
     """By Tab alone one comes to each kind of control."""
     page.evaluate("document.activeElement.blur()")
     seen = set()
-    for _ in range(page.evaluate("document.querySelectorAll('a, button, input, summary, [tabindex]').length") + 1):
+    for _ in range(page.evaluate("document.querySelectorAll('a, button, select, input, summary, [tabindex]').length") + 1):
         page.key("Tab")
         seen.add(page.evaluate("document.activeElement.className || document.activeElement.tagName"))
         if {"lanes", "BUTTON", "SUMMARY"} <= seen:
@@ -196,7 +196,7 @@ def drive(page, text, program):
     if has_timeline(page):
         trials += [focus_goes_through, keys_zoom_and_move, letters_zoom_and_move, a_key_goes_along_the_path,
                    mouse_tells, mouse_zooms_and_moves, names_stand_in_bars, segments_are_chosen,
-                   runs_zoom_by_themselves, fingers_are_reported, fingers_zoom]
+                   runs_zoom_by_themselves, regions_and_threads_are_chosen, fingers_are_reported, fingers_zoom]
     for trial in trials:
         yield from trial(page)
     yield from what_was_measured_is_reported(page, text)

@@ -1,4 +1,5 @@
 """What a timeline does beside zoom and movement: names, choice, fingers. Each trial yields faults."""
+import json
 
 
 def widest(page):
@@ -58,6 +59,35 @@ def runs_zoom_by_themselves(page):
                      "document.querySelector('details.greedy').hasAttribute('open') : false"):
         yield "the greedy schedule is not folded away"
     show_all(page)
+
+
+def choose(page, what, index):
+    """Chooses so in the first timeline, where there is such a choice; its value, or nothing."""
+    return page.evaluate("""((what, index) => {
+      const select = allLanes[0].figure.querySelector('[data-choose=' + what + ']');
+      if (!select) return null;
+      select.selectedIndex = index;
+      select.dispatchEvent(new Event('change'));
+      allLanes[0].draw();
+      return select.value;
+    })(%s, %d)""" % (json.dumps(what), index))
+
+
+def regions_and_threads_are_chosen(page):
+    """A region is shown as long as it lasted, a thread alone; then all again."""
+    shown = "[allLanes[0].stretch.from, allLanes[0].stretch.to, allLanes[0].rows.length]"
+    before, region = page.evaluate(shown), choose(page, "region", 1)
+    if region:
+        begin, end = map(float, region.split())
+        first, last, _ = page.evaluate(shown)
+        if not first <= begin + 0.01 * (last - first) or not last >= end - 0.01 * (last - first):
+            yield "of the region from %s to %s %s to %s is shown" % (begin, end, first, last)
+    choose(page, "region", 0)
+    if choose(page, "thread", 2) and page.evaluate(shown)[2] != 1:
+        yield "one thread is chosen, and %d are shown" % page.evaluate(shown)[2]
+    choose(page, "thread", 0)
+    if page.evaluate(shown) != before:
+        yield "%s are shown after a choice, and %s before it" % (page.evaluate(shown), before)
 
 
 def fingers_are_reported(page):

@@ -3,10 +3,10 @@
 const MOST_ARROWS = 40;     // in each direction
 
 function arrow(lanes, name, from, to) {
-  const a = lanes.barOf(from), b = lanes.barOf(to), rowOf = (segment) => lanes.run.where.get(segment).row;
+  const a = lanes.barOf(from), b = lanes.barOf(to);
   const clamped = (x) => Math.max(LEFT - 4, Math.min(x, lanes.width + 4));
   const [x0, x1] = [clamped(lanes.x(a.end)), clamped(lanes.x(b.start))];
-  const [y0, y1] = [from, to].map((segment) => lanes.top(rowOf(segment)) + lanes.height / 2 - 2);
+  const [y0, y1] = [from, to].map((segment) => lanes.top(lanes.rowOf(segment)) + lanes.height / 2 - 2);
   const bend = Math.max(14, Math.abs(x1 - x0) / 2).toFixed(1);
   return `<path class="${name}" d="M${x0.toFixed(1)} ${y0}c${bend} 0 ${(x1 - x0 - bend).toFixed(1)} ${y1 - y0} ` +
     `${(x1 - x0).toFixed(1)} ${y1 - y0}"/><path class="${name} head" d="M${x1.toFixed(1)} ${y1}l-6 -3.5v7z"/>`;
@@ -15,8 +15,9 @@ function arrow(lanes, name, from, to) {
 function arrowsOf(lanes) {
   const { chosen } = lanes, { waits } = program;
   if (!waits || !lanes.barOf(chosen)) return "";
-  const before = neighbours(lanes, waits.before, chosen).sort((a, b) => lanes.run.ends[b] - lanes.run.ends[a]);
-  const after = neighbours(lanes, waits.after, chosen).sort((a, b) => lanes.run.starts[a] - lanes.run.starts[b]);
+  const shown = (of) => neighbours(lanes, of, chosen).filter((segment) => lanes.barOf(segment)), { run } = lanes;
+  const before = shown(waits.before).sort((a, b) => run.ends[b] - run.ends[a]);
+  const after = shown(waits.after).sort((a, b) => run.starts[a] - run.starts[b]);
   return [...before.slice(0, MOST_ARROWS).map((s) => arrow(lanes, "waited", s, chosen)),
     ...after.slice(0, MOST_ARROWS).map((s) => arrow(lanes, "waits", chosen, s))].join("");
 }
@@ -27,8 +28,8 @@ function choose(lanes, segment) {
   lanes.chosen = segment;
   lanes.stretch.reveal(bar.start, bar.end);
   lanes.draw();
-  const box = lanes.element.getBoundingClientRect(), { row } = lanes.run.where.get(segment);
-  showTip(lanes.words([bar]), box.left + Math.max(lanes.x(bar.start), LEFT), box.top + lanes.top(row + 1), lanes);
+  const box = lanes.element.getBoundingClientRect(), below = lanes.top(lanes.rowOf(segment) + 1);
+  showTip(lanes.words([bar]), box.left + Math.max(lanes.x(bar.start), LEFT), box.top + below, lanes);
 }
 
 function leave(lanes) {

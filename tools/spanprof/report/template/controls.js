@@ -114,7 +114,23 @@ function listenToControls(lanes) {
   }));
 }
 
-for (const listen of [listenToKeys, listenToZoom, listenToPointer, listenToControls]) allLanes.forEach(listen);
+const CHOICES = {
+  region: (lanes, value) => {
+    const [from, to] = value ? value.split(" ").map(Number) : [0, lanes.stretch.whole];
+    lanes.stretch.show(from, to - from);
+  },
+  thread: (lanes, value) => lanes.showThread(value),
+};
+function listenToChoices(lanes) {
+  lanes.figure.querySelectorAll("[data-choose]").forEach((select) => select.addEventListener("change", () => {
+    CHOICES[select.dataset.choose](lanes, select.value);
+    drawSoon(lanes);
+  }));
+}
+
+for (const listen of [listenToKeys, listenToZoom, listenToPointer, listenToControls, listenToChoices]) {
+  allLanes.forEach(listen);
+}
 document.querySelectorAll("details").forEach((part) => part.addEventListener("toggle", () => {
   allLanes.filter((lanes) => part.contains(lanes.element)).forEach((lanes) => lanes.draw());
 }));

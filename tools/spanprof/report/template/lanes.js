@@ -17,9 +17,13 @@ class Lanes {
     this.element = element;
     this.figure = element.closest("figure");
     this.run = program.runs[element.dataset.run];
-    this.rows = this.run.rows;
     this.stretch = new Stretch(this.run.end);
     this.chosen = null;         // a segment
+    this.showThread("");
+  }
+  showThread(number) {          // or all threads
+    this.threads = number ? [Number(number)] : [...this.run.rows.keys()];
+    this.rows = this.threads.map((thread) => this.run.rows[thread]);
     this.height = rowHeight(this.rows.length);
   }
   get scale() { return (this.width - LEFT) / this.stretch.length; }
@@ -27,10 +31,8 @@ class Lanes {
   x(time) { return LEFT + (time - this.stretch.from) * this.scale; }
   time(x) { return this.stretch.from + (x - LEFT) / this.scale; }
   top(row) { return 2 + row * this.height; }
-  barOf(segment) {
-    const place = this.run.where.get(segment);
-    return place && this.rows[place.row][place.index];
-  }
+  rowOf(segment) { return this.threads.indexOf(this.run.where.get(segment)?.row); }
+  barOf(segment) { return this.rows[this.rowOf(segment)]?.[this.run.where.get(segment).index]; }
 
   draw() {
     this.width = this.element.clientWidth;
@@ -38,7 +40,7 @@ class Lanes {
     const paths = new Paths(), names = [];
     this.rows.forEach((row, i) => this.drawRow(paths, names, row, i));
     this.element.innerHTML = `<svg viewBox="0 0 ${this.width} ${this.bottom + AXIS}"><rect class="back" x="${LEFT}" ` +
-      `y="0" width="${this.width - LEFT}" height="${this.bottom}"/>${this.axis()}${this.threads()}${paths}` +
+      `y="0" width="${this.width - LEFT}" height="${this.bottom}"/>${this.axis()}${this.numbers()}${paths}` +
       `${names.join("")}${arrowsOf(this)}${this.chosenBox()}</svg>`;
     this.figure.querySelector(".stretch").textContent = `Shown: ${this.tellStretch(this.stretch)}.`;
   }
@@ -71,17 +73,17 @@ class Lanes {
     }
     return out.join("");
   }
-  threads() {
+  numbers() {
     const every = Math.ceil(14 / this.height);
-    return this.rows.map((_, i) => (i % every ? "" :
-      `<text x="${LEFT - 6}" y="${this.top(i) + this.height / 2 + 4}" text-anchor="end">${i}</text>`)).join("");
+    return this.threads.map((thread, i) => (i % every ? "" :
+      `<text x="${LEFT - 6}" y="${this.top(i) + this.height / 2 + 4}" text-anchor="end">${thread}</text>`)).join("");
   }
   chosenBox() {
     const bar = this.barOf(this.chosen);
     if (!bar) return "";
     const left = Math.max(this.x(bar.start), LEFT), right = Math.min(this.x(bar.end), this.width);
     return right < left ? "" : `<rect class="cursor" x="${left - 1}" ` +
-      `y="${this.top(this.run.where.get(this.chosen).row) - 1}" width="${Math.max(right - left, 1) + 2}" ` +
+      `y="${this.top(this.rowOf(this.chosen)) - 1}" width="${Math.max(right - left, 1) + 2}" ` +
       `height="${this.height - 1}"/>`;
   }
 

@@ -2,7 +2,9 @@
 import re
 import unittest
 from html import unescape
+from unittest.mock import patch
 
+from spanprof.regions import Program, Region
 from spanprof.remarks import remark_of
 from spanprof.report.part_curve import curve_part, step_of
 from spanprof.report.part_diagnosis import first_part
@@ -24,9 +26,9 @@ def seen(piece):
 
 class Patched(unittest.TestCase):
     def setUp(self):
-        patch = worked.patched()
-        patch.start()
-        self.addCleanup(patch.stop)
+        patched = worked.patched()
+        patched.start()
+        self.addCleanup(patched.stop)
 
 
 class Numbers(Patched):
@@ -114,6 +116,16 @@ class OfOneProgram(Patched):
     def test_a_run_with_times_is(self):
         view = worked.view("split")
         self.assertIn("The run as it was , 2 threads , 28 µs", seen(timeline_part(view)))
+        self.assertIn("all threads thread 0 thread 1", seen(timeline_part(view)))
+
+    def test_regions_are_chosen(self):
+        view = worked.view("split")
+        regions = [Region(1 + i, 0, *stretch, 2, 0, 0, 0, 0, place) for i, (*stretch, place) in enumerate(
+            ((0, 9000, "a.c:1"), (9000, 10000, "b.c:2"), (10000, 20000, "a.c:1"), (20000, 20500, "")))]
+        with patch("spanprof.report.part_timeline.program_of", return_value=Program(28000, regions)):
+            found = timeline_part(view)
+        self.assertIn("the whole run region at a.c:1, the longest of 2 region at b.c:2 a region", seen(found))
+        self.assertIn('value="10.000 20.000"', found)
 
     def test_no_run(self):
         view = worked.view("plain")
