@@ -178,7 +178,8 @@ def focus_goes_through(page):
     """By Tab alone one comes to each kind of control."""
     page.evaluate("document.activeElement.blur()")
     seen = set()
-    for _ in range(page.evaluate("document.querySelectorAll('a, button, select, input, summary, [tabindex]').length") + 1):
+    able = "a, button, select, input, summary, [tabindex]"
+    for _ in range(page.evaluate("document.querySelectorAll('%s').length" % able) + 1):
         page.key("Tab")
         seen.add(page.evaluate("document.activeElement.className || document.activeElement.tagName"))
         if {"lanes", "BUTTON", "SUMMARY"} <= seen:
