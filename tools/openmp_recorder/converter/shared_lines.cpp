@@ -203,7 +203,7 @@ std::vector<Contended> contending(const Stacks &stacks, const ModulesOfRun &modu
         auto *place = reinterpret_cast<const void *>(module.base + use.code + 1);
         uint64_t address = address_of(use, one.registers, module);
         all.push_back({i, address, one.thread, one.wall, use.writes, place, use.is_atomic});
-        strides.meet(i, one.thread, use, address, one.registers);
+        strides.meet(i, use, one.registers);
       }
     }
     wide.merge(strides.wide());

@@ -113,26 +113,23 @@ Caches caches_of_machine() {
   return {bytes(_SC_LEVEL1_DCACHE_SIZE, usual_first), bytes(_SC_LEVEL2_CACHE_SIZE, usual_second)};
 }
 
-void Strides::meet(size_t sample, unsigned thread, const MemoryUse &use, uint64_t address, const Registers &registers) {
+void Strides::meet(size_t sample, const MemoryUse &use, const Registers &registers) {
   auto [walk, is_new] = walks.try_emplace(use.code);
   if (is_new) walk->second = walk_of(code, use);
-  if (!walk->second || !walk->second->is_sparse || std::llabs(stride_of(*walk->second, registers)) < line_bytes) return;
+  if (!walk->second || !walk->second->is_sparse) return;
+  int64_t stride = std::llabs(stride_of(*walk->second, registers));
+  if (stride < line_bytes) return;
   Far &found = far[use.code];
   found.samples.push_back(sample);
-  found.lines = std::max(found.lines, turns_left(*walk->second, registers) * walk->second->uses);
-  auto [range, is_first] = found.ranges.try_emplace(thread, address, address);
-  range->second = {std::min(range->second.first, address), std::max(range->second.second, address)};
-}
-
-bool Strides::is_wide(const Far &found) const {
-  return found.lines << line_bits >= caches.first &&
-         std::any_of(found.ranges.begin(), found.ranges.end(),
-                     [&](auto &one) { return one.second.second - one.second.first >= caches.second; });
+  uint64_t uses = turns_left(*walk->second, registers) * walk->second->uses;
+  found.lines = std::max(found.lines, uses);
+  found.bytes = std::max(found.bytes, uses * static_cast<uint64_t>(stride));
 }
 
 std::set<size_t> Strides::wide() const {
   std::set<size_t> out;
   for (auto &[use, found] : far)
-    if (is_wide(found)) out.insert(found.samples.begin(), found.samples.end());
+    if (found.lines << line_bits >= caches.first && found.bytes >= caches.second)
+      out.insert(found.samples.begin(), found.samples.end());
   return out;
 }

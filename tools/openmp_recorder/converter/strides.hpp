@@ -1,7 +1,7 @@
 // How far apart the memory is that a loop uses from turn to turn, by its instructions and the registers of samples.
 // Where that is a cache line or more, each element costs a line, unless the turn uses what stands next to it. Where the
-// loop uses more lines than the first cache has, and its thread more memory than the second one, each line comes from
-// far, and is gone before the element next to it is used.
+// loop uses more lines than the first cache has, of more memory than the second one, each line comes from far, and is
+// gone before the element next to it is used.
 #pragma once
 #include <map>
 #include <optional>
@@ -34,16 +34,14 @@ Caches caches_of_machine();
 class Strides {
  public:
   Strides(const Instructions &code, Caches caches) : code(code), caches(caches) {}
-  void meet(size_t sample, unsigned thread, const MemoryUse &use, uint64_t address, const Registers &registers);
+  void meet(size_t sample, const MemoryUse &use, const Registers &registers);
   std::set<size_t> wide() const;  // the samples of uses that cost a line for each element
 
  private:
   struct Far {
     std::vector<size_t> samples;
-    uint64_t lines = 0;  // of the longest loop
-    std::map<unsigned, std::pair<uint64_t, uint64_t>> ranges;  // of addresses, by thread
+    uint64_t lines = 0, bytes = 0;  // from the first to the last element of the longest loop
   };
-  bool is_wide(const Far &found) const;
 
   const Instructions &code;
   const Caches caches;

@@ -171,17 +171,8 @@ TEST(a_loop_that_changes_anything_waits_for_nobody) {
   EXPECT(waits({"mov    (%rdi),%eax", "test   %eax,%eax", "jne    30 <f>"}), false);
 }
 
-// A loop of samples in the midst of it and near its end, in caches of 512 and 4,096 lines.
-bool is_wide(const Instructions &code, const Registers &registers, uint64_t apart = 262144) {
-  Strides strides(code, {32768, 262144});
-  for (uint64_t address : {uint64_t{0}, apart})
-    for (MemoryUse &use : used_near(code, 14)) strides.meet(7, 1, use, address, registers);
-  return strides.wide().count(7) == 1;
-}
-
 TEST(a_loop_that_goes_down_a_column_uses_a_line_for_each_element) {
-  auto is_wide_by = [](uint64_t stride, uint64_t turns, const char *step = "add    %rdx,%rax",
-                       uint64_t apart = 262144) {
+  auto is_wide = [](uint64_t stride, uint64_t turns, const char *step = "add    %rdx,%rax") {
     Instructions code{{10, "movss  (%rax),%xmm0"},
                       {14, step},
                       {17, "addss  %xmm0,%xmm1"},
@@ -189,14 +180,16 @@ TEST(a_loop_that_goes_down_a_column_uses_a_line_for_each_element) {
                       {24, "jne    a"}};
     Registers registers{};
     registers[0] = 0x10000, registers[1] = stride, registers[2] = 0x10000 + turns * stride;
-    return is_wide(code, registers, apart);
+    Strides strides(code, {32768, 262144});
+    for (MemoryUse &use : used_near(code, 14)) strides.meet(7, use, registers);
+    return strides.wide().count(7) == 1;
   };
-  EXPECT(is_wide_by(4096, 512), true);
-  EXPECT(is_wide_by(8, 100000), false);
-  EXPECT(is_wide_by(4096, 500), false);  // whose lines are still there in the next column
-  EXPECT(is_wide_by(4096, 512, "add    %rdx,%rax", 65536), false);  // all of it stays in the second cache
-  EXPECT(is_wide_by(4096, 2000, "mov    (%rbx),%rax"), false);
-  EXPECT(is_wide_by(64, 2000, "lea    (%rax,%rdx,2),%rax"), true);
+  EXPECT(is_wide(4096, 512), true);
+  EXPECT(is_wide(8, 100000), false);
+  EXPECT(is_wide(4096, 500), false);  // whose lines are still there in the next column
+  EXPECT(is_wide(128, 2000), false);  // all of it stays in the second cache
+  EXPECT(is_wide(4096, 2000, "mov    (%rbx),%rax"), false);
+  EXPECT(is_wide(256, 2000, "lea    (%rax,%rdx,2),%rax"), true);
 }
 
 TEST(adjacent_elements_of_a_loop_that_is_unrolled_share_lines) {
@@ -216,10 +209,10 @@ TEST(adjacent_elements_of_a_loop_that_is_unrolled_share_lines) {
 TEST(long_walks_with_small_strides_do_not_count_for_short_ones_with_wide_strides) {
   Instructions code{{10, "movb   $0x1,(%rax)"}, {14, "add    %rdx,%rax"}, {21, "cmp    %rcx,%rax"}, {24, "jne    a"}};
   Strides strides(code, {32768, 262144});
-  for (auto [stride, address] : {std::pair<uint64_t, uint64_t>{3, 0}, {1021, 0}, {3, 1000000}, {1021, 1000000}}) {
+  for (uint64_t stride : {3, 10210}) {
     Registers registers{};
-    registers[1] = stride, registers[2] = 65536;
-    for (MemoryUse &use : used_near(code, 14)) strides.meet(0, 1, use, address, registers);
+    registers[1] = stride, registers[2] = 1000000;
+    for (MemoryUse &use : used_near(code, 14)) strides.meet(0, use, registers);
   }
   EXPECT(strides.wide().size(), 0u);
 }
