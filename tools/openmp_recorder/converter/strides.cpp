@@ -4,8 +4,9 @@
 #include <cstdlib>
 
 namespace {
-constexpr int64_t line_bytes = 64;
+constexpr uint64_t line_bytes = 64;
 constexpr uint64_t lines_near = 512;  // of a processor's first cache, of 32 KB or little more
+constexpr uint64_t bytes_near = 1 << 18;  // of its second one, or less
 constexpr unsigned most_between = 4;  // instructions between a loop's comparison and its jump
 
 using Steps = std::vector<std::pair<int, int64_t>>;
@@ -40,13 +41,28 @@ bool add_steps(const Loop &loop, int of, int64_t times, int64_t &bytes, Steps &b
   return true;
 }
 
-unsigned uses_in(const Loop &loop, const MemoryUse &use) {
+// Where a turn uses memory by the same registers.
+std::vector<uint64_t> uses_in(const Loop &loop, const MemoryUse &use) {
   bool by_base = use.base >= 0 && is_written(loop, use.base), by_index = use.index >= 0 && is_written(loop, use.index);
-  auto is_same = [&](auto &one) {
-    std::optional<MemoryUse> other = memory_use(one.second);
-    return other && (!by_base || other->base == use.base) && (!by_index || other->index == use.index);
-  };
-  return static_cast<unsigned>(std::count_if(loop.first, loop.last, is_same));
+  std::vector<uint64_t> out;
+  for (auto one = loop.first; one != loop.last; ++one) {
+    std::optional<MemoryUse> other = memory_use(one->second);
+    if (other && (!by_base || other->base == use.base) && (!by_index || other->index == use.index))
+      out.push_back(other->displacement);
+  }
+  return out;
+}
+
+// Whether elements that lie as near each other as the nearest ones do make up half of their lines.
+bool fill_lines(const std::vector<uint64_t> &uses) {
+  std::set<uint64_t> all(uses.begin(), uses.end()), lines;
+  uint64_t nearest = line_bytes, last = 0;
+  for (uint64_t at : all) {
+    if (!lines.empty()) nearest = std::min(nearest, at - last);
+    lines.insert(at / line_bytes);
+    last = at;
+  }
+  return all.size() > lines.size() && 2 * all.size() * nearest >= lines.size() * line_bytes;
 }
 
 void set_end(const Loop &loop, Walk &walk) {
@@ -72,7 +88,9 @@ std::optional<Walk> walk_of(const Instructions &code, const MemoryUse &use) {
   if (!loop || !add_steps(*loop, use.base, 1, walk.bytes, walk.by) ||
       !add_steps(*loop, use.index, use.scale, walk.bytes, walk.by))
     return std::nullopt;
-  walk.uses = std::max(1u, uses_in(*loop, use));
+  std::vector<uint64_t> uses = uses_in(*loop, use);
+  walk.uses = std::max(1u, static_cast<unsigned>(uses.size()));
+  walk.fills_lines = fill_lines(uses);
   set_end(*loop, walk);
   return walk;
 }
@@ -93,14 +111,16 @@ void Strides::meet(size_t sample, const MemoryUse &use, const Registers &registe
   auto [walk, is_new] = walks.try_emplace(use.code);
   if (is_new) walk->second = walk_of(code, use);
   if (!walk->second) return;
-  uint64_t &most = longest[use.code];
-  most = std::max(most, turns_left(*walk->second, registers) * walk->second->uses);
-  if (std::llabs(stride_of(*walk->second, registers)) >= line_bytes) far.emplace_back(sample, use.code);
+  Reach &most = longest[use.code];
+  auto stride = static_cast<uint64_t>(std::llabs(stride_of(*walk->second, registers)));
+  uint64_t lines = turns_left(*walk->second, registers) * walk->second->uses;
+  most = {std::max(most.lines, lines), std::max(most.bytes, lines * stride)};
+  if (stride >= line_bytes && !walk->second->fills_lines) far.emplace_back(sample, use.code);
 }
 
 std::set<size_t> Strides::wide() const {
   std::set<size_t> out;
   for (auto [sample, use] : far)
-    if (longest.at(use) >= lines_near) out.insert(sample);
+    if (const Reach &most = longest.at(use); most.lines >= lines_near && most.bytes >= bytes_near) out.insert(sample);
   return out;
 }

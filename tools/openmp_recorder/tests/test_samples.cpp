@@ -188,7 +188,23 @@ TEST(a_loop_that_goes_down_a_column_uses_a_line_for_each_element) {
   EXPECT(is_wide(8, 100000), false);
   EXPECT(is_wide(4096, 32), false);  // a block, whose lines are still there in the next column
   EXPECT(is_wide(4096, 1000, "mov    (%rbx),%rax"), false);
-  EXPECT(is_wide(64, 2000, "lea    (%rax,%rdx,2),%rax"), true);
+  EXPECT(is_wide(256, 2000, "lea    (%rax,%rdx,2),%rax"), true);
+  EXPECT(is_wide(80, 3000), false);  // of memory that is near
+}
+
+TEST(a_turn_that_uses_most_of_its_lines_wastes_none) {
+  auto is_wide = [](const char *first, const char *second) {
+    Instructions code{
+        {10, first}, {14, second}, {18, "add    $0x900,%rax"}, {22, "cmp    %rcx,%rax"}, {24, "jne    a"}};
+    Registers registers{};
+    registers[2] = 576 * 0x900;
+    Strides strides(code);
+    for (MemoryUse &use : used_near(code, 14)) strides.meet(7, use, registers);
+    return strides.wide().count(7) == 1;
+  };
+  EXPECT(is_wide("movups -0x20(%rax),%xmm0", "movups -0x10(%rax),%xmm1"), false);
+  EXPECT(is_wide("movss  (%rax),%xmm0", "movss  0x4(%rax),%xmm1"), true);
+  EXPECT(is_wide("movss  (%rax),%xmm0", "movss  0x120(%rax),%xmm1"), true);
 }
 
 TEST(adjacent_elements_of_a_loop_that_is_unrolled_share_lines) {
