@@ -64,7 +64,8 @@ def bound_of(facts, now, loss, found=()):
     elif loss.kind == "strides" or loss.kind == "memory" and facts.cost_on_one is None:
         uses = facts.calls.strides if loss.kind == "strides" else facts.calls.shares
         low = left(facts, now, loss._replace(time=max(loss.time, slowed_lines(facts, loss.place, uses))), found)
-    return Step(loss.kind, loss.place, now, after, low, int(now - BOUND_LEAST * (now - after)))
+    return Step(loss.kind, loss.place, now, after, low, int(now - BOUND_LEAST * (now - after)),
+                is_between=0 < low < after)
 
 
 def while_asleep(facts, bench, step):

@@ -152,12 +152,15 @@ class Bench:
     def greedy_end(self, requests):
         if not requests:
             return self.end_on(self.facts.usable)
-        made = changes(requests, self.seen, self.costs)
-        lines = applied(self.kept, made).text()
-        if not all(one.count for one in made):
-            return None
-        end = greedy_end(lines, self.facts.usable)
+        text = self.text_with(requests)
+        end = greedy_end(text, self.facts.usable) if text else None
         return end * self.unit if end is not None else None
+
+    def text_with(self, requests):
+        """None where they change nothing."""
+        made = changes(requests, self.seen, self.costs)
+        text = applied(self.kept, made).text()
+        return text if all(one.count for one in made) else None
 
     def one(self, before, change):
         """None where it cannot be made, or there is no time."""

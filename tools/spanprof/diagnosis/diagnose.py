@@ -7,6 +7,7 @@ from spanprof.diagnosis.causes import BUSY, BY_KIND, EFFICIENT, SECOND
 from spanprof.diagnosis.losses import NO_CAUSE, OF_SHAPE, Loss, code_on_one, least_of, losses, merged
 from spanprof.diagnosis.own_code import interpreted_time, is_interpreter
 from spanprof.diagnosis.plan import best_of, step_of, steps_after
+from spanprof.diagnosis.runtime_schedule import as_scheduled
 
 POOL = 0.25     # of what the shape lost, that a change wins back of whose kind it is then
 
@@ -115,5 +116,7 @@ def diagnose(facts, bench=None):
     if not any(BY_KIND[loss.kind].is_of_program and not is_interpreter(loss.place) for loss in causes):
         return Diagnosis(facts, found, causes, code_on_one=code)
     first = best_of(steps)
+    if first and bench:
+        first = as_scheduled(facts, bench, first)
     plan = steps_after(facts, bench, found, first, steps) if first and bench else [first] if first else []
     return Diagnosis(facts, found, causes, plan, steps, code)

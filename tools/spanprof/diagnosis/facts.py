@@ -120,6 +120,11 @@ class Facts:
         return max(1, min(self.target, self.processors or self.target))
 
     @property
+    def is_on_gcc(self):
+        """Whether gcc's runtime ran it."""
+        return self.runtime.startswith(RUNTIMES["gnu"])
+
+    @property
     def has_tasks(self):
         """Whether the program makes any: a region's threads have code of their own that is a task in the text."""
         return any(place.tasks for place in self.places.values() if place.kind == TASK)
@@ -326,7 +331,7 @@ def set_meta(facts, meta):
     facts.asked, facts.processors = threads.get("asked"), meta.get("processors")
     facts.of_machine = host.get("host_processors")
     facts.runtime = runtime_name(meta.get("runtime") or {})
-    facts.is_of_gcc = facts.is_of_gcc or facts.runtime.startswith(RUNTIMES["gnu"])
+    facts.is_of_gcc = facts.is_of_gcc or facts.is_on_gcc
     facts.is_imported = bool(meta.get("imported"))
     facts.runs = len(meta.get("runs") or [1])
     facts.usage, facts.children = usage or None, meta.get("children_ns") or 0

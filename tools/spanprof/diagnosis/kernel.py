@@ -24,8 +24,8 @@ def begun(facts):
 
 def system_time(facts):
     """Of code in the kernel, other than that before all constructs, or than the first use of memory. Idle threads are
-    in the kernel too, where they yield the processor: code is there for its page faults, by samples in calls, and for
-    what it lasted longer than all time outside."""
+    in the kernel too, where they yield the processor: code is there for its page faults, and for what it lasted longer
+    than all time outside; or by samples in calls, with what they take on the way."""
     usage = facts.usage or {}
     system, user = usage.get("system_ns") or 0, usage.get("user_ns") or 0
     if not system or system < MUCH_SYSTEM * (system + user):
@@ -33,7 +33,7 @@ def system_time(facts):
     for_faults = min(fault_time(facts), facts.code * system // (system + user))
     first = for_faults * first_use_share(usage)
     by_usage = min(system, max(for_faults, facts.code - user)) - max(begun(facts), int(first))
-    return max(0, by_usage, min(system, calling(facts)))
+    return max(0, by_usage, calling(facts))
 
 
 def calling(facts):

@@ -491,7 +491,7 @@ def losses(facts):
     missing = missing_threads(facts)
     one_place = {**dict.fromkeys(("too_many_threads", "affinity"), crowded_region(facts)),
                  **dict.fromkeys(FINE, finest_name(facts)),
-                 "too_few_threads": max(missing, key=missing.get, default=""),
+                 "too_few_threads": max(missing, key=missing.get, default=""), "system": heaviest_name(facts),
                  "small_regions": most_often(facts, found)}
     known = {"undeferred": heaviest_name(facts)}      # without times too
     placed = [loss._replace(place=one_place.get(loss.kind, loss.place) or known.get(loss.kind, "")) for loss in found]

@@ -399,7 +399,7 @@ def shortened(text, width):
 
 def after_words(step):
     """What the run takes after a step; where samples give no number, between which times it is likely."""
-    if not step.change and 0 < step.low < step.after:
+    if step.is_between:
         return "%s to %s" % (lasting(step.low), lasting(step.high))
     word = "" if step.change else "at best " if step.at_best else "about "
     return word + lasting(step.after)

@@ -18,6 +18,7 @@ class Step:
     likely: float = 1.0
     change: Optional[Change] = None
     is_instead: bool = False    # of the step before it
+    is_between: bool = False    # `low` and `high`: more is not known
     threads: Optional[int] = None       # with which code sleeps while other code runs; 0 where none help
 
     @property

@@ -51,7 +51,8 @@ def parser():
         "(default: wall time without preemption)")
     add("--threads", type=count(1, MOST_THREADS), metavar="P", help="run with OMP_NUM_THREADS=P")
     add("--runs", type=count(1, MOST_RUNS), metavar="N",
-        help="run the program N times, and keep the recording of the run with the median elapsed time")
+        help="run the program N times, and keep the recording of the run with the median elapsed time of those least "
+        "disturbed")
     add("--scale", type=numbers_of_threads, metavar="1,P,..",
         help="measure the true speedup: record the program on the most of these numbers of threads, then run it N "
         "times (--runs, default 5) on each without recording, with what --full adds")

@@ -53,7 +53,8 @@ def tasks_line(answers):
 
 def runs_line(head):
     if head.runs:
-        return "%d, and each cost is that of the run with the median elapsed time (measured)" % head.runs
+        return "%d, and each cost is that of the run with the median elapsed time of those least disturbed "\
+            "(measured)" % head.runs
     return "1; --runs 9 measures the variation"
 
 

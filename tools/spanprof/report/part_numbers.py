@@ -23,7 +23,7 @@ def recorded_words(view):
     clock = CLOCKS.get(head.clock, head.clock)
     unit = "costs in %s of %s" % (view.unit.replace("× ", ""), clock) if head.unit else \
         "costs as declared in the text, not measured"
-    runs = "the one of %d runs with the median elapsed time" % head.runs if head.runs else ""
+    runs = "the one of %d runs with the median elapsed time of those least disturbed" % head.runs if head.runs else ""
     parts = ["recorded from %s" % head.program if head.program else "",
              "the whole program: %s" % head.whole if head.whole else "",
              "the parallel region at %s" % head.region if head.region else "", head.date,

@@ -17,7 +17,7 @@ class InTheKernel(unittest.TestCase):
                                     peak_bytes=first * 4096), lost)
 
     def test_samples_see_what_calls_take_that_idle_threads_hide(self):
-        usage, name = {"user_ns": 90 * MS, "system_ns": 240 * MS}, "task at a.c:1"
+        usage, name = {"user_ns": 90 * MS, "system_ns": 140 * MS}, "task at a.c:1"
         for called, time in (("pread64", 150), ("libc_write", 150), ("memcpy", 110), ("opened", 110)):
             ran = {("main", called + "@libc.so.6"): 75000, ("main", "sum"): 25000}
             run = facts([place(name, cost=200 * MS)], starved=200 * MS, usage=usage, calls=Sampled({name: ran}, {}))

@@ -189,7 +189,8 @@ class WhatTheTextIsNot(unittest.TestCase):
 
     def test_the_spread_of_several_runs(self):
         lines = lines_of(runs=7, spread={"work": (90, 100, 120), "span": (60, 70, 75)})
-        self.assertEqual(lines["runs"], ["7, and each cost is that of the run with the median elapsed time (measured)"])
+        self.assertEqual(lines["runs"], ["7, and each cost is that of the run with the median elapsed time of those "
+                                         "least disturbed (measured)"])
         self.assertTrue(lines["work"][0].startswith("100 us (90 us to 120 us in 7 runs): code"))
         self.assertTrue(lines["span"][0].startswith("70 us (60 us to 75 us in 7 runs): lower bound"))
 
