@@ -1,6 +1,8 @@
 #include "whole_program.hpp"
 
 #include <algorithm>
+#include <utility>
+#include <vector>
 
 #include "pieces.hpp"
 #include "size.hpp"
@@ -32,7 +34,6 @@ void take_over_parts(WholeProgram &whole, Region &region) {
 
 void take_over(WholeProgram &whole, Region &region) {
   whole.regions++;
-  whole.threads = std::max(whole.threads, region.threads);
   whole.cost += region.cost;
   whole.in_tasks += region.cost;
   take_over_parts(whole, region);
@@ -40,6 +41,19 @@ void take_over(WholeProgram &whole, Region &region) {
   for (auto &[what, seen] : region.remarks) whole.remarks[what].add(seen);
   add_differing(whole.differing.made(), region.differing);
   add_differing(whole.asleep.made(), region.asleep);
+}
+
+// At once. A region inside another one has the thread of it that met it.
+unsigned most_threads(const Run &run) {
+  std::vector<std::pair<int64_t, int>> changes;
+  for (auto &[number, region] : run.regions) {
+    int more = static_cast<int>(region->threads) - !region->time.is_outermost;
+    if (region->whole) changes.insert(changes.end(), {{region->time.begin, more}, {region->time.end, -more}});
+  }
+  std::sort(changes.begin(), changes.end());
+  int now = 0, most = 1;
+  for (auto [time, more] : changes) most = std::max(most, now += more);
+  return most;
 }
 
 // What stays as this run divided it: where chunks are not told, or make tasks.
@@ -69,7 +83,7 @@ void finish_whole(Run &run, const RegionTime &time, int64_t unit) {
   whole.work = whole.root->total + (whole.before ? whole.before->work : 0);
   measure_chunks(whole, whole.before ? whole.before->chunks.back() : 0, whole.chunk_list.size());
   whole.in_tasks -= whole.in_parts + whole.in_loops;
-  whole.threads = std::max(whole.threads, 1u);
+  whole.threads = most_threads(run);
   count_loops(whole);
   choose_pieces(whole, unit);
 }

@@ -45,6 +45,13 @@ Made &Made::begin_threads() {
   return *this;
 }
 
+Made &Made::region_inside(uint32_t region, unsigned many, int64_t nanoseconds) {
+  uint32_t own = 10 * region;
+  threads[0]->log.regions.push_back({region, false, time, time + nanoseconds});
+  add(0, RecordKind::ParallelBegin, 1, region).add(0, RecordKind::ImplicitBegin, own, region, 0, many);
+  return after(nanoseconds).barrier(0, own).add(0, RecordKind::ParallelEnd, 1, region);
+}
+
 Made &Made::create(unsigned thread, uint32_t task, uint32_t child, unsigned details, uint64_t place) {
   return add(thread, RecordKind::Create, task, child, details, place);
 }

@@ -295,6 +295,13 @@ TEST(a_region_in_a_task_stands_where_the_task_met_it) {
   EXPECT(made.found.whole->remarks->count(Remark::NestedRegion), 0u);
 }
 
+TEST(threads_are_as_many_as_ran_at_once) {
+  Program made(3);
+  made.region_inside(2, 4, us).region_inside(3, 2, us);
+  end_region(made, 3);
+  EXPECT(made.whole().whole->threads, 3u + 3u);
+}
+
 TEST(a_region_without_a_place_in_another_is_the_programs) {
   Program made;
   made.after(2)

@@ -90,7 +90,6 @@ class Facts:
     locks: list = field(default_factory=list)
     regions: List[Region] = field(default_factory=list)     # inside no other
     inner: List[Region] = field(default_factory=list)       # with threads of their own
-    nested: int = 0                     # threads at once, with those of inner regions
     denied: Dict[str, int] = field(default_factory=dict)    # by inner region that got one thread: what others lost
     tasks_in_regions: bool = True       # or all outside, where there is one thread
     is_of_gcc: bool = False             # some constructs have the line of a statement before them
@@ -128,11 +127,6 @@ class Facts:
     def has_tasks(self):
         """Whether the program makes any: a region's threads have code of their own that is a task in the text."""
         return any(place.tasks for place in self.places.values() if place.kind == TASK)
-
-    @property
-    def most_threads(self):
-        """Those of regions inside others too, of which few may have run at once."""
-        return max(self.threads, self.nested)
 
     @property
     def whole_time(self):
@@ -368,12 +362,6 @@ def regions_inside(program, is_meant):
     return within.values()
 
 
-def nested_threads(program):
-    """How many threads there are at once where regions inside others have several; 0 without such regions."""
-    return max((around.threads + most_together(inner, lambda region: region.threads - 1)
-                for around, *inner in regions_inside(program, lambda region: region.threads > 1)), default=0)
-
-
 def denied_time(program, usable):
     """By place of regions inside others that asked for several threads and got one: the time of threads that no order
     of these wins back, since the longest one lasts longer than all of them would divided, or the team is small."""
@@ -435,7 +423,7 @@ def facts_of(recording, end_of=greedy_end):
     facts = of_text(head, program, numbers)
     set_meta(facts, meta)
     facts.locks, regions = locks_of(recording.file("locks"), head), program_of(path)
-    facts.regions, facts.inner, facts.nested = regions_of(regions), inner_regions(regions), nested_threads(regions)
+    facts.regions, facts.inner = regions_of(regions), inner_regions(regions)
     facts.denied = denied_time(regions, facts.usable)
     facts.tasks_in_regions = not regions or any(region.tasks for region in regions.regions)
     set_off(facts, off, program)

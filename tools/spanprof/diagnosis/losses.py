@@ -335,7 +335,7 @@ def missing_threads(facts):
 def preempt_each_other(facts):
     """Whether more threads than processors do for half of the time in which they are preempted: as long as they use all
     processors, so many of them wait."""
-    more, usage = facts.most_threads - (facts.processors or facts.most_threads), facts.usage or {}
+    more, usage = facts.threads - (facts.processors or facts.threads), facts.usage or {}
     used = (usage.get("user_ns") or 0) + (usage.get("system_ns") or 0)
     return more > 0 and (not used or 2 * used * more >= facts.preempted * facts.processors)
 
@@ -472,7 +472,7 @@ def in_code_losses(facts):
 
 def crowded_region(facts):
     """That with the most threads, or those inside others that together have more; empty where none is known."""
-    if facts.inner and facts.most_threads > max(region.threads for region in facts.regions):
+    if facts.inner and facts.threads > max(region.threads for region in facts.regions):
         return max(facts.inner, key=lambda region: region.times).place
     return max(facts.regions, key=lambda region: region.threads).place if facts.regions else ""
 

@@ -70,7 +70,7 @@ def words_of_memory(facts, names, place):
     alone = (facts.cost_on_one or {}).get(place.name)
     if alone:
         return "%s costs %.1f times as much on %d threads as on one: memory %s" % (
-            names.place(place.name), place.cost / alone, facts.most_threads,
+            names.place(place.name), place.cost / alone, facts.threads,
             "bandwidth" if is_bandwidth(facts, place.name) else "is contended")
     lines = lines_of(facts.calls.shares.get(place.name, Counter()))
     return "threads write the same cache lines at once: %s" % (lines or names.place(place.name))
@@ -141,7 +141,7 @@ def words_of_kernel(facts, names, usage):
 def words_of_run(facts, names):
     usage = facts.usage or {}
     used = (usage.get("user_ns") or 0) + (usage.get("system_ns") or 0)
-    return {"threads": facts.most_threads, "processors": words_of_processors(facts), "usable": facts.usable,
+    return {"threads": facts.threads, "processors": words_of_processors(facts), "usable": facts.usable,
             "all_tasks": grouped(facts.tasks), "average_task": lasting(average_task(facts)),
             "code": "%.0f" % min(100, 100 * facts.code / useful_time(facts, losses(facts))),
             "time": "the rest" if facts.taken else "the time",
@@ -434,7 +434,7 @@ def speed_words(facts):
 def words_of_threads(facts):
     """Those of the run, and its time without what other programs took."""
     alone = ", %s undisturbed" % lasting(facts.now) if facts.now < facts.seen else ""
-    return several(facts.most_threads, "thread") + (" of " + facts.runtime if facts.runtime else "") + alone
+    return several(facts.threads, "thread") + (" of " + facts.runtime if facts.runtime else "") + alone
 
 
 def first_line(found):

@@ -9,6 +9,7 @@ from spanprof.command import show
 from spanprof.diagnosis.compare import compared, lines as comparison_lines
 from spanprof.diagnosis.output import output_of
 from spanprof.errors import Fault
+from spanprof.record.asleep import asleep_in
 from spanprof.record.console import tell
 from spanprof.record.counters import words_of
 from spanprof.record.facts import processor_time
@@ -67,7 +68,7 @@ def print_summary(session, recording, answers, others, news, is_cut):
     account, no_breakdown = recorded_breakdown(answers)
     if options.all or not (diagnosis or is_cut):
         show(summary(answers, news + [why] * bool(why), others, lines_of(account, no_breakdown),
-                     program_of(recording.text)))
+                     program_of(recording.text), asleep_in(recording, answers)))
         show(named("losses", diagnosis.sum_lines() if diagnosis else []) +
              named("counters", words_of(recording.meta.get("counters") or {})))
     if options.json:

@@ -63,23 +63,24 @@ def proved_of_text(head):
     return "(%s)" % proved("proved of the recorded text" + part)
 
 
-def with_spread(number, name, head):
-    """A sum of the text, and beside it the least and the most of several runs."""
+def with_spread(number, name, head, asleep):
+    """A sum of the text, how much of it is sleep, and beside it the least and the most of several runs."""
     words, spread = costs(number, head, name == "span"), head.spread.get(name)
+    slept = ", %s of it asleep" % costs(asleep, head) if asleep else ""
     if not spread:
-        return words
-    return "%s (%s to %s in %d runs)" % (words, costs(spread[0], head), costs(spread[-1], head), head.runs)
+        return words + slept
+    return "%s (%s to %s in %d runs)%s" % (words, costs(spread[0], head), costs(spread[-1], head), head.runs, slept)
 
 
-def work_line(answers):
+def work_line(answers, asleep):
     head = answers.head
     of = "one thread" if head.threads == 1 else threads_of(head) or "all threads"
-    return "%s: code of %s (measured)" % (with_spread(answers.work, "work", head), of)
+    return "%s: code of %s (measured)" % (with_spread(answers.work, "work", head, asleep), of)
 
 
-def span_line(answers):
+def span_line(answers, asleep):
     head, why_not = answers.head, against_span(answers.head)
-    number = with_spread(answers.span, "span", head)
+    number = with_spread(answers.span, "span", head, asleep)
     if why_not:
         return "%s: critical path of the recorded text; %s" % (number, why_not)
     return "%s: lower bound of the run time on any number of threads %s" % (number, proved_of_text(head))
@@ -90,16 +91,20 @@ def parallelism_line(answers):
     number = rounded_up(answers.work, answers.span)
     if why_not:
         return "%s: work / span of the recorded text; %s" % (number, why_not)
-    return "%s: work / span, the greatest speedup on any number of threads %s" % (number, proved_of_text(head))
+    by_lock = "; %s by the lock held longest" % rounded_up(answers.work, head.most_held) \
+        if (head.most_held or 0) > answers.span else ""
+    return "%s: work / span, the greatest speedup on any number of threads %s%s" % (
+        number, proved_of_text(head), by_lock)
 
 
-def elapsed_line(answers):
+def elapsed_line(answers, asleep):
     elapsed = answers.head.elapsed
     if not elapsed:
         return "unknown"
     threads = " on %s" % (threads_of(answers.head) or "all threads")
-    return "%s%s: %.2f of them busy on average (measured)" % (
-        costs(elapsed, answers.head), threads, answers.work / elapsed)
+    slept = ", %.2f asleep" % (asleep / elapsed) if asleep else ""
+    return "%s%s: %.2f of them busy on average%s (measured)" % (
+        costs(elapsed, answers.head), threads, (answers.work - asleep) / elapsed, slept)
 
 
 def threads_shown(answers):
@@ -182,16 +187,17 @@ def named(name, lines):
     return ["%-13s %s" % (name if i == 0 else "", line) for i, line in enumerate(lines)]
 
 
-def summary(answers, news=(), others=(), account=(), program=None):
+def summary(answers, news=(), others=(), account=(), program=None, asleep=(0, 0)):
+    """`asleep` is how much of the work, and of the span."""
     return [title(answers)] \
         + named("program", [program_line(program)] if program and program.regions else []) \
         + named("covers", [covers_line(answers.head)]) \
         + named("tasks", [tasks_line(answers)]) \
         + named("runs", [runs_line(answers.head)]) \
-        + named("work", [work_line(answers)]) \
-        + named("span", [span_line(answers)]) \
+        + named("work", [work_line(answers, asleep[0])]) \
+        + named("span", [span_line(answers, asleep[1])]) \
         + named("parallelism", [parallelism_line(answers)]) \
-        + named("elapsed", [elapsed_line(answers)]) \
+        + named("elapsed", [elapsed_line(answers, asleep[0])]) \
         + named("both clocks", clock_lines(answers.head)) \
         + named("breakdown", account) \
         + named("threads", threads_lines(answers)) \

@@ -9,7 +9,7 @@ from unittest import mock
 from spanprof.diagnosis import facts as module
 from spanprof.diagnosis.calls import RUNTIME, Sampled, calls_of
 from spanprof.diagnosis.diagnose import diagnose
-from spanprof.diagnosis.facts import (Facts, denied_time, function_in, inner_regions, nested_threads,
+from spanprof.diagnosis.facts import (Facts, denied_time, function_in, inner_regions,
                                       of_those_at_once, off_by_segment, regions_of, runtime_name, set_meta, set_off,
                                       set_ranks, set_waiting, starting_shares, stolen_share, used_by_others)
 from spanprof.diagnosis.lock_times import Held, locks_of
@@ -210,12 +210,10 @@ class Starting(unittest.TestCase):
         outer = alone._replace(number=4, begin=90, end=99, threads=4, inside=0)
         nested = alone._replace(number=5, begin=91, end=95, threads=2)
         later, beside = nested._replace(begin=95, end=97, threads=3), nested._replace(begin=94, end=99, threads=4)
-        inner = ((nested,), (nested, later), (nested, beside))
-        programs = [run, None] + [Program(100, [outer, *some]) for some in inner]
-        self.assertEqual([nested_threads(one) for one in programs], [4, 0, 5, 6, 8])
+        programs = [Program(100, [outer, nested, other]) for other in (later, beside)]
         self.assertEqual([(one.place, one.threads, one.times, one.elapsed) for one in inner_regions(run)],
                          [("a.c:2", 4, 1, 50)])
-        self.assertEqual([one.together for some in programs[3:] for one in inner_regions(some)], [1, 2])
+        self.assertEqual([one.together for some in programs for one in inner_regions(some)], [1, 2])
 
     def test_regions_at_one_place_may_have_teams_of_several_sizes(self):
         """Who asked for the smallest is told."""

@@ -285,8 +285,6 @@ class Kinds(unittest.TestCase):
                       regions=[Region("image.c:20", 4, 90 * MS)], inner=[Region("image.c:30", 4, 80 * MS, times=90)])
         self.assertEqual([(one.kind, one.place) for one in diagnose(found).causes],
                          [("too_many_threads", "image.c:30")])
-        run = delayed_at(place(TASKS), nested=16)       # of which no more than four were seen at once
-        self.assertEqual(self.first(run), "too_many_threads")
 
     def test_affinity(self):
         """The machine's processors were idle for longer than the threads waited for them."""

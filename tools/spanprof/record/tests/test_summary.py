@@ -69,6 +69,17 @@ class Lines(unittest.TestCase):
                                       "              mine.2 is not written"])
         self.assertIn("elapsed       unknown", lines)
 
+    def test_sleep_is_no_work_of_the_processors(self):
+        lines = summary(Answers(), asleep=(60, 50))
+        for line in ("work          100 us, 60 us of it asleep: code of 4 threads (measured)",
+                     "elapsed       40 us on 4 threads: 1.00 of them busy on average, 1.50 asleep (measured)"):
+            self.assertIn(line, lines)
+        self.assertIn("span          70 us, 50 us of it asleep: lower bound", "\n".join(lines))
+
+    def test_a_lock_bounds_the_parallelism(self):
+        self.assertTrue(lines_of(most_held=80)["parallelism"][0].endswith("; 1.25 by the lock held longest"))
+        self.assertNotIn("lock", lines_of(most_held=70)["parallelism"][0])
+
     def test_pieces_of_loops_are_no_tasks_of_the_program(self):
         head = Head(region="", whole="1 region, 2 loops in 80 pieces", pieces=80)
         self.assertIn("tasks         8, 80 pieces of loops, 8 implicit tasks; 3 segments (recorded)",
