@@ -5,6 +5,7 @@ OpenMP 5.2, and `// env:` the variables that it needs. Status 0: as the standard
 prints says what was seen and what is right.
 """
 import collections
+import fnmatch
 import math
 import os
 import pathlib
@@ -75,9 +76,9 @@ def source(name):
     return path_of(name).read_text().replace(INCLUDED, (FOLDER / "expect.h").read_text())
 
 
-def cases(match):
-    """Of the programs whose names pass a test."""
-    return [program.case for program in programs() if match(program.name)]
+def cases(pattern):
+    """Of the programs whose names fit a pattern of the shell's."""
+    return [program.case for program in programs() if fnmatch.fnmatchcase(program.name, pattern)]
 
 
 def is_self_checking(case):
