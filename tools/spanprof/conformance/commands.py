@@ -24,8 +24,8 @@ from spanprof.conformance.report.results import Results
 from spanprof.conformance.report.texts import Report
 from spanprof.conformance.run import self_checking
 from spanprof.conformance.run.built import built_in
-from spanprof.conformance.run.campaign import (cases_of, directed_cases, random_cases, run_cases, self_checking_cases,
-                                               telling_first, tried)
+from spanprof.conformance.run.campaign import (cases_of, directed_cases, random_cases, run_cases, telling_first,
+                                               tried)
 from spanprof.conformance.run.journal import Journal
 from spanprof.conformance.run.launch import read_logs
 from spanprof.conformance.run.mutant_campaigns import Campaigns
@@ -64,7 +64,7 @@ def cases_of_run(options, kinds):
     """The directed part and random programs, those that tell most first, how many there are, without a list of all."""
     seeds = seeds_in_turn(options.seed, options.programs)
     randoms = random_cases(seeds, kinds, options.tasks)
-    first = [*directed_cases(kinds, options.tasks, options.match)[0], *self_checking_cases(options.match),
+    first = [*directed_cases(kinds, options.tasks, options.match)[0], *self_checking.cases(options.match),
              *itertools.islice(randoms, FIRST_CASES)]
     more = max(0, options.programs * len(options.tasks) - FIRST_CASES)
     return itertools.chain(telling_first(first), randoms), len(first) + more

@@ -231,7 +231,7 @@ class Emitter:
         self.put(indent, "}")
         self.put(indent, "}")
 
-    def task_body(self, node, indent, its_sum="", copied=""):
+    def task_body(self, node, indent, its_sum, copied):
         around, self.sum, self.cancelled = (self.sum, self.cancelled), "", False
         self.finals += node.final
         self.start(indent)

@@ -35,11 +35,6 @@ def directed_cases(kinds, variants, pattern="*"):
     return cases, [name for name, body in programs if not kinds_of(body) <= kinds]
 
 
-def self_checking_cases(pattern="*"):
-    """Those of the self-checking programs whose names fit a pattern of the shell's."""
-    return self_checking.cases(lambda name: fnmatch.fnmatchcase(name, pattern))
-
-
 def random_cases(seeds, kinds, variants):
     """Cases of random programs. Each is named for its shape and the seed that makes it."""
     for seed in seeds:
@@ -129,10 +124,10 @@ def tried(bench, cases, plan, jobs, seconds=math.inf, count=0):
         yield case, settled
 
 
-def run_cases(bench, cases, plan, jobs, seconds=math.inf):
-    """The results of cases, those that tell most first; none is begun after so many seconds."""
+def run_cases(bench, cases, plan, jobs):
+    """The results of cases, those that tell most first."""
     begun, results = time.monotonic(), Results()
-    for case, tallies in tried(bench, telling_first(cases), plan, jobs, seconds, len(cases)):
+    for case, tallies in tried(bench, telling_first(cases), plan, jobs, count=len(cases)):
         results.add(case, tallies)
     results.seconds = time.monotonic() - begun
     return results

@@ -1,6 +1,5 @@
 """Campaigns on runtimes that were built from changed sources: what `run` tries, in its order, until a program fails."""
 import concurrent.futures
-import math
 import time
 from dataclasses import asdict, dataclass
 
@@ -22,7 +21,7 @@ class Campaign:
         self.how = f"hung: {failure.rule}" if failure.verdict.kind == "hung" else failure.rule
 
 
-def campaign_on(bench, cases, plan, seconds=math.inf):
+def campaign_on(bench, cases, plan, seconds):
     """A campaign on the bench's runtime, which ends once a program has failed, or after so many seconds."""
     begun, found = time.monotonic(), Campaign()
     for case in cases:

@@ -5,7 +5,7 @@ OpenMP 5.2, and `// env:` the variables that it needs. Status 0: as the standard
 prints says what was seen and what is right.
 """
 import collections
-import math
+import fnmatch
 import os
 import pathlib
 import re
@@ -26,7 +26,7 @@ FOLDER = DATA / "self_checking"
 VARIANT = "self-checking"
 INCLUDED = '#include "expect.h"\n'
 RUNS = 2                # on each number of threads; each run has rounds of its own
-LOOKS, APART = 5, 0.1   # at the threads of a program that hangs, and the seconds between them
+LOOKS, APART = 6, 0.1   # at the threads of a program that hangs, and the seconds between them
 MOST_LINES = 3
 SOONER, LONGEST = 3, 12  # a third of the time is enough where a program sleeps, and many times as long is given
 BROKEN_DOWN = ("internal compiler error", "PLEASE submit a bug report")
@@ -75,9 +75,9 @@ def source(name):
     return path_of(name).read_text().replace(INCLUDED, (FOLDER / "expect.h").read_text())
 
 
-def cases(match):
-    """Of the programs whose names pass a test."""
-    return [program.case for program in programs() if match(program.name)]
+def cases(pattern):
+    """Of the programs whose names fit a pattern of the shell's."""
+    return [program.case for program in programs() if fnmatch.fnmatchcase(program.name, pattern)]
 
 
 def is_self_checking(case):
@@ -152,16 +152,17 @@ def run(program, reported, conditions, environment):
 
 def ended_in(process, seconds):
     """What a process has written when it ends, or how it hangs: for a part of so many seconds all its threads sleep, or
-    it has taken them as time and as processor time, or many times as long where others have the processors."""
-    begun = time.monotonic()
+    it has napped and run for so many, or it takes many times as long where others have the processors."""
+    begun, napped = time.monotonic(), 0
     while True:
         try:
             return process.communicate(timeout=seconds / SOONER), ""
         except subprocess.TimeoutExpired:
-            took = time.monotonic() - begun
-            if is_asleep(process.pid):
+            looks, took = looks_at(process.pid), time.monotonic() - begun
+            if is_asleep(looks):
                 return None, "asleep"
-            if took > LONGEST * seconds or min(took, processor_time(process.pid)) > seconds:
+            napped += seconds / SOONER * share_asleep(looks)
+            if took > LONGEST * seconds or min(took, napped + processor_time(looks)) > seconds:
                 return None, "busy"
 
 
@@ -180,22 +181,29 @@ def looked_at(pid):
     return {fields[0] for fields in stats}, [fields[TICKS] for fields in stats]
 
 
-def processor_time(pid):
-    """In seconds, of all threads of a process so far; endless where it has ended."""
+def looks_at(pid):
+    """Some looks at a process; none where a thread ends meanwhile."""
+    looks = []
     try:
-        return sum(map(int, sum(looked_at(pid)[1], []))) / os.sysconf("SC_CLK_TCK")
-    except OSError:
-        return math.inf
-
-
-def is_asleep(pid):
-    """Whether each thread of a process sleeps, at some looks."""
-    try:
-        first = looked_at(pid)
         for _ in range(LOOKS):
+            looks.append(looked_at(pid))
             time.sleep(APART)
-            if first[0] != {SLEEPS} or looked_at(pid) != first:
-                return False
-    except OSError:     # one has ended
-        return False
-    return True
+    except OSError:
+        return []
+    return looks
+
+
+def processor_time(looks):
+    """In seconds, of all threads so far."""
+    return sum(int(ticks) for _, threads in looks[-1:] for times in threads for ticks in times) / \
+        os.sysconf("SC_CLK_TCK")
+
+
+def share_asleep(looks):
+    """In how many of the looks each thread sleeps, of 1."""
+    return sum(states == {SLEEPS} for states, _ in looks) / LOOKS
+
+
+def is_asleep(looks):
+    """Whether each thread sleeps all the time."""
+    return share_asleep(looks) == 1 and all(look == looks[0] for look in looks)

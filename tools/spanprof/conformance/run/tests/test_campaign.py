@@ -3,8 +3,9 @@ import unittest
 from dataclasses import replace
 from unittest import mock
 
-from spanprof.conformance.run.campaign import (Running, cases_of, directed_cases, random_cases, run_cases,
-                                               self_checking_cases, spread, telling_first)
+from spanprof.conformance.run import self_checking
+from spanprof.conformance.run.campaign import (Running, cases_of, directed_cases, random_cases, run_cases, spread,
+                                               telling_first, tried)
 from spanprof.conformance.judge.cases import Plan, Tally
 from spanprof.conformance.judge.verdicts import Verdict
 from spanprof.conformance.generate.program import C_KINDS
@@ -70,11 +71,11 @@ class Conditions(unittest.TestCase):
 class SideBySide(unittest.TestCase):
     def test_nothing_is_begun_after_the_time(self):
         bench = StubBench()
-        self.assertEqual(run_cases(bench, [case_of("a"), case_of("b")], PLAN, 1, seconds=-1).runs, 0)
+        self.assertEqual(list(tried(bench, [case_of("a"), case_of("b")], PLAN, 1, seconds=-1)), [])
         self.assertEqual(bench.tried, [])
 
     def test_what_tells_most_comes_first_where_time_is_short(self):
-        cases = [case_of("m", variant="mixed"), case_of("t"), *self_checking_cases("in_final")]
+        cases = [case_of("m", variant="mixed"), case_of("t"), *self_checking.cases("in_final")]
         self.assertEqual([case.variant for case in telling_first(cases)], ["self-checking", "tied", "mixed"])
 
     def test_the_first_conditions_alone_where_time_is_over_meanwhile(self):

@@ -1,3 +1,4 @@
+import os
 import subprocess
 import time
 import unittest
@@ -79,8 +80,16 @@ class Tries(unittest.TestCase):
 
     def test_hangs_busy_once_it_has_had_the_time_of_a_processor(self):
         conditions = Conditions(2, 8, 1, 0, 1)
-        tally = self_checking.try_case(bench(script("while :; do :; done")), self.CASE, [conditions])[0]
-        self.assertEqual([failure.verdict for failure in tally.failures], [Verdict("hung", "busy")])
+        for runs in ("while :; do :; done", "while :; do sleep .001; done"):
+            tally = self_checking.try_case(bench(script(runs)), self.CASE, [conditions])[0]
+            self.assertEqual([failure.verdict for failure in tally.failures], [Verdict("hung", "busy")])
+
+    def test_naps_count_as_time(self):
+        looks = [({"S"}, [["1", "0"]]), ({"R", "S"}, [["1", "1"]]), ({"S"}, [["2", "1"]])]
+        self.assertEqual(self_checking.share_asleep(looks), 2 / self_checking.LOOKS)
+        self.assertFalse(self_checking.is_asleep(looks))
+        self.assertEqual(self_checking.processor_time(looks), 3 / os.sysconf("SC_CLK_TCK"))
+        self.assertTrue(self_checking.is_asleep(looks[:1] * self_checking.LOOKS))
 
     def test_what_is_known_takes_no_more_time(self):
         known = bench(script("echo 'turns: 12 was seen, 11 is right'; exit 1"))
@@ -91,7 +100,7 @@ class Tries(unittest.TestCase):
     def test_a_program_that_has_ended_does_not_sleep(self):
         with subprocess.Popen(["true"]) as process:
             time.sleep(.2)
-            self.assertFalse(self_checking.is_asleep(process.pid))
+            self.assertFalse(self_checking.is_asleep(self_checking.looks_at(process.pid)))
 
     def refused(self, said):
         def refuse(*_):
