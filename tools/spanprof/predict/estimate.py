@@ -7,7 +7,7 @@ from typing import List
 
 from spanprof.errors import Fault
 from spanprof.predict.burden import burdened
-from spanprof.predict.gnu import GnuSimulation
+from spanprof.predict.gnu import LOCK, GnuSimulation
 from spanprof.predict.growth import Growth
 from spanprof.predict.interval import ALONE, AS_RECORDED, CHANGED, ON_OTHERS, spread, width
 from spanprof.predict.policy import Simulation, Spent
@@ -66,14 +66,22 @@ def kind_of(of, threads):
     return AS_RECORDED if threads in of else ON_OTHERS if len(of) > 1 else ALONE
 
 
+def on_gcc(base, threads):
+    """What a dispatch takes there, and how long its lock is held. As recorded, the wait for the lock is in both that
+    and the costs; on other threads it is another one."""
+    if base.runtime != GNU or base.dispatch is None:
+        return 0, LOCK
+    return (base.dispatch, 0) if threads == base.threads else (max(base.dispatch - LOCK, 0), LOCK)
+
+
 def runs_of(runtime, base, machine, threads):
     """How a run is simulated, what a dispatch takes, what else is spent, and when the threads come, which no other
-    runtime tells. gcc's runtime takes its lock in place of a dispatch, and on one thread tasks are run where they are
-    made."""
+    runtime tells. On one thread of LLVM's tasks are run where they are made."""
     spent = spent_on(machine, threads, base)
     came = on_threads(base.arrivals, base.threads, threads) if runtime == base.runtime else ()
     if runtime == GNU:
-        return GnuSimulation, 0, Spent(0, spent.wake), came
+        dispatch, lock = on_gcc(base, threads)
+        return GnuSimulation, dispatch, Spent(0, spent.wake, lock), came
     dispatch = machine.cost("dispatch", threads) if base.dispatch is None else base.dispatch
     return Simulation, dispatch if threads > 1 else 0, spent, came
 

@@ -28,6 +28,7 @@ class GnuSimulation(Simulation):
         return super().create(thread, frame, number)
 
     def put(self, thread, number):
+        """Threads with nothing to do see it. One that sleeps in a task does not: it is woken by what it waits for."""
         task = self.tasks[number]
         self.count += 1
         self.is_ready.add(number)
@@ -35,7 +36,14 @@ class GnuSimulation(Simulation):
         self.newest[task.parent].append(number)
         if task.groups:
             self.of_group[task.groups[-1]].append(number)
-        self.wake([other for other in self.idle if self.may_begin(other, number)])
+        self.wake([other for other in self.idle if not self.stacks[other]])
+
+    def release(self, thread, task):
+        """Of what a task was waited for by `depend`, the sleeping threads are woken that may begin it."""
+        found = super().release(thread, task)
+        for number in self.is_ready.intersection(task.followers):
+            self.wake([other for other in self.idle if self.may_begin(other, number)])
+        return found
 
     def waits_in(self, thread):
         """The task in which a thread waits, and the group whose end it waits for, or None."""
@@ -62,7 +70,7 @@ class GnuSimulation(Simulation):
         self.is_ready.remove(found)
         self.dispatches += 1
         self.stacks[thread].append([found, 0])
-        self.lock_free = max(self.now, self.lock_free) + LOCK
+        self.lock_free = max(self.now, self.lock_free) + self.spent.lock
         return self.lock_free - self.now
 
     def first_ready(self, queue, taken):

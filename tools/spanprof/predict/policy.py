@@ -19,6 +19,7 @@ class Spent:
     """What the runtime spends, in the text's unit, beside what stands in the text."""
     steal: int = 0      # on a task that another thread has queued
     wake: int = 0       # until an idle thread sees what it has waited for
+    lock: int = 0       # of the team's tasks, which a task takes where the runtime has one (gcc's)
 
 
 @dataclass(frozen=True)

@@ -45,6 +45,18 @@ class Queues(unittest.TestCase):
         run.run()
         self.assertEqual(run.began, [(0, 3), (0, 2), (0, 1)])
 
+    def test_who_sleeps_in_a_group_sees_none_that_others_make_in_it(self):
+        """The first thread sleeps when the group's only task is the second one's, which makes two: these it runs."""
+        text = "taskgroup { task { work 10 task { work 50 } task { work 50 } work 10 } work 5 } work 1"
+        run = Order(text, 2)
+        self.assertEqual(run.run().end, 10 + 10 + 50 + 50 + 1)
+        self.assertEqual(run.began, [(1, 1), (1, 2), (1, 3)])
+
+    def test_who_sleeps_is_woken_by_what_a_task_was_waited_for(self):
+        text = "task depend(out: a) { work 90 } work 9 task depend(in: a) { work 50 } task depend(in: a) { work 50 } " \
+            "taskwait"
+        self.assertEqual(Order(text, 2).run().end, 90 + 50)
+
     def test_depend(self):
         run = Order("task depend(out: a) { work 5 } task depend(in: a) { } task { } taskwait", 1)
         run.run()
@@ -54,12 +66,12 @@ class Queues(unittest.TestCase):
 class Costs(unittest.TestCase):
     def test_the_lock_is_taken_by_one_thread_at_a_time(self):
         program = read_program("omptasks 1" + " task { }" * 4)
-        self.assertEqual(GnuSimulation(program, program.costs, 4, Spent()).run().end, 4 * LOCK)
+        self.assertEqual(GnuSimulation(program, program.costs, 4, Spent(lock=LOCK)).run().end, 4 * LOCK)
 
     def test_too_many_tasks_are_run_at_once(self):
         """On one thread, each beyond 65 that lie ready is run where it is made, and costs no lock."""
         program = read_program("omptasks 1" + " task { work 1000 }" * 100)
-        run = GnuSimulation(program, program.costs, 1, Spent()).run()
+        run = GnuSimulation(program, program.costs, 1, Spent(lock=LOCK)).run()
         self.assertEqual((run.dispatches, run.end), (MOST + 1, 100 * 1000 + (MOST + 1) * LOCK))
 
     def test_one_that_waits_by_depend_is_not_run_before(self):
