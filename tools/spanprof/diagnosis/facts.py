@@ -1,7 +1,6 @@
 """What is known of one recorded run, as plain data: everything else of a diagnosis is made of it."""
 import re
 import statistics
-from array import array
 from bisect import bisect_right
 from collections import Counter
 from dataclasses import dataclass, field, replace
@@ -289,12 +288,6 @@ def set_allocating(facts):
             facts.functions.setdefault(line, plain(function))
 
 
-def costs_of(code, head):
-    """In nanoseconds."""
-    unit = head.nanoseconds or 1
-    return code.cost if unit == 1 else array("Q", (cost * unit for cost in code.cost))
-
-
 def runtime_name(runtime):
     """Such as `LLVM 19`."""
     return " ".join(filter(None, [RUNTIMES.get(runtime.get("name"), runtime.get("name")), runtime.get("version")]))
@@ -411,7 +404,7 @@ def facts_of(recording, end_of=greedy_end):
     code, head = code_in(path), head_of(path)
     off = {segment: times for segment, times in off_by_segment(recording.file("off"), head).items()
            if 0 <= segment < len(code)}
-    program, numbers = read_places(code, costs_of(code, head)), client.measured(path)
+    program, numbers = read_places(code, head.nanoseconds or 1), client.measured(path)
     facts = of_text(head, program, numbers)
     set_meta(facts, meta)
     facts.locks, regions = locks_of(recording.file("locks"), head), program_of(path)
