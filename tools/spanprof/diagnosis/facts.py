@@ -195,13 +195,18 @@ def starting_shares(found):
     return {name: starting[name] / time for name, time in whole.items() if time}
 
 
-def set_breakdown(facts, found):
-    found = of_those_at_once(found, facts.threads)
+def set_breakdown(facts, recording, head, work, program):
+    """By the times of the run."""
+    timed = document(recording)
+    if not timed:
+        raise NoBreakdown("it has no times")
+    found = of_those_at_once(breakdown_of(head, work, timed, program.names), facts.threads)
     facts.threads = found.threads
     for name, part in found.parts.items():
         setattr(facts, name.replace(" ", "_"), part)
     facts.starting_by = starting_shares(found)
     facts.delayed_by, facts.starved_by = found.idle
+    facts.barriers = needless_barriers(program, facts.regions, found.rows.thread)
 
 
 @read_once
@@ -418,9 +423,7 @@ def facts_of(recording, end_of=greedy_end):
     set_allocating(facts)
     facts.interpreter = interpreter_of(facts)
     try:
-        found = breakdown_of(head, numbers["work"], document(recording), program.names)
-        set_breakdown(facts, found)
-        facts.barriers = needless_barriers(program, facts.regions, found.rows.thread)
+        set_breakdown(facts, recording, head, numbers["work"], program)
         if is_disturbed(facts) and head.clock == OWN_CLOCK:
             set_disturbed(facts, starved_alone(path, program.names, facts.threads))
     except NoBreakdown:
