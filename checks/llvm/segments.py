@@ -8,7 +8,7 @@ from spanprof.marks import marks_of_file  # noqa: E402
 from spanprof.segment_file import read_into  # noqa: E402
 from spanprof.segment_table import Code, Kind, code_of  # noqa: E402
 
-COLUMNS = ("of", "task", "cost", "kinds", "own", "groups", "clauses")
+COLUMNS = ("of", "task", "cost", "kinds", "sums", "own", "groups", "clauses")
 
 
 def differing(text, table):
@@ -16,4 +16,4 @@ def differing(text, table):
     if not os.path.exists(table):
         return COLUMNS
     read, cut = read_into(Code(), table, Kind), code_of(marks_of_file(text))
-    return [name for name in COLUMNS if list(getattr(read, name)) != list(getattr(cut, name))]
+    return [name for name in COLUMNS if getattr(read, name) != getattr(cut, name)]

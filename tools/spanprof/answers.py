@@ -14,6 +14,7 @@ from spanprof.errors import Fault
 from spanprof.head import head_of
 from spanprof.limits import is_long
 from spanprof.recording import open_recording, shown_name
+from spanprof.segment_file import file_beside
 from spanprof.segment_table import code_in, read_code
 from spanprof.text_file import TextFile
 
@@ -59,7 +60,6 @@ class Answers:
         self.name = shown_name(self.path)
         self.asked, self.wanted_threads = [], threads
         self.file = TextFile(self.path)
-        self.numbers = client.measured(self.path)
         self.head = head_of(self.path)
         take_runs(self.head, open_recording(self.path).meta.get("runs") or [])
 
@@ -83,6 +83,10 @@ class Answers:
     def columns(self, words, names):
         self.note(*words)
         return client.columns(words, self.file, names)
+
+    @cached_property
+    def numbers(self):
+        return client.measured(self.path)
 
     @property
     def threads(self):
@@ -115,13 +119,11 @@ class Answers:
     @cached_property
     def code(self):
         """The segments; of a text with loops those of its canonical text, which has none."""
+        if not file_beside(self.path):
+            client.measured(self.path)      # its fault names the line
         if self.file.has_loops():
-            found = read_code(client.ask(["show"], self.file).splitlines(True), self.name)
-        else:
-            found = code_in(self.path)
-        if (len(found), sum(found.cost)) != (self.numbers["segments"], self.numbers["work"]):
-            raise Fault("%s: its table of segments is of another text" % self.name)
-        return found
+            return read_code(client.ask(["show"], self.file).splitlines(True), self.name)
+        return code_in(self.path)
 
     @cached_property
     def rows(self):
@@ -133,7 +135,10 @@ class Answers:
     def of_kinds(self):
         """Of each kind of segments the row of `places`."""
         self.noted("spanprof_large places < " + self.name)
-        return list(zip(*client.places(self.path, self.code.of)))
+        found = client.places(self.path, self.code.of)
+        if (sum(found[0]), sum(found[1])) != (len(self.code), sum(self.code.cost)):
+            raise Fault("%s: its table of segments is of another text" % self.name)
+        return list(zip(*found))
 
     def sums(self, names):
         """The same by name, where each kind of segments has one of these names: sums, and the least slack."""

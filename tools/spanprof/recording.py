@@ -20,6 +20,7 @@ SEGMENTS = "segments"   # of the text, in columns
 SCALE = "scale.json"    # of spanprof-record --scale or --full: times of unrecorded runs
 CHECKED = (TEXT, TIMES, REGIONS, SEGMENTS, "off", "locks", "calls")    # the log is checked by its converter
 PIECE = 1 << 20
+CHECKSUMS = {}      # of files that were read
 
 
 @dataclass
@@ -48,11 +49,16 @@ class Recording:
 
 
 def checksum(path):
-    found = hashlib.sha256()
-    with open(path, "rb") as file:
-        for piece in iter(lambda: file.read(PIECE), b""):
-            found.update(piece)
-    return found.hexdigest()
+    """It is read again where the file has changed, but not where it was moved."""
+    now = os.stat(path)
+    key = now.st_dev, now.st_ino, now.st_size, now.st_mtime_ns
+    if key not in CHECKSUMS:
+        found = hashlib.sha256()
+        with open(path, "rb") as file:
+            for piece in iter(lambda: file.read(PIECE), b""):
+                found.update(piece)
+        CHECKSUMS[key] = found.hexdigest()
+    return CHECKSUMS[key]
 
 
 def is_recording(path):
@@ -107,7 +113,6 @@ def read_meta(folder):
     return meta
 
 
-@functools.lru_cache(maxsize=None)
 def check_file(path, folder, expected):
     """Ends with a fault where a file is missing, or is another one than the folder was made of."""
     name = os.path.basename(path)

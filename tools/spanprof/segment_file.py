@@ -3,7 +3,8 @@
 It has a column each of the segments' kinds (two bytes), tasks and costs (four bytes, the lowest first), in blocks of
 65,536 segments, and then a line of JSON. There `kinds` has of each whether it is of the root, the place of its task,
 what it follows and where, and of code around a region its place. `long` has segments and costs from 2^32 - 1 on, `own`
-the first segments of threads' own code and the groups around them. `clauses` has kinds, words, how many tasks have
+the first segments of threads' own code and the groups around them. `sums` has two kinds, how many segments of the first
+stand before one of the second, what they cost together, and the most. `clauses` has kinds, words, how many tasks have
 them, and how many of these right behind another one.
 """
 import json
@@ -51,6 +52,9 @@ def check(code):
     kinds, segments = set(range(len(code.kinds))), range(len(code.of))
     if set(code.of) != kinds or not {kind for kind, *_ in code.clauses} <= kinds | {None}:
         raise ValueError("kinds that it does not have")
+    counts, costs, _ = map(sum, zip(*code.sums.values()))
+    if {kind for pair in code.sums for kind in pair} != kinds or (counts, costs) != (len(segments), sum(code.cost)):
+        raise ValueError("sums of other segments")
     if max(code.task) not in segments or not all(map(segments.__contains__, code.own)):
         raise ValueError("segments that it does not have")
 
@@ -66,6 +70,9 @@ def read_into(code, path, kind_of):
         for is_root, *words in reported["kinds"]:
             code.add(kind_of(is_root, *(word.strip() for word in words)))
         code.own, code.groups = (array("I", reported["own"][first::2]) for first in (0, 1))
+        if "sums" in reported:      # older recordings have none
+            code.sums = {(kind, following): (count + 0, cost + 0, most + 0)
+                         for kind, following, count, cost, most in reported["sums"]}
         code.clauses = [(kind, words.replace(" ", ""), count + 0, again + 0)
                         for kind, words, count, again in reported["clauses"]]
         check(code)

@@ -1,8 +1,10 @@
 """The segments of a text of any size in columns: what stands of each in the source, and its task."""
 from array import array
-from collections import Counter
+from collections import Counter, defaultdict
 from contextlib import contextmanager
+from functools import cached_property
 from itertools import compress
+from operator import add
 from typing import NamedTuple
 
 from spanprof.errors import Fault
@@ -80,13 +82,23 @@ class Code:
         """Of each segment, in their order."""
         return (self.names[number] for number in self.of)
 
+    @cached_property
+    def sums(self):
+        """By the kinds of a segment and of the next one, which tells what ends it: how many there are, what they cost,
+        and the most. Behind the last one stands the first."""
+        width, found, following = len(self.kinds), defaultdict(lambda: array("Q")), self.of[1:]
+        following.append(0)
+        pairs = map(add, map(width.__mul__, self.of), following)
+        for costs, cost in zip(map(found.__getitem__, pairs), self.cost):
+            costs.append(cost)
+        return {divmod(pair, width): (len(costs), sum(costs), max(costs)) for pair, costs in found.items()}
+
     @property
     def ends(self):
         """Of each kind of segments how many end at which construct; nothing for the last of a task."""
         found = [Counter() for _ in self.kinds]
-        for (number, following), count in Counter(zip(self.of, self.of[1:])).items():
+        for (number, following), (count, *_) in self.sums.items():
             found[number][self.kinds[following].end] += count
-        found[self.of[-1]][""] += 1
         return found
 
     def firsts(self):

@@ -25,16 +25,6 @@ class TextFile:
         with naming(self.path), open(self.path, encoding="utf-8", errors="replace", newline="") as file:
             return re.split(r"(?m)^---\r?$", file.read())[0]
 
-    def is_cut(self):
-        """Whether the file goes on behind the text."""
-        divider, before = ("\n" + DIVIDER).encode(), b"\n"
-        with open(self.path, "rb") as file:
-            while piece := file.read(PIECE):
-                if divider in before + piece:
-                    return True
-                before = piece[-len(divider):]
-        return False
-
     def pieces(self):
         """Lists of its lines."""
         with open(self.path, "rb") as file:
@@ -43,7 +33,7 @@ class TextFile:
 
     def lines(self):
         """Of the text, and some that are empty."""
-        return iter(str(self).split("\n")) if self.is_cut() else chain.from_iterable(self.pieces())
+        return iter(str(self).split("\n")) if is_cut(self.path) else chain.from_iterable(self.pieces())
 
     def has_loops(self):
         """By the header, which is looked for among the first lines."""
@@ -52,9 +42,7 @@ class TextFile:
 
     @contextmanager
     def opened(self):
-        with naming(self.path):
-            is_cut = self.is_cut()
-        if is_cut:
+        if is_cut(self.path):
             with in_a_file(str(self)) as file:
                 yield file
         else:
@@ -90,6 +78,18 @@ def read_once(read):
             now = os.stat(path)
         return kept(os.path.abspath(path), (now.st_ino, now.st_size, now.st_mtime_ns), *by)
     return answer
+
+
+@read_once
+def is_cut(path):
+    """Whether the file goes on behind the text."""
+    divider, before = ("\n" + DIVIDER).encode(), b"\n"
+    with naming(path), open(path, "rb") as file:
+        while piece := file.read(PIECE):
+            if divider in before + piece:
+                return True
+            before = piece[-len(divider):]
+    return False
 
 
 @contextmanager

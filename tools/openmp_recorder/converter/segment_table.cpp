@@ -1,5 +1,7 @@
 #include "segment_table.hpp"
 
+#include <algorithm>
+
 #include "json.hpp"
 
 namespace {
@@ -67,7 +69,15 @@ uint32_t SegmentTable::kind(After after, uint32_t after_place) {
   return number = found->second;
 }
 
-void SegmentTable::close() {
+void SegmentTable::close(uint32_t following) {
+  auto &[key, place] = recent_sums[(last * 8 + following) % recent_sums.size()];
+  uint64_t wanted = (uint64_t{last} << 32 | following) + 1;
+  if (key != wanted) {
+    auto [met, is_new] = sums_met.try_emplace(wanted, sums.size());
+    if (is_new) sums.push_back({last, following});
+    key = wanted, place = met->second;
+  }
+  sums[place].count++, sums[place].cost += cost, sums[place].most = std::max(sums[place].most, cost);
   if (cost >= long_cost) {
     add_number(long_costs, segments - 1);
     add_number(long_costs, cost);
@@ -87,8 +97,9 @@ void SegmentTable::hand_on() {
 
 uint32_t SegmentTable::open(After after, uint32_t after_place) {
   is_pending = false;
-  if (segments) close();
   uint32_t found = kind(after, after_place);
+  if (segments) close(found);
+  last = found;
   if (!after && are_of_regions[here.place]) {
     add_number(own, segments);
     add_number(own, groups.empty() ? 0 : blocks[groups.back()].number);
@@ -146,12 +157,17 @@ void SegmentTable::end() {
 }
 
 bool SegmentTable::finish() {
-  close();
+  close(0);
   hand_on();
   std::string list;
   for (const std::string &kind : kinds) list += (list.empty() ? "[" : ", [") + kind + "]";
   Object line;
   line.put("segments", segments).put_bare("kinds", in_brackets(list)).put_bare("long", in_brackets(long_costs.words()));
+  list.clear();
+  for (const Sums &one : sums)
+    list += (list.empty() ? "[" : ", [") + std::to_string(one.kind) + ", " + std::to_string(one.following) + ", " +
+            std::to_string(one.count) + ", " + std::to_string(one.cost) + ", " + std::to_string(one.most) + "]";
+  line.put_bare("sums", in_brackets(list));
   list.clear();
   for (const Clauses &one : written)
     list += (list.empty() ? "[" : ", [") + (one.kind == no_kind ? "null" : std::to_string(one.kind)) + ", " +

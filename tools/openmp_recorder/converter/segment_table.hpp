@@ -40,6 +40,10 @@ class SegmentTable {
     std::string words;
     uint64_t count = 0, again = 0;  // tasks, and those right behind another one with the same
   };
+  struct Sums {  // of the segments of a kind before those of another one
+    uint32_t kind, following;
+    uint64_t count = 0, cost = 0, most = 0;
+  };
 
   std::function<void(std::string_view)> taker;
   std::vector<std::string> words{""};  // places by number
@@ -49,6 +53,9 @@ class SegmentTable {
   std::vector<std::string> kinds;  // in JSON
   std::unordered_map<uint64_t, uint32_t> kind_numbers;
   std::array<std::pair<uint64_t, uint32_t>, 64> recent_kinds{};  // of these, by their keys
+  std::vector<Sums> sums;
+  std::unordered_map<uint64_t, uint32_t> sums_met;
+  std::array<std::pair<uint64_t, uint32_t>, 64> recent_sums{};
   std::vector<Clauses> written;
   std::unordered_map<std::string, std::size_t> clauses_met;
   std::vector<Block> blocks;
@@ -60,13 +67,14 @@ class SegmentTable {
   std::vector<uint16_t> kinds_of;  // segments, as far as they are not handed on
   std::vector<uint32_t> tasks_of, costs;
   uint64_t segments = 0, cost = 0;  // of the last one
+  uint32_t last = 0;                // its kind
   Piece long_costs, own;  // in JSON
 
   uint32_t word(std::string_view of_place);
   uint32_t region() const;
   uint32_t kind(After after, uint32_t after_place);
   uint32_t open(After after, uint32_t after_place);  // the kind of the new segment
-  void close();
+  void close(uint32_t following);
   void hand_on();
   void name_barrier();
 };

@@ -1,7 +1,6 @@
 """What is known of one recorded run, as plain data: everything else of a diagnosis is made of it."""
 import re
 import statistics
-from array import array
 from bisect import bisect_right
 from collections import Counter
 from dataclasses import dataclass, field, replace
@@ -201,13 +200,18 @@ def starting_shares(found):
     return {name: starting[name] / time for name, time in whole.items() if time}
 
 
-def set_breakdown(facts, found):
-    found = of_those_at_once(found, facts.threads)
+def set_breakdown(facts, recording, head, work, program):
+    """By the times of the run."""
+    timed = document(recording)
+    if not timed:
+        raise NoBreakdown("it has no times")
+    found = of_those_at_once(breakdown_of(head, work, timed, program.names), facts.threads)
     facts.threads = found.threads
     for name, part in found.parts.items():
         setattr(facts, name.replace(" ", "_"), part)
     facts.starting_by = starting_shares(found)
     facts.delayed_by, facts.starved_by = found.idle
+    facts.barriers = needless_barriers(program, facts.regions, found.rows.thread)
 
 
 @read_once
@@ -294,12 +298,6 @@ def set_allocating(facts):
     for line, _, function in (at.partition(" ") for found in facts.calls.allocated.values() for at in found):
         if line and function:
             facts.functions.setdefault(line, plain(function))
-
-
-def costs_of(code, head):
-    """In nanoseconds."""
-    unit = head.nanoseconds or 1
-    return code.cost if unit == 1 else array("Q", (cost * unit for cost in code.cost))
 
 
 def runtime_name(runtime):
@@ -419,7 +417,7 @@ def facts_of(recording, end_of=greedy_end):
     code, head = code_in(path), head_of(path)
     off = {segment: times for segment, times in off_by_segment(recording.file("off"), head).items()
            if 0 <= segment < len(code)}
-    program, numbers = read_places(code, costs_of(code, head)), client.measured(path)
+    program, numbers = read_places(code, head.nanoseconds or 1), client.measured(path)
     facts = of_text(head, program, numbers)
     set_meta(facts, meta)
     facts.locks, regions = locks_of(recording.file("locks"), head), program_of(path)
@@ -433,9 +431,7 @@ def facts_of(recording, end_of=greedy_end):
     set_allocating(facts)
     facts.interpreter = interpreter_of(facts)
     try:
-        found = breakdown_of(head, numbers["work"], document(recording), program.names)
-        set_breakdown(facts, found)
-        facts.barriers = needless_barriers(program, facts.regions, found.rows.thread)
+        set_breakdown(facts, recording, head, numbers["work"], program)
         if is_disturbed(facts) and head.clock == OWN_CLOCK:
             set_disturbed(facts, starved_alone(path, program.names, facts.threads))
     except NoBreakdown:

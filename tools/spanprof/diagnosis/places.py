@@ -1,10 +1,10 @@
 """The places of a program's code: of each what it cost, what kind of code it is, and which lines it has."""
 from array import array
+from bisect import bisect_right
 from collections import Counter, defaultdict
 from dataclasses import dataclass, field
 from functools import cached_property
-from itertools import chain
-from operator import add
+from itertools import compress
 from typing import List, Tuple
 
 from spanprof.marks import CREATING
@@ -47,13 +47,12 @@ class Place:
     moving: set = field(default_factory=set)    # items to write that tasks have at several positions: of neighbours
     moving_at: set = field(default_factory=set)     # these positions
 
-    def add(self, costs, at, end):
-        """More pieces, which begin and end at these constructs."""
-        most = max(costs)
+    def add(self, pieces, cost, most, at, end):
+        """More pieces, which begin and end at these constructs, with the cost of all and of the largest one."""
         if most >= self.largest:
             self.at, self.largest = at, most
-        self.pieces, self.cost = self.pieces + len(costs), self.cost + sum(costs)
-        self.ends[end] += sum(costs)
+        self.pieces, self.cost = self.pieces + pieces, self.cost + cost
+        self.ends[end] += cost
 
     def add_tasks(self, number, clauses, again):
         """As many tasks that have these clauses, so many of them right behind another one with them."""
@@ -144,15 +143,9 @@ class Program:
         return [self.kinds[number] for number in self.code.of]
 
 
-def pieces_of(code, costs):
-    """The costs of the segments by the kinds of each and of the next one, which tells what ends it."""
-    width, found = len(code.kinds), defaultdict(lambda: array("Q"))
-    following = code.of[1:]
-    following.append(0)
-    pairs = map(add, map(width.__mul__, code.of), following)
-    for pieces, cost in zip(map(found.__getitem__, pairs), costs):
-        pieces.append(cost)
-    return {divmod(pair, width): pieces for pair, pieces in found.items()}
+def costs_of(code, unit):
+    """Of its segments, in nanoseconds."""
+    return code.cost if unit == 1 else array("Q", map(unit.__mul__, code.cost))
 
 
 def firsts(names):
@@ -198,16 +191,15 @@ def is_by_a_turn(costs, threads):
 
 def shares_of(program):
     """What each part had of divided code, and of threads' own, by the number of its group and of the place."""
-    code, costs, width, shares = program.code, program.costs, len(program.kinds), defaultdict(list)
-    numbers = [number if kind_of(kind) == SHARE or name.startswith(OWN) else None
-               for kind, name, number in zip(code.kinds, program.kinds, firsts(program.kinds))]
-    for first, end, group in zip(code.own, chain(code.own[1:], (len(code),)), code.groups):
-        had = {}
-        for number, cost in zip(map(numbers.__getitem__, code.of[first:end]), costs[first:end]):
-            if number is not None:
-                had[number] = had.get(number, 0) + cost
-        for number, cost in had.items():
-            shares[group * width + number].append(cost)
+    code, width, had, shares = program.code, len(program.kinds), defaultdict(int), defaultdict(list)
+    is_shared = [kind_of(kind) == SHARE or name.startswith(OWN) for kind, name in zip(code.kinds, program.kinds)]
+    numbers = firsts(program.kinds)
+    for segment in compress(range(len(code)), map(is_shared.__getitem__, code.of)):
+        part = bisect_right(code.own, segment) - 1
+        if part >= 0:
+            had[part, numbers[code.of[segment]]] += program.costs[segment]
+    for (part, number), cost in had.items():
+        shares[code.groups[part] * width + number].append(cost)
     return shares
 
 
@@ -223,16 +215,16 @@ def set_uneven(program):
             places[number].by_a_turn += less * is_by_a_turn(costs, parts[group])
 
 
-def read_places(code, costs):
-    """A program with these costs of its segments. Those of threads' own code have their regions in their names."""
+def read_places(code, unit=1):
+    """A program whose costs are in so many nanoseconds. Threads' own code has its regions in its names."""
     names = ["%s at %s" % (OWN, kind.region) if name == OWN and kind.region else name
              for name, kind in zip(code.names, code.kinds)]
-    program = Program(code, costs, names, {})
-    for (number, following), pieces in pieces_of(code, costs).items():
+    program = Program(code, costs_of(code, unit), names, {})
+    for (number, following), (pieces, cost, most) in code.sums.items():
         kind = code.kinds[number]
         place = program.places.setdefault(names[number], Place(names[number], kind_of(kind)))
-        place.add(pieces, kind.begin, code.kinds[following].end)
-        place.tasks += len(pieces) * (not kind.is_root and not kind.after)
+        place.add(pieces, unit * cost, unit * most, kind.begin, code.kinds[following].end)
+        place.tasks += pieces * (not kind.is_root and not kind.after)
     for number, clauses, count, again in code.clauses:
         if number is not None:      # a thread's own code has none
             program.places[names[number]].add_tasks(count, clauses, again)

@@ -26,25 +26,21 @@ def parse(words):
     return parser.parse_args(words)
 
 
-def title(numbers, found):
-    work, span = numbers["work"], numbers["span"]
-    return "work %d, span %d, parallelism %.1f, %d of %d segments on a critical path" % (
-        work, span, work / span if span else 1, sum(place.critical_segments for place in found), numbers["segments"])
-
-
-def show(options, numbers, found):
+def show(options, found):
     if options.csv:
         write_csv(found, sys.stdout)
         return
-    reported = warning_lines(head_text(options.text)) + [title(numbers, found), proved(VERDICT)]
-    print(*reported, *lines(found, numbers["work"], numbers["span"]), sep="\n")
+    work, span, segments, critical = (sum(getattr(place, name) for place in found)
+                                      for name in ("cost", "critical_cost", "segments", "critical_segments"))
+    title = "work %d, span %d, parallelism %.1f, %d of %d segments on a critical path" % (
+        work, span, work / span if span else 1, critical, segments)
+    print(*warning_lines(head_text(options.text)), title, proved(VERDICT), *lines(found, work, span), sep="\n")
 
 
 def answer(options):
     options.text = text_of(options.text)
     check_files(options.text)
-    answers = Answers(options.text)
-    show(options, answers.span_numbers, places(answers))
+    show(options, places(Answers(options.text)))
 
 
 def main(words):

@@ -6,7 +6,6 @@ import statistics
 import tempfile
 
 from spanprof.command import writing
-from spanprof.diagnosis.facts import costs_of
 from spanprof.diagnosis.places import read_places
 from spanprof.durations import lasting
 from spanprof.head import counted, head_of
@@ -50,7 +49,7 @@ def table_lines(scale):
 def costs_by_place(path):
     """In nanoseconds, of a text of any size, with the places of a diagnosis."""
     code = code_in(path)
-    return {name: place.cost for name, place in read_places(code, costs_of(code, head_of(path))).places.items()}
+    return {name: place.cost for name, place in read_places(code, head_of(path).nanoseconds or 1).places.items()}
 
 
 def cost_on_one(session):

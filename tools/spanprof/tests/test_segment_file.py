@@ -15,7 +15,10 @@ KINDS = [[True, "", "", "", ""], [False, "a.c:3", "", "", ""], [False, "a.c:3", 
          [True, "", "creating a task", "a.c:3", ""], [False, "one of the region's threads", "", "", "a.c:8"],
          [True, "", "creating a task", "one of the region's threads", "a.c:8"],
          [True, "", "taskgroup", "barrier of the region at a.c:8", "a.c:8"]]
-TOLD = {"segments": 7, "kinds": KINDS, "long": [6, 1 << 33], "own": [4, 1], "clauses": [[1, " depend(inout: x)", 1, 0]]}
+SUMS = [[0, 1, 1, 7, 7], [1, 2, 1, 5, 5], [2, 3, 1, 6, 6], [3, 4, 1, 0, 0], [4, 5, 1, 1, 1], [5, 6, 1, 0, 0],
+        [6, 0, 1, 1 << 33, 1 << 33]]
+TOLD = {"segments": 7, "kinds": KINDS, "long": [6, 1 << 33], "sums": SUMS, "own": [4, 1],
+        "clauses": [[1, " depend(inout: x)", 1, 0]]}
 ROWS = [(0, 0, 7), (1, 1, 5), (2, 1, 6), (3, 0, 0), (4, 2, 1), (5, 0, 0), (6, 0, 0)]    # kind, task, cost
 
 
@@ -39,11 +42,14 @@ def read(data):
 class OfARecording(unittest.TestCase):
     def check(self, found):
         wanted = read_code(TEXT.replace("work 4\n", "work 8589934592\n").splitlines(True), "a.tasks")
-        for name in ("of", "task", "cost", "kinds", "names", "own", "groups", "clauses"):
-            self.assertEqual(list(getattr(found, name)), list(getattr(wanted, name)), name)
+        for name in ("of", "task", "cost", "kinds", "names", "sums", "own", "groups", "clauses"):
+            self.assertEqual(getattr(found, name), getattr(wanted, name), name)
 
     def test_it_has_what_the_text_has(self):
         self.check(read(table(ROWS, TOLD)))
+
+    def test_older_ones_have_no_sums(self):
+        self.check(read(table(ROWS, {name: value for name, value in TOLD.items() if name != "sums"})))
 
     def test_block_by_block(self):
         with mock.patch("spanprof.segment_file.OF_A_BLOCK", 3):
@@ -56,6 +62,7 @@ class OfARecording(unittest.TestCase):
 
     def test_numbers_that_it_does_not_have(self):
         for name, value in (("segments", 10 ** 18), ("kinds", KINDS[1:]), ("kinds", KINDS + KINDS), ("own", [7, 1]),
+                            ("sums", SUMS[1:]), ("sums", [[*SUMS[0][:4], ""], *SUMS[1:]]), ("sums", []),
                             ("clauses", [[7, "if(0)", 1, 0]]), ("clauses", [[1, "if(0)", "", 0]])):
             with self.assertRaisesRegex(Fault, "segments is damaged"):
                 read(table(ROWS, {**TOLD, name: value}))

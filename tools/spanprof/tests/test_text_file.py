@@ -1,7 +1,7 @@
 import unittest
 
 from spanprof.tests.in_folder import InFolder
-from spanprof.text_file import TextFile, opened
+from spanprof.text_file import TextFile, is_cut, opened
 
 DOCUMENT = "omptasks 1\nwork 2\n---\nstart 0 0\n"
 
@@ -15,7 +15,7 @@ class Files(InFolder):
         text = TextFile(self.write("a.replay", DOCUMENT))
         self.assertEqual((str(text), self.read(text)), ("omptasks 1\nwork 2\n",) * 2)
         self.assertEqual(list(filter(None, text.lines())), ["omptasks 1", "work 2"])
-        self.assertTrue(text.is_cut())
+        self.assertTrue(is_cut(text.path))
 
     def test_words(self):
         self.assertEqual(self.read("work 1\n"), "work 1\n")

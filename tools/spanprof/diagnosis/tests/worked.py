@@ -1,5 +1,4 @@
 """Facts for tests: a run on four threads of 100 ms, whose parts a test sets."""
-from array import array
 
 from spanprof.diagnosis.facts import Facts
 from spanprof.diagnosis.places import TASK, Place, read_places
@@ -32,7 +31,7 @@ work 4
 
 def program(text=TEXT, unit=1):
     code = read_code(text.splitlines(True), "the text")
-    return read_places(code, array("Q", (unit * cost for cost in code.cost)))
+    return read_places(code, unit)
 
 
 def place(name, kind=TASK, cost=40 * MS, pieces=8, tasks=8, **more):

@@ -98,7 +98,8 @@ proved of the text, and of the changed text: spanprof has read both
         self.assertNotIn("span  ", out)
 
     def test_a_place_list(self):
-        rows = "".join("%d,1,%d,0,0,9\\n" % pair for pair in enumerate((4, 30, 3, 6, 0, 3, 30)))
+        sums = zip((1, 2, 2, 1, 1, 1, 1), (4, 30, 3, 6, 0, 3, 30))      # of segments and work
+        rows = "".join("%d,%d,%d,0,0,9\\n" % (place, *both) for place, both in enumerate(sums))
         script = "#!/bin/sh\ncat > /dev/null\ncase $1 in\n    span) printf 'segments 9\\nwork 76\\nspan 64\\n' ;;\n" \
             "    *) printf 'place,segments,work,on_path,path,slack\\n%s' ;;\nesac\n" % rows
         self.variables["SPANPROF_LARGE"] = self.program("large", script)
