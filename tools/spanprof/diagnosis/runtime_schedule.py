@@ -3,7 +3,7 @@ other tasks, so it idles where in a greedy run none does."""
 from dataclasses import replace
 
 from spanprof.diagnosis.step import predicted
-from spanprof.predict.gnu import GnuSimulation
+from spanprof.predict.gnu import LOCK, GnuSimulation
 from spanprof.predict.policy import Simulation, Spent
 from spanprof.predict.program import read_program
 
@@ -15,8 +15,8 @@ def scheduled_end(text, unit, facts):
     program = read_program(text)
     if len(program.tasks) > MOST:
         return None
-    kind = GnuSimulation if facts.is_on_gcc else Simulation
-    return kind(program, [cost * unit for cost in program.costs], facts.usable, Spent()).run().end
+    kind, lock = (GnuSimulation, LOCK) if facts.is_on_gcc else (Simulation, 0)
+    return kind(program, [cost * unit for cost in program.costs], facts.usable, Spent(lock=lock)).run().end
 
 
 def as_scheduled(facts, bench, step):

@@ -86,13 +86,13 @@ class Estimates(unittest.TestCase):
         found = estimate({2: [one]}, machine(dispatch=50, steal=400), 2, GNU)
         self.assertEqual((found.runtime, found.dispatch), (GNU, 0))
         self.assertEqual(found.time, 4 * 1000 + 5 * LOCK)
+
     def test_recorded_on_gccs_runtime(self):
         """The second thread comes late. A dispatch as recorded has the wait for the lock in it."""
         one = recording(2, dispatch=1000, arrivals=(0, 2200), runtime=GNU)
         self.assertEqual(estimate({2: [one]}, machine(), 2).time, 5 * 2000)
         on_one = estimate({2: [one]}, machine(), 1)
         self.assertEqual((on_one.dispatch, on_one.time), (1000 - LOCK, 8 * 2000))
-
 
     def test_a_lock(self):
         found = estimate({2: [recording(2, held=3000)]}, machine(), 4)
