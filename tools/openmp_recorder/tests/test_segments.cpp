@@ -32,15 +32,16 @@ TEST(segments_have_a_kind_a_task_and_a_cost) {
   EXPECT(out.column<uint16_t>(0, 7) == std::vector<uint16_t>({0, 1, 2, 3, 4, 5, 6}), true);
   EXPECT(out.column<uint32_t>(14, 7) == std::vector<uint32_t>({0, 1, 1, 0, 2, 0, 0}), true);
   EXPECT(out.column<uint32_t>(42, 7) == std::vector<uint32_t>({7, 5, 6, 0, 1, 0, 0}), true);
-  EXPECT(out.tail(),
-         "{\"segments\": 7, \"kinds\": [[true, \"\", \"\", \"\", \"\"], [false, \"a.c:3\", \"\", \"\", \"\"], "
-         "[false, \"a.c:3\", \"taskwait\", \"a.c:5\", \"\"], [true, \"\", \"creating a task\", \"a.c:3\", \"\"], "
-         "[false, \"one of the region's threads\", \"\", \"\", \"a.c:8\"], "
-         "[true, \"\", \"creating a task\", \"one of the region's threads\", \"a.c:8\"], "
-         "[true, \"\", \"taskgroup\", \"barrier of the region at a.c:8\", \"a.c:8\"]], "
-         "\"long\": [6,4294967296], "
-         "\"sums\": [[0, 1, 1, 7, 7], [1, 2, 1, 5, 5], [2, 3, 1, 6, 6], [3, 4, 1, 0, 0], [4, 5, 1, 1, 1], [5, 6, 1, 0, 0], "
-         "[6, 0, 1, 4294967296, 4294967296]], \"own\": [4,1], \"clauses\": [[1, \" depend(inout: x)\", 1, 0]]}\n");
+  EXPECT(
+      out.tail(),
+      "{\"segments\": 7, \"kinds\": [[true, \"\", \"\", \"\", \"\"], [false, \"a.c:3\", \"\", \"\", \"\"], "
+      "[false, \"a.c:3\", \"taskwait\", \"a.c:5\", \"\"], [true, \"\", \"creating a task\", \"a.c:3\", \"\"], "
+      "[false, \"one of the region's threads\", \"\", \"\", \"a.c:8\"], "
+      "[true, \"\", \"creating a task\", \"one of the region's threads\", \"a.c:8\"], "
+      "[true, \"\", \"taskgroup\", \"barrier of the region at a.c:8\", \"a.c:8\"]], "
+      "\"long\": [6,4294967296], "
+      "\"sums\": [[0, 1, 1, 7, 7], [1, 2, 1, 5, 5], [2, 3, 1, 6, 6], [3, 4, 1, 0, 0], [4, 5, 1, 1, 1], [5, 6, 1, 0, 0], "
+      "[6, 0, 1, 4294967296, 4294967296]], \"own\": [4,1], \"clauses\": [[1, \" depend(inout: x)\", 1, 0]]}\n");
 }
 
 TEST(a_group_of_a_loop_is_no_barrier) {
