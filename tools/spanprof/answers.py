@@ -157,10 +157,9 @@ class Answers:
         """Those on the path that `slack` shows."""
         return list(compress(range(len(self.code)), self.rows.critical))
 
-    @cached_property
+    @property
     def tasks(self):
-        """How many tasks there are beside the root."""
-        return max(self.code.task)
+        return self.code.tasks
 
     @cached_property
     def parts(self):

@@ -101,10 +101,22 @@ class Code:
             found[number][self.kinds[following].end] += count
         return found
 
+    @property
+    def tasks(self):
+        """How many there are beside the root."""
+        return sum(count for (kind, _), (count, *_) in self.sums.items() if not self.kinds[kind].after) - 1
+
     def firsts(self):
         """The first segment of each task, by their numbers."""
         is_first = [not kind.after for kind in self.kinds]
         return array("I", compress(range(len(self.of)), map(is_first.__getitem__, self.of)))
+
+    def task_costs(self):
+        """Of each task all its segments."""
+        costs = [0] * (self.tasks + 1)
+        for task, cost in zip(self.task, self.cost):
+            costs[task] += cost
+        return costs
 
     def parts(self):
         """How many of the tasks stand for a thread's own code between two barriers."""

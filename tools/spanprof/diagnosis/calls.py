@@ -89,11 +89,12 @@ def samples_in(path):
                 yield int(number), did, int(time), known(calls) if did in IN_CALLS else calls
 
 
-def calls_of(path, names):
+def calls_of(path, kinds, names):
+    """By the places of segments, whose `kinds` have these names."""
     found = Sampled(*(defaultdict(Counter) for _ in Sampled._fields))
     for number, did, time, calls in samples_in(path):
-        if 0 <= number < len(names):
-            getattr(found, did)[names[number]][calls] += time
+        if 0 <= number < len(kinds):
+            getattr(found, did)[names[kinds[number]]][calls] += time
     return Sampled(*map(dict, found))
 
 

@@ -400,7 +400,7 @@ def of_text(head, program, numbers):
     unit = head.nanoseconds or 1
     facts = Facts(program=head.program, whole=bool(head.whole), threads=head.threads or 1,
                   elapsed=(head.elapsed or 0) * unit, work=numbers["work"] * unit, span=numbers["span"] * unit,
-                  tasks=max(program.code.task) - head.pieces - head.parts, places=program.places,
+                  tasks=program.code.tasks - head.pieces - head.parts, places=program.places,
                   functions={at: function_in(words) for at, words in head.functions.items()})
     facts.coverage = head.covered / head.thread_time if head.covered and head.thread_time else None
     facts.chunks, facts.few_turns, facts.sources = head.chunks, head.few_turns, head.sources
@@ -425,7 +425,7 @@ def facts_of(recording, end_of=greedy_end):
     facts.denied = denied_time(regions, facts.usable)
     facts.tasks_in_regions = not regions or any(region.tasks for region in regions.regions)
     set_off(facts, off, program)
-    facts.calls = calls_of(recording.file("calls"), program.names)
+    facts.calls = calls_of(recording.file("calls"), code.of, program.kinds)
     set_ranks(facts)
     set_starting(facts)
     set_allocating(facts)

@@ -62,10 +62,9 @@ def levels_of(view, threads, segments, lanes, starts, ends):
     """The timeline of columns of numbers; each has to be one of a run."""
     if min(min(segments), min(lanes), min(starts), min(map(sub, ends, starts))) < 0:
         raise ValueError("below zero")
-    out, of_place = Levels(max(threads, max(lanes) + 1), max(ends)), [view.colour_of(one) for one in view.task_places]
-    colour = bytes(of_place[place] for place in view.task_place_of)
-    of_segment = bytes(map(colour.__getitem__, view.answers.code.task))
-    out.add_all(lanes, starts, ends, map(of_segment.__getitem__, segments))
+    out, code = Levels(max(threads, max(lanes) + 1), max(ends)), view.answers.code
+    colours = bytes(view.colour_of(view.task_places[view.task_place_of[kind]]) for kind in range(len(code.kinds)))
+    out.add_all(lanes, starts, ends, map(colours.__getitem__, map(code.of.__getitem__, segments)))
     return out
 
 

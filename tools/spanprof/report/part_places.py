@@ -31,8 +31,7 @@ def task_cells(view, place):
         return ["", ""]
     named = "task-place %d " % made.number
     return [view.figures.number(len(made.tasks), named + "count", view.shape_kind),
-            view.figures.time(median_low(map(view.task_costs.__getitem__, made.tasks)), named + "median",
-                              view.cost_kind)]
+            view.figures.time(median_low(made.tasks), named + "median", view.cost_kind)]
 
 
 def row(view, place):

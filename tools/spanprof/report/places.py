@@ -18,7 +18,7 @@ class Place:
     slack: int = 0
     number: int = 0
     kinds: Sequence[int] = field(default_factory=list)  # of its segments
-    tasks: Sequence[int] = field(default_factory=lambda: array("I"))
+    tasks: Sequence[int] = field(default_factory=lambda: array("Q"))     # what each costs with all its segments
 
 
 def by_name(answers, names):
@@ -49,6 +49,6 @@ def task_places(answers):
     names = [kind.task_place or (root if kind.is_root else "a task") for kind in code.kinds]
     found = by_name(answers, names)
     add = [found[name].tasks.append for name in names]
-    for number, segment in enumerate(code.firsts()):
-        add[code.of[segment]](number)
+    for kind, cost in zip(map(code.of.__getitem__, code.firsts()), code.task_costs()):
+        add[kind](cost)
     return numbered(found.values(), lambda place: (-place.cost, place.name))

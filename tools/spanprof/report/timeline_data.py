@@ -48,6 +48,7 @@ def timeline_data(view):
 def segments_data(view):
     """What the script needs: of each segment cost, task, place, slack; of each run starts and threads."""
     answers, rows, made = view.answers, view.answers.rows, view.answers.greedy
+    firsts = map(answers.code.of.__getitem__, answers.code.firsts())
     # Of each segment how many it waits for, and how far before it each of these is.
     waits = {"counts": packed(map(len, answers.predecessors)),
              "steps": packed(s - p for s, before in enumerate(answers.predecessors) for p in before)}
@@ -55,6 +56,6 @@ def segments_data(view):
             "places": [place.name for place in view.places],
             "cost": packed(rows.cost), "task": packed(rows.task), "place": packed(view.place_of),
             "slack": packed(rows.slack), "critical": packed(answers.path_segments),
-            "taskPlace": packed(view.task_place_of), "colours": len(BARS),
+            "taskPlace": packed(map(view.task_place_of.__getitem__, firsts)), "colours": len(BARS),
             "runs": {"greedy": run_data(made.starts, or_none(made.threads), answers.threads),
                      **({"recorded": recorded_data(view.run)} if view.run else {})}}

@@ -67,7 +67,7 @@ class View:
 
     def task_place_at(self, place):
         """That of the tasks of which the segments at a place are."""
-        return next(one for one in self.task_places if place.kinds[0] in one.kinds)
+        return self.task_places[self.task_place_of[place.kinds[0]]]
 
     @cached_property
     def true_times(self):
@@ -124,18 +124,6 @@ class View:
         return array("I", map(of_kind.__getitem__, code.of))
 
     @cached_property
-    def task_costs(self):
-        """Of each task all its segments."""
-        costs = [0] * (self.answers.tasks + 1)
-        for task, cost in zip(self.answers.code.task, self.answers.code.cost):
-            costs[task] += cost
-        return costs
-
-    @cached_property
     def task_place_of(self):
-        """Of each task the number of the place that creates it."""
-        out = array("I", [0]) * (self.answers.tasks + 1)
-        for place in self.task_places:
-            for task in place.tasks:
-                out[task] = place.number
-        return out
+        """Of each kind of segments the number of the place that creates their tasks."""
+        return {kind: number for number, place in enumerate(self.task_places) for kind in place.kinds}

@@ -60,7 +60,7 @@ class Files(unittest.TestCase):
                 file.write("0 ran 8000 main;operator new (unsigned long)\n2 ran 4000 main;b\n0 ran 4000 main;b\n"
                            "7 ran 4000 main\n0 slept 900 main;load;read\n2 shares 4000 a.c:7\n"
                            "1 allocated 4000 a.c:9 parse(char const*)\n1 allocated 2000  \n")
-            found = calls_of(path, ["serial", "task", "serial"])
+            found = calls_of(path, [0, 1, 0], ["serial", "task"])
         self.assertEqual(found.slept, {"serial": Counter({("main", "load", "read"): 900})})
         self.assertEqual(found.shares, {"serial": Counter({"a.c:7": 4000})})
         self.assertEqual(found.allocated, {"task": Counter({"a.c:9 parse(char const*)": 4000, " ": 2000})})
@@ -69,4 +69,4 @@ class Files(unittest.TestCase):
         self.assertEqual(together(found.ran, ["serial", "task"]), found.ran["serial"])
 
     def test_no_file(self):
-        self.assertEqual(calls_of("", ["serial"]), Sampled({}, {}))
+        self.assertEqual(calls_of("", [0], ["serial"]), Sampled({}, {}))

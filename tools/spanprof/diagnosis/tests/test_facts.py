@@ -3,6 +3,7 @@ import os
 import tempfile
 import unittest
 from collections import Counter
+from functools import partial
 from types import SimpleNamespace
 from unittest import mock
 
@@ -144,11 +145,11 @@ class Recorded(unittest.TestCase):
         with tempfile.TemporaryDirectory() as folder:
             path = os.path.join(folder, "m")
             for read, line in ((off_by_segment, "0 5"), (locks_of, "[" * 100000), (locks_of, '{"times": 3}'),
-                               (calls_of, "0 jumped 5 main")):
+                               (partial(calls_of, names=["a place"]), "0 jumped 5 main")):
                 with open(path, "w", encoding="utf-8") as file:
                     file.write(line + "\n")
                 with self.assertRaisesRegex(Fault, "/m is damaged: "):
-                    read(path, ["a place"])
+                    read(path, [0])
 
     def test_locks_of_a_head_and_of_a_file(self):
         self.assertEqual(locks_of("", read_head(HEAD)), [Held("image.c:27", "critical", 2, 1000, 3000)])

@@ -34,7 +34,8 @@ class Kinds(unittest.TestCase):
         view = worked.view("mesh")
         self.assertEqual([view.places[view.place_of[s]].name for s in (1, 3, 8)],
                          ["task at mesh.c:8", "task at mesh.c:10", "task at mesh.c:10"])
-        self.assertEqual(view.task_places[view.task_place_of[3]].name, "mesh.c:3")
+        third = view.answers.code.of[view.answers.code.firsts()[3]]
+        self.assertEqual(view.task_places[view.task_place_of[third]].name, "mesh.c:3")
 
     def test_the_last_places_share_a_colour(self):
         view = worked.view("mesh")
