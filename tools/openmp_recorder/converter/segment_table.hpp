@@ -67,7 +67,7 @@ class SegmentTable {
   std::vector<uint16_t> kinds_of;  // segments, as far as they are not handed on
   std::vector<uint32_t> tasks_of, costs;
   uint64_t segments = 0, cost = 0;  // of the last one
-  uint32_t last = 0;                // its kind
+  uint32_t last = 0;  // its kind
   Piece long_costs, own;  // in JSON
 
   uint32_t word(std::string_view of_place);
