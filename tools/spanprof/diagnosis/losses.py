@@ -29,7 +29,7 @@ OF_ITS_LINE = 7 / 8     # of the uses of numbers of 8 bytes one after the other,
 UNSHARED = 0.02         # of the samples of code, below which it uses no line that other threads use
 NO_CAUSE = ("recorder", "startup")
 FINE = ("small_tasks", "creation")      # of all tasks together
-OF_WAITS = ("small_tasks", "small_regions", "exclusion", "sleep", "spin", "too_many_threads", "affinity")
+OF_WAITS = ("small_tasks", "small_regions", "exclusion", "system", "sleep", "spin", "too_many_threads", "affinity")
 OF_SHAPE = ("too_few_tasks", "imbalance", "dependence", "wait")
 
 
@@ -527,7 +527,7 @@ def useful_time(facts, found):
 
 def least_of(facts, found, kind):
     """The least loss that is a cause: a share of the useful time. On a busy machine it is a tenth at least, and more of
-    waits, in which other programs may have a part; they have none in costs."""
+    waits and time in the kernel, in which other programs may have a part; they have none in costs."""
     least = max(BY_KIND[kind].least, SECOND * bool(facts.taken))
     return least * useful_time(facts, found) + UNSURE * facts.taken * (kind in OF_WAITS)
 
