@@ -180,7 +180,7 @@ _spanprof_conformance() {
         --cc) mapfile -t COMPREPLY < <(compgen -c -- "$current" | grep -E '^(gcc|clang|cc|icx)' | sort -u) ;;
         --tasks) _spanprof_among "$current" tied untied mixed ;;
         --settings) _spanprof_among "$current" free priorities pinned bound active passive sleepy perturbed stacks \
-            unlogged interrupted orphaned nested cancellable unthrottled unconstrained ;;
+            unlogged hurried interrupted orphaned nested cancellable unthrottled unconstrained linear trees ;;
         *) case $current in
             -*) _spanprof_among "$current" "$(_spanprof_options "${COMP_WORDS[@]:0:2}")" ;;
             *) _spanprof_files "$current" ;;

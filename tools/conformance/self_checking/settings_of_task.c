@@ -1,5 +1,5 @@
 // What a task sets for itself (threads of its regions, schedule) its creator and its siblings do not see; children do, and
-// the implicit tasks of its regions (default allocator).
+// the implicit tasks of its regions.
 // openmp: 2.4 how the per-data environment ICVs work
 #include "expect.h"
 
@@ -9,15 +9,22 @@ static void look_from_child(int threads) {
 #pragma omp taskwait
 }
 
-static void look_from_region(omp_allocator_handle_t allocator) {
+static void look_from_region(omp_allocator_handle_t allocator, int chunk) {
   omp_set_default_allocator(allocator);
+  omp_set_schedule(omp_sched_dynamic, chunk);
 #pragma omp parallel
-  expect("the default allocator in a region", (long)omp_get_default_allocator(), (long)allocator);
+  {
+    omp_sched_t kind;
+    int seen = 0;
+    omp_get_schedule(&kind, &seen);
+    expect("iterations of a chunk in a region", seen, chunk);
+    expect("the default allocator in a region", (long)omp_get_default_allocator(), (long)allocator);
+  }
 }
 
 int main(void) {
-  look_from_region(omp_large_cap_mem_alloc);
-  look_from_region(omp_default_mem_alloc);
+  look_from_region(omp_large_cap_mem_alloc, 5);
+  look_from_region(omp_default_mem_alloc, 3);
   for (int round = 0; round < 20; round++) {
 #pragma omp parallel
 #pragma omp single

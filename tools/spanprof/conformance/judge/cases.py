@@ -26,7 +26,7 @@ from spanprof.conformance.run.toolchain import BuildFailed
 
 # Settings that programs take for the first of every two numbers of threads, by how their names begin.
 FAVOURED = {"priority": "priorities", "cancel": "cancellable", "many": "priorities", "rounds": "interrupted",
-            "pressure": "interrupted", "hurry": "hurried"}
+            "pressure": "interrupted", "hurry": "hurried", "barrier": "trees", "region": "linear", "settings": "linear"}
 # The same of LLVM's runtime, whose full queues grow in this setting alone.
 FULL = {"pressure_throttled": "unthrottled", "pressure_queue": "unthrottled", "crowd": "unthrottled"}
 # Programs so short that so many times as many runs take no longer than those of others: in the setting that they

@@ -26,6 +26,12 @@ def overwriting(shows, variables=(), **others):
     return Setting(shows, {**dict(variables), **OVERWRITTEN}, **others)
 
 
+def barriers(shows, form):
+    """A setting in which all barriers of LLVM's runtime have another form than by itself."""
+    kinds = ("PLAIN", "FORKJOIN", "REDUCTION")
+    return overwriting(shows, {f"KMP_{kind}_BARRIER_PATTERN": f"{form},{form}" for kind in kinds}, families=("kmp",))
+
+
 SETTINGS = {
     "free": Setting("as the runtime is by itself"),
     "priorities": overwriting("priorities count", {"OMP_MAX_TASK_PRIORITY": "9"}),
@@ -47,6 +53,8 @@ SETTINGS = {
                                {"OMP_CANCELLATION": "true", "CONFORMANCE_TEAM": "cancellable"}),
     "unthrottled": overwriting("queues of ready tasks grow", {"KMP_ENABLE_TASK_THROTTLING": "0"}, families=("kmp",)),
     "unconstrained": overwriting("threads take any task", {"KMP_TASK_STEALING_CONSTRAINT": "0"}, families=("kmp",)),
+    "linear": barriers("one thread gathers all others at barriers", "linear"),
+    "trees": barriers("threads gather in trees at barriers", "tree"),
 }
 
 

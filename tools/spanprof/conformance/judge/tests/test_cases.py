@@ -81,6 +81,7 @@ class Plans(unittest.TestCase):
         self.assertIn("unthrottled", self.settings("pressure_queue", *["free"] * 40, "interrupted", "unthrottled"))
         self.assertIn("interrupted", self.settings("pressure_queue", *["free"] * 40, "interrupted"))
         self.assertIn("interrupted", self.settings("pressure_waits", *["free"] * 40, "interrupted", "unthrottled"))
+        self.assertIn("trees", self.settings("barrier_of_for", *["free"] * 40, "trees"))
         self.assertEqual(self.settings("crowd-7", "free"), {"free"})
 
 
