@@ -1,23 +1,28 @@
 """A text with what the runtime takes for each task put where it falls, as `work`.
 
-A deferred task has the dispatch before its code. What creating it takes stands in the code of its parent as it was
-recorded. A steal hangs on the schedule and stands in no text.
+A deferred task has the dispatch before its code, and what follows a wait on gcc's runtime has what that takes. What
+creating a task takes stands in the code of its parent as it was recorded. A steal hangs on the schedule and stands in
+no text.
 """
 import json
 
 from spanprof.head import comments
 from spanprof.marks import as_text, statements
+from spanprof.predict.program import END, WAIT
 from spanprof.program_text import Statement
 
 KEPT = ("recorded: {", "region: ", "place: ")  # lines of the head
 
 
-def burdened(program, costs, dispatch):
-    """The costs with the dispatch of each deferred task."""
+def burdened(program, costs, dispatch, resumption=0):
+    """The costs with the dispatch of each deferred task, and with what it takes to go on behind each wait."""
     out = list(costs)
-    for number in range(1, len(program.tasks)):
-        if not program.tasks[number].is_undeferred:
+    for number, task in enumerate(program.tasks):
+        if number and not task.is_undeferred:
             out[program.first_segment(number)] += dispatch
+        for (kind, _), (_, segment) in zip(task.steps, task.steps[1:]):
+            if kind in (WAIT, END):
+                out[segment] += resumption
     return out
 
 

@@ -3,7 +3,7 @@ nothing of it is proved."""
 import statistics
 from dataclasses import dataclass, replace
 from math import exp, log
-from typing import List
+from typing import List, NamedTuple, Tuple
 
 from spanprof.errors import Fault
 from spanprof.predict.burden import burdened
@@ -48,11 +48,6 @@ def base_of(recordings, threads):
     return most, Growth(recordings[numbers[-2]], most) if len(numbers) > 1 else None
 
 
-def simulated(simulation, program, costs, threads, spent, came, seeds):
-    """The median end of some runs."""
-    return statistics.median_low(simulation(program, costs, threads, spent, seed, came).run().end for seed in seeds)
-
-
 def spent_on(machine, threads, base=None):
     """A wake-up was measured with the creation of the task, and its steal. A dispatch that a recording tells has its
     steals in it."""
@@ -66,37 +61,53 @@ def kind_of(of, threads):
     return AS_RECORDED if threads in of else ON_OTHERS if len(of) > 1 else ALONE
 
 
-def on_gcc(base, threads):
-    """What a dispatch takes there, and how long its lock is held. As recorded, the wait for the lock is in both that
-    and the costs; on other threads it is another one."""
+class Runs(NamedTuple):
+    """How a run is simulated, what it takes to begin a task and to go on behind a wait, what else is spent, and when
+    the threads come, which no other runtime tells."""
+    simulation: type
+    dispatch: int
+    resumption: int
+    spent: Spent
+    came: Tuple[int, ...]
+
+
+def runs_on_gcc(base, threads, wake, came):
+    """As recorded, the wait for the lock is in the costs and in what a dispatch took; on other threads it is another
+    one."""
     if base.runtime != GNU or base.dispatch is None:
-        return 0, LOCK
-    return (base.dispatch, 0) if threads == base.threads else (max(base.dispatch - LOCK, 0), LOCK)
+        return Runs(GnuSimulation, 0, 0, Spent(0, wake, LOCK), came)
+    if threads == base.threads:
+        return Runs(GnuSimulation, base.dispatch, base.resumption, Spent(0, wake), came)
+    return Runs(GnuSimulation, max(base.dispatch - LOCK, 0), base.resumption, Spent(0, wake, LOCK), came)
 
 
 def runs_of(runtime, base, machine, threads):
-    """How a run is simulated, what a dispatch takes, what else is spent, and when the threads come, which no other
-    runtime tells. On one thread of LLVM's tasks are run where they are made."""
+    """On one thread LLVM's runtime runs tasks where they are made."""
     spent = spent_on(machine, threads, base)
     came = on_threads(base.arrivals, base.threads, threads) if runtime == base.runtime else ()
     if runtime == GNU:
-        dispatch, lock = on_gcc(base, threads)
-        return GnuSimulation, dispatch, Spent(0, spent.wake, lock), came
+        return runs_on_gcc(base, threads, spent.wake, came)
     dispatch = machine.cost("dispatch", threads) if base.dispatch is None else base.dispatch
-    return Simulation, dispatch if threads > 1 else 0, spent, came
+    return Runs(Simulation, dispatch if threads > 1 else 0, 0, spent, came)
+
+
+def simulated(runs, program, costs, threads, seeds):
+    """The median end of some runs."""
+    return statistics.median_low(
+        runs.simulation(program, costs, threads, runs.spent, seed, runs.came).run().end for seed in seeds)
 
 
 def of_one(base, growth, machine, threads, runtime, seeds):
     """By one recording, and by how code grows; without an interval."""
     costs = growth.costs(base.program, threads) if growth else base.program.costs
     grown = log(max(sum(costs), 1) / max(base.work, 1))
-    simulation, dispatch, spent, came = runs_of(runtime, base, machine, threads)
-    costs = burdened(base.program, costs, dispatch)
+    runs = runs_of(runtime, base, machine, threads)
+    costs = burdened(base.program, costs, runs.dispatch, runs.resumption)
     outside = int(growth.outside(base, threads)) if growth else base.outside
-    end = simulated(simulation, base.program, costs, threads, spent, came, seeds) + outside
+    end = simulated(runs, base.program, costs, threads, seeds) + outside
     time = max(end, base.held)
-    return Estimate(base, threads, time, time, time, costs, outside, dispatch, spent.steal, grown, base.held > end,
-                    growth.unmatched if growth else 0.0, runtime)
+    return Estimate(base, threads, time, time, time, costs, outside, runs.dispatch, runs.spent.steal, grown,
+                    base.held > end, growth.unmatched if growth else 0.0, runtime)
 
 
 def estimate(recordings, machine, threads, runtime=None):

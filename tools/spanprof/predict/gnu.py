@@ -2,9 +2,10 @@
 
 One lock guards the tasks of the whole team. A thread with nothing to do takes the oldest task. One that waits in a task
 for its children begins only these, the newest first, and at the end of a group only the group's. Where more than 64
-tasks for each thread lie ready or are running, a new one is run at once.
+tasks for each thread lie ready or are running, a new one is run at once, and where with all of a taskloop there were
+more, all of that.
 """
-from collections import deque
+from collections import Counter, deque
 
 from spanprof.predict.policy import Simulation
 from spanprof.predict.program import END
@@ -21,11 +22,20 @@ class GnuSimulation(Simulation):
         self.team, self.is_ready = deque(), set()
         self.newest, self.of_group = [[] for _ in self.tasks], [[] for _ in range(program.groups)]
         self.count, self.lock_free = 0, 0
+        self.loops = Counter(task.groups[-1] for task in self.tasks if task.is_of_loop)     # how many tasks, by group
+        self.is_loop_at_once = {}
 
     def create(self, thread, frame, number):
-        if not self.is_made[number] and self.count > MOST * self.threads:
+        if not self.is_made[number] and self.is_run_at_once(self.tasks[number]):
             self.at_once.add(number)
         return super().create(thread, frame, number)
+
+    def is_run_at_once(self, task):
+        most = MOST * self.threads
+        if not task.is_of_loop:
+            return self.count > most
+        loop = task.groups[-1]
+        return self.is_loop_at_once.setdefault(loop, self.count + self.loops[loop] > most)
 
     def put(self, thread, number):
         """Threads with nothing to do see it. One that sleeps in a task does not: it is woken by what it waits for."""

@@ -19,6 +19,7 @@ class Task:
     steps: List[Tuple[int, int]] = field(default_factory=list)
     awaits: int = 0                 # how many earlier siblings by `depend`
     followers: List[int] = field(default_factory=list)  # the later siblings that wait for it
+    is_of_loop: bool = False        # of a taskloop, whose group has its place too
 
 
 @dataclass
@@ -69,7 +70,7 @@ class Builder:
     def __init__(self):
         self.segment, self.depends = 0, Depends()
         self.tasks = [Task(-1, 0, "", steps=[(WORK, 0)])]
-        self.open_tasks, self.open_groups, self.blocks, self.groups = [0], [], [], 0
+        self.open_tasks, self.open_groups, self.blocks, self.groups = [0], [], [], 0    # blocks: their marks
 
     def step(self, kind, of=0):
         self.tasks[self.open_tasks[-1]].steps.append((kind, of))
@@ -80,7 +81,7 @@ class Builder:
         elif one.kind == "taskgroup":
             self.step(BEGIN, self.groups)
             self.open_groups.append(self.groups)
-            self.blocks.append(one.kind)
+            self.blocks.append(one)
             self.groups += 1
         elif one.kind == "taskwait":
             self.step(WAIT)
@@ -99,12 +100,14 @@ class Builder:
             made.awaits = len(before)
             for other in before:
                 self.tasks[other].followers.append(number)
+        around = self.blocks[-1] if self.blocks else one
+        made.is_of_loop = around.kind == "taskgroup" and one.comment == around.comment != ""
         self.tasks.append(made)
         self.open_tasks.append(number)
-        self.blocks.append(one.kind)
+        self.blocks.append(one)
 
     def end(self):
-        if self.blocks.pop() == "task":
+        if self.blocks.pop().kind == "task":
             self.open_tasks.pop()
         else:
             self.step(END, self.open_groups.pop())

@@ -33,6 +33,7 @@ class Recorded:
     is_timed: bool = True
     arrivals: Tuple[int, ...] = ()  # of the threads, after the code has begun
     dispatch: Optional[int] = None  # what it took to begin a task, where the times tell it
+    resumption: int = 0     # and to go on behind a wait that was over
     preempted: int = 0      # what other programs took
     is_changed: bool = False    # the text is that of a changed program
     runtime: str = LLVM         # on which it was recorded
@@ -88,7 +89,7 @@ def take_times(one, path):
     one.outside, one.is_timed = min(columns[2]) - first + last - max(columns[3]), True
     times = times_of(one.program, list(zip(*columns)))
     if times:
-        one.arrivals, one.dispatch = times.arrivals(), times.dispatch()
+        one.arrivals, one.dispatch, one.resumption = times.arrivals(), times.dispatch(), times.resumption()
 
 
 def recorded(path, name="", runtime=LLVM):

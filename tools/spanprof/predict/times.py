@@ -1,9 +1,12 @@
-"""What the times of a recording tell of its threads: when they come, and what the runtime takes to begin a task.
+"""What the times of a recording tell of its threads: when they come, and what the runtime takes to begin a task and to
+go on behind a wait.
 
 The runtime starts or wakes the threads of a region one after the other, and meanwhile the first one is at work: on a
 short region that is a good part of its time.
 """
-from spanprof.predict.program import CREATE
+from math import inf
+
+from spanprof.predict.program import CREATE, END, WAIT, WORK
 
 MOST_GAP = 20000    # nanoseconds: what is longer is another program's turn, and nothing of the runtime
 LEAST_GAPS = 10
@@ -30,10 +33,33 @@ class Times:
             for (_, segment), (kind, number) in zip(task.steps, task.steps[1:]):
                 if kind == CREATE:
                     ready[number] = max(ready[number], self.ends[segment])
-            over = self.ends[task.steps[-1][1]]
             for follower in task.followers:
-                ready[follower] = max(ready[follower], over)
+                ready[follower] = max(ready[follower], self.over(task))
         return ready
+
+    def over(self, task):
+        return self.ends[task.steps[-1][1]]
+
+    def groups_over(self):
+        over = [0] * self.program.groups
+        for task in self.program.tasks:
+            for group in task.groups:
+                over[group] = max(over[group], self.over(task))
+        return over
+
+    def resumed_at(self):
+        """When each segment behind a wait could begin: the code before it, and what it waits for, had ended."""
+        groups, out = self.groups_over(), {}
+        for task in self.program.tasks:
+            code = children = 0
+            for (kind, of), (_, segment) in zip(task.steps, task.steps[1:]):
+                if kind == WORK:
+                    code = self.ends[of]
+                elif kind == CREATE:
+                    children = max(children, self.over(self.program.tasks[of]))
+                elif kind in (WAIT, END):
+                    out[segment] = max(code, children if kind == WAIT else groups[of])
+        return out
 
     def deferred(self):
         """By their first segment."""
@@ -57,19 +83,29 @@ class Times:
         start, until = min(first), self.lay_ready_until()
         return tuple(sorted(max(min(one, until) - start, 0) for one in first))
 
-    def gaps(self):
-        """The times between two segments of a thread where the second begins a task that was ready before."""
-        tasks = self.deferred()
+    def gaps(self, ready):
+        """The times between two segments of a thread where the second one could begin before, by when each could."""
         for one in self.by_thread.values():
             for (_, end, _), (begin, _, segment) in zip(one, one[1:]):
-                if segment in tasks and self.ready[tasks[segment]] <= end and begin - end <= MOST_GAP:
+                if ready.get(segment, inf) <= end and begin - end <= MOST_GAP:
                     yield begin - end
 
+    def begun_at(self):
+        """When the first segment of each task could begin."""
+        return {segment: self.ready[number] for segment, number in self.deferred().items()}
+
     def dispatch(self):
-        """What the runtime takes to begin a task, wherever it lay, with what the recorder takes there: the mean, since
-        they add up. None where too few tell it."""
-        found = list(self.gaps())
-        return sum(found) // len(found) if len(found) >= LEAST_GAPS else None
+        """What the runtime takes to begin a task, wherever it lay, with what the recorder takes there."""
+        return mean(list(self.gaps(self.begun_at())))
+
+    def resumption(self):
+        """What it takes to go on behind a wait that is over."""
+        return mean(list(self.gaps(self.resumed_at()))) or 0
+
+
+def mean(gaps):
+    """Since they add up. None where too few tell it."""
+    return sum(gaps) // len(gaps) if len(gaps) >= LEAST_GAPS else None
 
 
 def times_of(program, rows):

@@ -34,10 +34,10 @@ def model(found):
 
 def runtime_words(base, machine, runtime=LLVM):
     """What the runtime takes, and where that was measured."""
+    if base.dispatch is not None and runtime == base.runtime:
+        return burden_words(base.dispatch) + " (measured in the recording)"
     if runtime == GNU:
         return "%s of the team's lock a task (gcc 12's, measured on another machine)" % in_us(LOCK)
-    if base.dispatch is not None:
-        return burden_words(base.dispatch) + " (measured in the recording)"
     costs = [machine.cost(name, base.threads) for name in ("dispatch", "steal")]
     return "%s and %s a steal (measured on this machine)" % (burden_words(costs[0]), in_us(costs[1]))
 

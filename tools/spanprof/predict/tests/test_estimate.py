@@ -28,6 +28,10 @@ class Burdens(unittest.TestCase):
         program = read_program("omptasks 1 task { work 5 task if(0) { work 3 } } task { }")
         self.assertEqual(burdened(program, program.costs, 10), [0, 15, 3, 0, 0, 10, 0])
 
+    def test_what_follows_a_wait(self):
+        program = read_program("omptasks 1 task { work 5 } taskwait work 1 taskgroup { task { } work 2 } work 3")
+        self.assertEqual(burdened(program, program.costs, 10, 7), [0, 15, 0, 8, 10, 2, 10])
+
     def test_the_text(self):
         text = '# recorded: {"program": "a", "unit": "us"}\n# elapsed: 9\nomptasks 1\nwork 1\n' \
             "task {  # a.c:1\nwork 3\n}\ntaskgroup {  # a.c:2\n}\nwork 1\ntaskwait\n"
@@ -93,6 +97,8 @@ class Estimates(unittest.TestCase):
         self.assertEqual(estimate({2: [one]}, machine(), 2).time, 5 * 2000)
         on_one = estimate({2: [one]}, machine(), 1)
         self.assertEqual((on_one.dispatch, on_one.time), (1000 - LOCK, 8 * 2000))
+        waiting = recording(2, TASKS + "taskwait\n", dispatch=1000, resumption=500, runtime=GNU)
+        self.assertEqual(estimate({2: [waiting]}, machine(), 2).time, 4 * 2000 + 500)
 
     def test_a_lock(self):
         found = estimate({2: [recording(2, held=3000)]}, machine(), 4)

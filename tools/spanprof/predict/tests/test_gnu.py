@@ -74,6 +74,13 @@ class Costs(unittest.TestCase):
         run = GnuSimulation(program, program.costs, 1, Spent(lock=LOCK)).run()
         self.assertEqual((run.dispatches, run.end), (MOST + 1, 100 * 1000 + (MOST + 1) * LOCK))
 
+    def test_a_taskloop_of_too_many_is_run_at_once(self):
+        """Of 2 threads by one, unless it has 128 tasks or fewer; other groups as their tasks are made."""
+        for tasks, group, end in ((128, "a.c:1", 64), (129, "a.c:1", 129), (130, "a.c:0", 65)):
+            text = "omptasks 1\ntaskgroup {  # %s\n%s}\n" % (group, "task {  # a.c:1\nwork 1000\n}\n" * tasks)
+            program = read_program(text)
+            self.assertEqual(GnuSimulation(program, program.costs, 2, Spent()).run().end, end * 1000)
+
     def test_one_that_waits_by_depend_is_not_run_before(self):
         text = "omptasks 1" + " task { work 9 }" * 65 + " task depend(out: a) { work 7 } task depend(in: a) { work 7 }"
         program = read_program(text)

@@ -26,7 +26,7 @@ class Threads(unittest.TestCase):
         text = "omptasks 1 task depend(out: a) { work 1 } task depend(in: a) { work 1 }"
         found = times((0, 0, 0, 1), (1, 1, 50, 90), (2, 0, 1, 2), (3, 1, 95, 99), (4, 0, 2, 3), text=text)
         self.assertEqual(found.ready[1:], [1, 90])
-        self.assertEqual(list(found.gaps()), [5])
+        self.assertEqual(list(found.gaps(found.begun_at())), [5])
 
     def test_times_of_another_text(self):
         self.assertIsNone(times((0, 0, 0, 1)))
@@ -46,7 +46,7 @@ class Dispatches(unittest.TestCase):
     def test_a_thread_that_has_waited_tells_none(self):
         """The first task is ready at 110, and the thread is free from 130 on; the other one comes at 170."""
         found = times((0, 0, 100, 110), (1, 0, 134, 150), (2, 0, 110, 120), (3, 1, 170, 180), (4, 0, 120, 130))
-        self.assertEqual(list(found.gaps()), [4])
+        self.assertEqual(list(found.gaps(found.begun_at())), [4])
         self.assertIsNone(found.dispatch())     # too few
 
     def test_the_mean(self):
@@ -57,7 +57,22 @@ class Dispatches(unittest.TestCase):
 
     def test_another_programs_turn_is_left_out(self):
         found = times((0, 0, 100, 110), (1, 0, 90000, 90001), (2, 0, 110, 120), (3, 1, 170, 180), (4, 0, 120, 130))
-        self.assertEqual(list(found.gaps()), [])
+        self.assertEqual(list(found.gaps(found.begun_at())), [])
+
+
+class Resumptions(unittest.TestCase):
+    def test_a_wait_that_is_over(self):
+        """The first thread goes on 5 after its own child, and 8 after the group, of which another one had a task."""
+        text = "omptasks 1 task { work 1 } work 1 taskwait work 1 taskgroup { task { work 1 task { work 1 } } } work 1"
+        found = times((0, 0, 0, 10), (1, 0, 12, 20), (2, 0, 10, 11), (3, 0, 25, 30), (4, 0, 32, 40), (5, 1, 33, 39),
+                      (6, 0, 40, 41), (7, 0, 30, 31), (8, 0, 49, 50), text=text)
+        self.assertEqual(found.resumed_at(), {3: 20, 8: 41})
+        self.assertEqual((list(found.gaps(found.resumed_at())), found.resumption()), ([5, 8], 0))
+
+    def test_one_that_waits_for_another_thread_is_not_over(self):
+        text = "omptasks 1 task { } taskwait"
+        found = times((0, 0, 0, 10), (1, 1, 12, 20), (2, 0, 10, 11), (3, 0, 25, 30), text=text)
+        self.assertEqual((found.resumed_at(), list(found.gaps(found.resumed_at()))), ({3: 20}, []))
 
 
 class Simulated(unittest.TestCase):
