@@ -1,9 +1,9 @@
 #!/usr/bin/env bash
 # Completes lines by the functions of tools/completion, in bash, and in zsh where there is one, and compares what comes
-# with what has to come. A prefix may be named on which `make -C tools install` has put them.
+# with what has to come. SPANPROF_LARGE names that program. A prefix may be named on which `make -C tools install` has put them.
 set -euo pipefail
 cd "$(dirname "$0")/../.."
-top=$PWD
+top=$PWD large=${SPANPROF_LARGE:-$PWD/crates/spanprof_large/out/spanprof_large}
 bash_file=$top/tools/completion/spanprof.bash zsh_folder=$top/tools/completion
 if [ $# -gt 0 ]; then
     bash_file=$1/share/bash-completion/completions/spanprof-record zsh_folder=$1/share/zsh/site-functions
@@ -14,7 +14,9 @@ folder=$(mktemp -d)
 trap 'rm -rf "$folder"' EXIT
 cp "$zsh_folder/_spanprof" "$folder"
 cd "$folder"
-mkdir sources
+mkdir sources .bin
+ln -s "$large" .bin/spanprof_large
+PATH=$folder/.bin:$PATH
 touch mine.tasks mine.html
 wrong=0
 expect() { # SHELL GOT WANTED LINE

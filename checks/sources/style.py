@@ -33,7 +33,7 @@ def faults(source):
     """Pairs of a line's number and what is wrong there."""
     tree = ast.parse(source)
     long = {number: len(line) for number, line in enumerate(source.split("\n"), 1) if len(line) > MOST_COLUMNS}
-    texts = set(inside_texts(source) if long else ()).difference(docstrings(tree))
+    texts = set(inside_texts(source)).difference(docstrings(tree)) if long else ()
     yield from ((number, "%d columns" % length) for number, length in long.items() if number not in texts)
     for node in ast.walk(tree):
         if isinstance(node, ast.FunctionDef) and node.end_lineno - node.lineno + 1 > MOST_LINES:

@@ -1,5 +1,6 @@
 """All definitions and promises of a repository, and the walk from a promise to what it rests on."""
 import pathlib
+from collections import defaultdict
 
 from believed.clauses import promises_of
 from believed.definitions import arms_of, definitions_of, imports_of, module_of, words_of
@@ -9,10 +10,12 @@ class Library:
     def __init__(self, files):
         """`files` are pairs of a module's name and its text."""
         self.definitions, self.imports, self.arms = {}, {}, {}
+        self.modules = defaultdict(list)    # by the name of a definition
         for module, text in files:
             self.imports[module] = imports_of(text)
             for name, definition in definitions_of(module, text).items():
                 self.definitions[module, name] = definition
+                self.modules[name].append(module)
                 for arm in arms_of(definition):
                     self.arms[module, name, arm] = (module, name)
 
@@ -36,7 +39,7 @@ class Library:
     def handed_on(self, path, name):
         """A module of a lower crate that another crate's specs hand on under its own name."""
         stem = path.split(".")[-1]
-        places = [module for module, known in self.definitions if known == name and module.endswith("." + stem)]
+        places = [module for module in self.modules.get(name, ()) if module.endswith("." + stem)]
         return (places[0], name) if len(places) == 1 else None
 
     def cited(self, imports, module, words):
