@@ -112,8 +112,9 @@ std::string joined(const Names &names) {
   return out;
 }
 
-enum Did { ran, slept, shares, at, allocated, spins, strides };
-constexpr const char *words[] = {" ran ", " slept ", " shares ", " at ", " allocated ", " spins ", " strides "};
+enum Did { ran, slept, shares, at, allocated, spins, strides, loops };
+constexpr const char *words[] = {" ran ",       " slept ", " shares ",  " at ",
+                                 " allocated ", " spins ", " strides ", " loops "};
 
 using Sampled = std::pair<Did, std::string>;  // in which calls, or where
 
@@ -179,7 +180,7 @@ std::vector<Contended> all_contended(const Stacks &stacks, Places &places) {
   if (!places.modules()) return std::vector<Contended>(stacks.interrupted.size());
   std::vector<Contended> found = contending(stacks, *places.modules());
   std::set<const void *> codes;
-  for (const Contended &one : found) codes.insert(one.place);
+  for (const Contended &one : found) codes.insert({one.place, one.loop});
   places.look_up({codes.begin(), codes.end()});
   auto has_line = [&](const void *code) {
     const std::vector<Frame> &frames = places.frames(code);
@@ -219,7 +220,10 @@ std::string sampled_lines(const Region &region, OffTimes &times, const Stacks &s
     if (!one.asleep && !named.own.at.empty()) by_calls[{at, named.own.at}] += one.stands_for;
     if (!one.asleep && named.allocates)
       by_calls[{allocated, named.own.at + " " + named.own.function}] += one.stands_for;
-    if (!one.asleep && shared.is_wide && !named.own.at.empty()) by_calls[{strides, named.own.at}] += one.stands_for;
+    if (!one.asleep && shared.loop && !named.own.at.empty()) {
+      by_calls[{strides, named.own.at}] += one.stands_for;
+      by_calls[{loops, places.at(shared.loop)}] += one.stands_for;
+    }
     auto beyond = static_cast<uint64_t>(shared.beyond * one.stands_for);
     if (beyond && library_of_system(shared.place, places).empty() && !places.at(shared.place).empty())
       by_calls[{shared.is_wait ? spins : shares, places.at(shared.place)}] += beyond;

@@ -185,7 +185,7 @@ std::map<const void *, double> shared_parts(std::vector<Used> all) {
 std::vector<Contended> contending(const Stacks &stacks, const ModulesOfRun &modules) {
   std::vector<Used> all;
   std::vector<Contended> waits(stacks.interrupted.size());
-  std::set<size_t> wide;
+  std::map<size_t, const void *> loops;
   std::vector<std::pair<Function, Found>> functions = longest_of(functions_of(stacks, modules));
   for (auto &[function, found] : functions) {
     const ModuleOfRun &module = *function.first;
@@ -206,7 +206,8 @@ std::vector<Contended> contending(const Stacks &stacks, const ModulesOfRun &modu
         strides.meet(i, use, one.registers);
       }
     }
-    wide.merge(strides.wide());
+    for (auto [sample, back] : strides.wide())
+      loops.emplace(sample, reinterpret_cast<const void *>(module.base + back + 1));
   }
   std::vector<Contended> out = std::move(waits);
   std::vector<bool> contended = are_contended(all);
@@ -214,6 +215,6 @@ std::vector<Contended> contending(const Stacks &stacks, const ModulesOfRun &modu
     if (contended[i]) out[all[i].sample] = {all[i].place, 1, all[i].is_atomic};
   add_unmet(all, stacks, out);
   for (auto &[function, found] : functions) set_beyond(found, stacks, out);
-  for (size_t sample : wide) out[sample].is_wide = true;
+  for (auto [sample, loop] : loops) out[sample].loop = loop;
   return out;
 }

@@ -26,7 +26,7 @@ struct Contended {
   double beyond = 1;
   bool is_atomic = false;
   bool is_wait = false;
-  bool is_wide = false;  // its loop goes on by a line or more
+  const void *loop = nullptr;  // behind the last instruction of that around it, if it goes on by a line or more
 };
 
 // A line is contended where two threads used it at once and one wrote it: then all its uses are, while others run too.

@@ -87,6 +87,7 @@ std::optional<Walk> walk_of(const Instructions &code, const MemoryUse &use) {
   if (!loop || !add_steps(*loop, use.base, 1, walk.bytes, walk.by) ||
       !add_steps(*loop, use.index, use.scale, walk.bytes, walk.by))
     return std::nullopt;
+  walk.back = loop->last->first;
   walk.is_sparse = is_sparse(uses_in(*loop, use, walk.uses));
   walk.uses = std::max(1u, walk.uses);
   set_end(*loop, walk);
@@ -120,16 +121,17 @@ void Strides::meet(size_t sample, const MemoryUse &use, const Registers &registe
   int64_t stride = std::llabs(stride_of(*walk->second, registers));
   if (stride < line_bytes) return;
   Far &found = far[use.code];
+  found.back = walk->second->back;
   found.samples.push_back(sample);
   uint64_t uses = turns_left(*walk->second, registers) * walk->second->uses;
   found.lines = std::max(found.lines, uses);
   found.bytes = std::max(found.bytes, uses * static_cast<uint64_t>(stride));
 }
 
-std::set<size_t> Strides::wide() const {
-  std::set<size_t> out;
+std::map<size_t, uint64_t> Strides::wide() const {
+  std::map<size_t, uint64_t> out;
   for (auto &[use, found] : far)
     if (found.lines << line_bits >= caches.first && found.bytes >= caches.second)
-      out.insert(found.samples.begin(), found.samples.end());
+      for (size_t sample : found.samples) out.emplace(sample, found.back);
   return out;
 }

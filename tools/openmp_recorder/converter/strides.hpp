@@ -15,6 +15,7 @@
 struct Walk {
   int64_t bytes = 0;  // of a turn
   std::vector<std::pair<int, int64_t>> by;  // and by registers, so often
+  uint64_t back = 0;  // the loop's last instruction
   unsigned uses = 0;  // of the same registers in a turn
   bool is_sparse = true;  // it uses less than half of the lines that it touches
   Compared end;  // what ends the loop, and how that goes on
@@ -35,10 +36,12 @@ class Strides {
  public:
   Strides(const Instructions &code, Caches caches) : code(code), caches(caches) {}
   void meet(size_t sample, const MemoryUse &use, const Registers &registers);
-  std::set<size_t> wide() const;  // the samples of uses that cost a line for each element
+  // The samples of uses that cost a line for each element, and the last instructions of their loops.
+  std::map<size_t, uint64_t> wide() const;
 
  private:
   struct Far {
+    uint64_t back = 0;
     std::vector<size_t> samples;
     uint64_t lines = 0, bytes = 0;  // from the first to the last element of the longest loop
   };

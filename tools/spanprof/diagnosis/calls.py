@@ -44,7 +44,7 @@ class Sampled(NamedTuple):
     """By place: the microseconds of each list of calls, outermost first, in which code ran, or slept; of each line at
     which it used memory that other threads used at the same time, where one of them wrote it; of each that ran; of each
     that allocated memory or freed it, with its function; of each with a loop that only waits for another thread; and of
-    each in a loop that goes on by a cache line or more from element to element."""
+    each in a loop that goes on by a cache line or more from element to element, and of that loop."""
     ran: dict
     slept: dict
     shares: dict = {}
@@ -52,6 +52,7 @@ class Sampled(NamedTuple):
     allocated: dict = {}
     spins: dict = {}
     strides: dict = {}
+    loops: dict = {}
 
 
 @lru_cache(maxsize=4096)

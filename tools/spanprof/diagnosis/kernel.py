@@ -4,6 +4,7 @@ from collections import Counter
 
 from spanprof.diagnosis.allocation import parallel_places
 from spanprof.diagnosis.calls import RUNTIME, in_system, shares
+from spanprof.diagnosis.system_locks import lock_of_switches
 from spanprof.marks import CREATING
 from spanprof.program_text import BEGINNING
 
@@ -24,15 +25,16 @@ def begun(facts):
 
 def system_time(facts):
     """Of code in the kernel, other than that before all constructs, or than the first use of memory. Idle threads are
-    in the kernel too, where they yield the processor: code is there for its page faults, and for what it lasted longer
-    than all time outside; or by samples in calls, with what they take on the way."""
+    in the kernel too, where they yield the processor: code is there for its page faults, and, unless locks of the system
+    are, for what it lasted longer than all time outside; or by samples in calls, with what they take on the way."""
     usage = facts.usage or {}
     system, user = usage.get("system_ns") or 0, usage.get("user_ns") or 0
     if not system or system < MUCH_SYSTEM * (system + user):
         return min(system, A_FAULT * faults_again(usage))
     for_faults = min(fault_time(facts), facts.code * system // (system + user))
     first = for_faults * first_use_share(usage)
-    by_usage = min(system, max(for_faults, facts.code - user)) - max(begun(facts), int(first))
+    longer = 0 if lock_of_switches(facts) else facts.code - user
+    by_usage = min(system, max(for_faults, longer)) - max(begun(facts), int(first))
     return max(0, by_usage, calling(facts))
 
 

@@ -10,6 +10,7 @@ from spanprof.diagnosis.causes import BUSY, BY_KIND, SECOND
 from spanprof.diagnosis.kernel import A_FAULT, begun, faults_again, system_time
 from spanprof.diagnosis.own_code import of_interpreter, serial_places
 from spanprof.diagnosis.places import A_START, AROUND_REGIONS, OF_THREADS, OWN, SERIAL, SHARE
+from spanprof.diagnosis.system_locks import lock_of_switches, system_locking
 from spanprof.program_text import BEGINNING, TURNS, where
 
 SMALL = 5000            # nanoseconds of code in a task, below which creating and starting it costs much beside it
@@ -448,6 +449,8 @@ def handling(facts):
             time = int(share * max(0, facts.places[name].cost - facts.asleep_by.get(name, 0)))
             if times * A_TASK > time:
                 out[tuple(loss)] = out.get(tuple(loss), 0) + time
+    if lock := lock_of_switches(facts):
+        out["lock", lock_name(lock)] = sum(system_locking(facts).values())
     return out
 
 

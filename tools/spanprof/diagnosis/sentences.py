@@ -338,7 +338,7 @@ def words(facts, names, name):
                alone=words_of_interpreter(facts) if is_interpreter(name) else "the others wait",
                suspect=words_of_suspect(facts, names),
                shared=words_of_schedule(names, name, place), uneven=words_of_division(facts, name, place),
-               strides_at=line_with_most(facts.calls.strides.get(name, {})) or names.at(name),
+               strides_at=line_with_most(facts.calls.loops.get(name) or facts.calls.strides.get(name, {})) or names.at(name),
                nowait=words_of_nowait(names, name), less_creating=words_of_creation(facts, names, name),
                instead=instead(names, place, name),
                **words_of_region(facts, names, name), **words_of_lock(facts, names, name),

@@ -4,12 +4,14 @@ from collections import Counter
 
 from spanprof.diagnosis.calls import OF_SYSTEM, caller_of, is_of_program
 from spanprof.diagnosis.directives import COMMENT, code_of
+from spanprof.diagnosis.places import SERIAL
 
 MOST = 0.8      # of a place's sleep, from which on one call is reported as all of it
 LEAST = 0.1     # from which on a call is reported beside another
 MOST_LINES = 2
 MOST_EACH = 5   # threads for each processor: more take longer to start, and memory
 OF_LIBRARY = re.compile("^(__)?libc_")      # before the name of a function, where the C library has it twice
+FOR_PROGRAM = "for a program that it started"
 FOR_PROGRAMS = ("system", "wait", "waitpid", "wait4", "waitid", "pclose")
 
 
@@ -28,7 +30,10 @@ def by_call(sampled):
 
 
 def is_of_programs(facts, name):
-    """Whether most of a place's sleep is for other programs, which need processors too."""
+    """Whether most of a place's sleep is for other programs, which need processors too: by its calls, or where no sample
+    knows these, by the processor time of all programs that it started."""
+    if not facts.calls.slept.get(name):
+        return facts.children >= MOST * max(facts.asleep, 1)
     return any(call in FOR_PROGRAMS and share >= MOST for (call, _), share in by_call(facts.calls.slept.get(name, {})))
 
 
@@ -42,8 +47,9 @@ def threads_for_sleep(facts):
 
 def sooner(facts, name, threads):
     """What else ends the waits sooner; `threads` as a step has them."""
+    place = facts.places.get(name)
     if is_of_programs(facts, name):
-        return ", or the longest first"
+        return ", or several at once" if place and place.kind == SERIAL else ", or the longest first"
     return {None: ", or use more threads", 0: ""}.get(threads, ", or use %s threads" % threads)
 
 
@@ -53,10 +59,10 @@ def words_of_sleep(facts, name, reported):
     sampled = by_call(facts.calls.slept.get(name, {}))
     found = [(call, share) for call, share in sampled[:2] if share >= LEAST and call[0]]
     if not found:
-        return "for files, a network or other locks"
+        return FOR_PROGRAM if is_of_programs(facts, name) else "for files, a network or other locks"
     named = [function + (", called by " + caller if caller not in reported else "") for (function, caller), _ in found]
     if len(found) == 1 or found[0][1] >= MOST:
-        return "in " + named[0] + (" for a program that it started" if is_of_programs(facts, name) else "")
+        return "in " + named[0] + (" " + FOR_PROGRAM if is_of_programs(facts, name) else "")
     return "in " + " and ".join("%s (%.0f %%)" % (one, 100 * share) for one, (_, share) in zip(named, found))
 
 
@@ -87,4 +93,8 @@ def lines_of_sleep(names, name):
 def place_of_sleep(names, name):
     """The lines of the call, at most two; those of the place where they are not known."""
     file, found = lines_of_sleep(names, name)
-    return "%s:%s" % (file, " and ".join(map(str, found))) if 0 < len(found) <= MOST_LINES else names.at(name)
+    if 0 < len(found) <= MOST_LINES:
+        return "%s:%s" % (file, " and ".join(map(str, found)))
+    place = names.facts.places.get(name)
+    file, first, last = names.stretch(place) if place and place.kind == SERIAL else ("", 0, 0)
+    return "%s:%d-%d" % (file, first, last) if file and last > first > 0 else names.at(name)

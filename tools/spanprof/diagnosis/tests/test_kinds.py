@@ -147,13 +147,13 @@ class Kinds(unittest.TestCase):
         """Of 40 samples of a loop 32 are at columns, whose lines seven of eight elements in a row need no more."""
         turns = place("turns of the loop at image.c:9", SHARE, cost=400 * MS)
         sampled = Sampled({turns.name: {("main",): 160000}}, {}, at={turns.name: {"image.c:11": 152000}},
-                          strides={turns.name: {"image.c:11": 128000}})
+                          strides={turns.name: {"image.c:11": 128000}}, loops={turns.name: {"image.c:10": 128000}})
         found = facts([turns], calls=sampled)
         self.assertEqual(diagnose(found).causes, [Loss("strides", turns.name, 280 * MS)])
         step = diagnose(found).plan[0]
         self.assertEqual((step.after, step.low), (30 * MS, 5 * MS))
         self.assertEqual(change_sentence(found, Names(found, None), step),
-                         "adjacent elements at image.c:11: swap or block loops")
+                         "adjacent elements at image.c:10: swap or block loops")
 
     def test_allocation(self):
         called = {TASKS: {("main", "parse", "malloc@libc.so.6"): 30000, ("main", "parse"): 70000}}

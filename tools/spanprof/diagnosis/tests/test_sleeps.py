@@ -3,7 +3,7 @@ from types import SimpleNamespace
 
 from spanprof.diagnosis.calls import Sampled
 from spanprof.diagnosis.names import Names
-from spanprof.diagnosis.places import OF_THREADS, OWN
+from spanprof.diagnosis.places import OF_THREADS, OWN, SERIAL
 from spanprof.diagnosis.sleeps import by_call, place_of_sleep, sleeper, sooner, threads_for_sleep, words_of_sleep
 from spanprof.diagnosis.tests.worked import MS, facts, place
 
@@ -35,6 +35,15 @@ class Sleeps(unittest.TestCase):
         found = [sooner(facts(calls=Sampled({}, {PLACE: one})), PLACE, threads)
                  for one, threads in ((sampled, 0), ({READS: 9}, None), ({READS: 9}, 0), ({READS: 9}, 8))]
         self.assertEqual(found, [", or the longest first", ", or use more threads", "", ", or use 8 threads"])
+
+    def test_other_programs_without_samples(self):
+        """By the processor time of what it started: serial code starts several at once."""
+        serial = place(PLACE, SERIAL)
+        for children, words in ((90, "for a program that it started"), (50, "for files, a network or other locks")):
+            run = facts([serial], asleep=100 * MS, children=children * MS, calls=Sampled({}, {}))
+            self.assertEqual(words_of_sleep(run, PLACE, "main"), words)
+        run.children = run.asleep
+        self.assertEqual(sooner(run, PLACE, None), ", or several at once")
 
     def test_threads_run_code_while_others_sleep(self):
         for asleep, threads in ((0, 0), (40, 0), (200, 8), (300, 16), (390, 20)):
