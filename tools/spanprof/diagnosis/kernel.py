@@ -25,8 +25,9 @@ def begun(facts):
 
 def system_time(facts):
     """Of code in the kernel, other than that before all constructs, or than the first use of memory. Idle threads are
-    in the kernel too, where they yield the processor: code is there for its page faults, and, unless locks of the system
-    are, for what it lasted longer than all time outside; or by samples in calls, with what they take on the way."""
+    in the kernel too, where they yield the processor: code is there for its page faults, and for what it lasted longer
+    than all time outside, unless that is for locks of the system; or by samples in calls, with what they take on the
+    way."""
     usage = facts.usage or {}
     system, user = usage.get("system_ns") or 0, usage.get("user_ns") or 0
     if not system or system < MUCH_SYSTEM * (system + user):

@@ -331,6 +331,7 @@ def instead(names, place, name):
 def words(facts, names, name):
     """What a sentence may have, of a place, a wait, a lock or a region."""
     place = facts.places.get(name)
+    sampled = facts.calls
     out = dict(words_of_run(facts, names), where=names.place(name), at=names.at(name), item="",
                sleeper=sleeper(names, name), sleeps_at=place_of_sleep(names, name),
                in_what=words_of_sleep(facts, name, sleeper(names, name)), tasks="", many="", largest="", average="",
@@ -338,7 +339,7 @@ def words(facts, names, name):
                alone=words_of_interpreter(facts) if is_interpreter(name) else "the others wait",
                suspect=words_of_suspect(facts, names),
                shared=words_of_schedule(names, name, place), uneven=words_of_division(facts, name, place),
-               strides_at=line_with_most(facts.calls.loops.get(name) or facts.calls.strides.get(name, {})) or names.at(name),
+               strides_at=line_with_most(sampled.loops.get(name) or sampled.strides.get(name, {})) or names.at(name),
                nowait=words_of_nowait(names, name), less_creating=words_of_creation(facts, names, name),
                instead=instead(names, place, name),
                **words_of_region(facts, names, name), **words_of_lock(facts, names, name),

@@ -30,8 +30,8 @@ def by_call(sampled):
 
 
 def is_of_programs(facts, name):
-    """Whether most of a place's sleep is for other programs, which need processors too: by its calls, or where no sample
-    knows these, by the processor time of all programs that it started."""
+    """Whether most of a place's sleep is for other programs, which need processors too: by its calls, or where no
+    sample knows these, by the processor time of all programs that it started."""
     if not facts.calls.slept.get(name):
         return facts.children >= MOST * max(facts.asleep, 1)
     return any(call in FOR_PROGRAMS and share >= MOST for (call, _), share in by_call(facts.calls.slept.get(name, {})))
