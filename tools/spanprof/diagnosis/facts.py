@@ -175,6 +175,8 @@ def function_in(words):
 
 def of_those_at_once(found, threads):
     """The account of as many threads as the program had at a time: nested regions may each make new ones."""
+    if threads == found.threads:
+        return found
     rows = found.rows.on_few_threads
     threads = max(threads, 1 + max(rows.thread))
     if threads == found.threads:
