@@ -10,6 +10,7 @@ from typing import List, NamedTuple, Optional
 
 from spanprof import client
 from spanprof.breakdown_program import NoBreakdown, answered
+from spanprof.errors import Fault
 from spanprof.recording import document, open_recording
 from spanprof.remarks import UNFINISHED
 
@@ -176,5 +177,5 @@ def recorded_breakdown(answers):
     try:
         places = () if answers.is_long else list(answers.code.places)
         return breakdown_of(answers.head, answers.work, document(recording), places), ""
-    except NoBreakdown as fault:
+    except (NoBreakdown, Fault) as fault:
         return None, str(fault)

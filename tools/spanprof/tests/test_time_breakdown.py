@@ -5,6 +5,7 @@ from array import array
 from unittest import mock
 
 from spanprof.breakdown_program import NoBreakdown
+from spanprof.errors import Fault
 from spanprof.head import Lock
 from spanprof.record.tests.made_up import Answers, Head
 from spanprof.remarks import remark_of
@@ -112,13 +113,21 @@ class Beside(unittest.TestCase):
             found, why = recorded_breakdown(self.made)
         return found and found.busy, why
 
-    def test_the_document_beside_the_text(self):
-        self.assertEqual(times_name(self.made.path), "")
+    def write(self):
         for ending in (".tasks", ".timed"):
             with open(self.made.path.removesuffix(".tasks") + ending, "w", encoding="utf-8"):
                 pass
+
+    def test_the_document_beside_the_text(self):
+        self.assertEqual(times_name(self.made.path), "")
+        self.write()
         self.assertEqual(self.beside(), (11, ""))
         self.assertEqual(times_name(self.made.path), "mine.timed")
+
+    def test_no_room_for_the_document(self):
+        self.write()
+        with mock.patch("spanprof.time_breakdown.document", side_effect=Fault("/tmp/x: File too large")):
+            self.assertEqual(self.beside(), (None, "/tmp/x: File too large"))
 
     def test_why_there_is_none(self):
         self.assertEqual(self.beside(), (None, ""))
