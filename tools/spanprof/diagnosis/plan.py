@@ -3,11 +3,12 @@ from dataclasses import dataclass, replace
 from typing import Optional
 
 from spanprof.diagnosis.allocation import parallel_places
+from spanprof.diagnosis.calls import SHARES, innermost
 from spanprof.diagnosis.causes import AT_BEST, BY_KIND, ESTIMATED, WORTH_A_CHANGE
 from spanprof.diagnosis.changes import Change
 from spanprof.diagnosis.losses import (OF_SHAPE, in_code_losses, is_in_a_row, kind_of_task, least_of,
                                        most_shared, share_of_start, slowed_lines)
-from spanprof.diagnosis.own_code import own_share
+from spanprof.diagnosis.own_code import called_code, own_share
 from spanprof.diagnosis.places import SERIAL, TASK
 from spanprof.program_text import BEGINNING, where
 
@@ -115,10 +116,18 @@ def least_time(facts, code):
     return int(facts.seen * facts.least_time(code) / max(facts.elapsed, 1))
 
 
+def named_share(facts, name):
+    """Of serial code that is named by a function, what that has of its samples; all where it has most of them."""
+    place = facts.places.get(name)
+    ran = innermost(called_code(facts, place)) if place and place.kind == SERIAL else None
+    return ran.share if ran and ran.share < SHARES[0] else 1.0
+
+
 def undivided(facts, name):
-    """Of the code at a place, the share in which the program and its runtime start, or that is not the program's."""
+    """Of the code at a place, the share in which the program and its runtime start, or that is not the program's, or
+    not in the function that the change names."""
     start = share_of_start(facts) if name == BEGINNING else 0.0
-    return 1 - (1 - start) * own_share(facts, name)
+    return 1 - (1 - start) * min(own_share(facts, name), named_share(facts, name))
 
 
 def left_alone(facts, change):
