@@ -3,11 +3,13 @@
 SPANPROF_LARGE in the environment is the program, and may be several words. Without it spanprof_large is looked for on
 the PATH, then in the repository or where `make install` has put it, and then without proofs.
 """
+import json
 import os
 import subprocess
 from array import array
 from concurrent.futures import ThreadPoolExecutor
 from contextlib import contextmanager
+from itertools import chain
 
 from spanprof.errors import Fault
 from spanprof.folders import other_places_of, places_of, words_for
@@ -113,20 +115,30 @@ def columns(words, text, wanted):
     heads = next(reported).decode(errors="replace").rstrip("\n").split(",")
     out = [array("q") for _ in wanted]
     for piece in reported:
-        cells = piece.replace(b",\n", b",-1\n").replace(b"\n", b",").split(b",")
-        if not set(wanted) <= set(heads) or len(cells) != len(heads) * piece.count(b"\n") + 1:
+        cells = numbers_in(piece.replace(b",\n", b",-1\n").replace(b"\n", b",")[:-1])
+        if not set(wanted) <= set(heads) or len(cells) != len(heads) * piece.count(b"\n"):
             raise Fault("spanprof %s: rows of another form" % words[0])
         for name, column in zip(wanted, out):
-            column.extend(map(int, cells[heads.index(name):-1:len(heads)]))
+            column.fromlist(cells[heads.index(name)::len(heads)])
     return out
 
 
-def places(path, numbers, wanted=SUMS, times=""):
-    """Of the text in a file, of which each segment stands at the place of its number, these columns of `places`."""
+def numbers_in(cells):
+    """Of bytes with commas between them; nothing where they are no numbers. There are millions, and this is the
+    fastest."""
+    try:
+        return json.loads(b"[%s]" % cells)
+    except ValueError:
+        return []
+
+
+def places(path, numbers, wanted=SUMS, times=()):
+    """Of the text in a file, of which each segment stands at the place of its number, these columns of `places`.
+    `times` are lines."""
     numbers = list(numbers)
     words = {number: str(number) for number in set(numbers)}
-    rest = " ".join(map(words.__getitem__, numbers)) + ("\n%s\n%s" % (DIVIDER, times) if times else "")
-    return columns(["places"], Document(path, rest), wanted)
+    lines = [" ".join(map(words.__getitem__, numbers)) + "\n"]
+    return columns(["places"], Document(path, chain(lines, [DIVIDER + "\n"] * bool(times), times)), wanted)
 
 
 def named_numbers(lines):

@@ -10,6 +10,7 @@ import sys
 import tempfile
 from dataclasses import dataclass, field
 
+from spanprof.command import naming
 from spanprof.errors import DAMAGE, LONGEST, Fault
 from spanprof.head import head_text
 
@@ -206,7 +207,7 @@ def made_folder():
 def joined(text, times):
     """A document of both in a file of its own."""
     handle, path = tempfile.mkstemp(suffix=".timed", dir=made_folder())
-    with os.fdopen(handle, "wb") as out:
+    with naming(path), os.fdopen(handle, "wb") as out:
         for part in (text, times):
             if part == times:
                 out.write(b"---\n")

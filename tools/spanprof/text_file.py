@@ -51,7 +51,7 @@ class TextFile:
 
 
 class Document(TextFile):
-    """The text in a file, and behind the divider what is said of it."""
+    """The text in a file, and behind the divider lines on it, which are used up as it is opened."""
 
     def __init__(self, path, rest):
         super().__init__(path)
@@ -61,7 +61,7 @@ class Document(TextFile):
     def opened(self):
         with super().opened() as text, tempfile.TemporaryFile() as file:
             shutil.copyfileobj(text, file, PIECE)
-            file.write(("\n%s\n%s\n" % (DIVIDER, self.rest)).encode())
+            file.writelines(map(str.encode, chain(("\n%s\n" % DIVIDER,), self.rest)))
             file.seek(0)
             yield file
 

@@ -5,11 +5,12 @@ from array import array
 from dataclasses import dataclass, field
 from functools import cached_property
 from heapq import heappop, heappush
-from itertools import count
+from itertools import chain, count
 from typing import List, NamedTuple, Optional
 
 from spanprof import client
 from spanprof.breakdown_program import NoBreakdown, answered
+from spanprof.errors import Fault
 from spanprof.recording import document, open_recording
 from spanprof.remarks import UNFINISHED
 
@@ -41,9 +42,9 @@ def idle_by_place(path, rows, places, threads, elapsed):
     """Delayed and starved time by the places of segments, the longest first, as spanprof_large adds it up."""
     names, first = list(dict.fromkeys(places)), rows.ready[0]
     numbers = {name: number for number, name in enumerate(names)}
-    times = ["times %d %d %d" % (threads, first, first + elapsed)]
-    times += map("%d %d %d %d".__mod__, zip(count(), rows.thread, rows.begin, rows.end))
-    found = client.places(path, map(numbers.get, places), client.IDLE, "\n".join(times))
+    times = chain(["times %d %d %d\n" % (threads, first, first + elapsed)],
+                  map("%d %d %d %d\n".__mod__, zip(count(), rows.thread, rows.begin, rows.end)))
+    found = client.places(path, map(numbers.get, places), client.IDLE, times)
     return [{name: part for part, name in sorted(zip(parts, names), reverse=True) if part} for parts in found]
 
 
@@ -176,5 +177,5 @@ def recorded_breakdown(answers):
     try:
         places = () if answers.is_long else list(answers.code.places)
         return breakdown_of(answers.head, answers.work, document(recording), places), ""
-    except NoBreakdown as fault:
+    except (NoBreakdown, Fault) as fault:
         return None, str(fault)

@@ -1,9 +1,12 @@
 """Barriers between loops of a region at which threads wait for each other, though each has as much to do in all."""
 from collections import Counter, defaultdict
+from itertools import chain, groupby
+from operator import itemgetter
 from typing import NamedTuple
 
 from spanprof.diagnosis.places import AFTER_REGION, ALONE, OF_THREADS, SHARE, kind_of
 
+SELDOM = 0.1    # of a region's phases
 EVENED = 0.7    # of the waits in a region, from which on its barriers are their cause, and not how loops are divided
 
 
@@ -24,30 +27,53 @@ def waits_of(costs):
     return len(costs) * max(costs, default=0) - sum(costs)
 
 
-def part_of(program, first, end):
+def kinds_of(program):
+    """Of the segments of a kind the place, empty where they say nothing, or None where tasks have them."""
+    shown = (SHARE, OF_THREADS)
+    return [name if kind_of(kind) in shown else "" if kind.is_root else None
+            for name, kind in zip(program.kinds, program.code.kinds)]
+
+
+def part_of(kinds, costs):
     """The cost by place of what a thread had in a phase; None where tasks have some of it."""
-    found, code = Counter(), program.code
-    for kind, cost in zip(code.of[first:end], program.costs[first:end]):
-        if kind_of(code.kinds[kind]) in (SHARE, OF_THREADS):
-            found[program.kinds[kind]] += cost
-        elif cost and not code.kinds[kind].is_root:
+    found = {}
+    for name, cost in zip(kinds, costs):
+        if name:
+            found[name] = found.get(name, 0) + cost
+        elif cost and name is None:
             return None
     return found
 
 
+def phases_in(program):
+    """Of each phase its region, whether it goes on there, where no code stands behind the barrier, and its parts: their
+    first segments, and those behind them."""
+    code, before = program.code, ""
+    is_barrier = [name.startswith(AFTER_REGION) for name in program.kinds]
+    parts = zip(code.own, chain(code.own[1:], (len(code),)), code.groups)
+    for _, some in groupby(parts, itemgetter(2)):
+        some = list(some)
+        first = some[0][0]
+        region = code.kinds[code.of[first]].region
+        goes_on = region == before and is_barrier[code.of[first - 1]] and not program.costs[first - 1]
+        yield region, goes_on, [part[:2] for part in some]
+        before = region
+
+
 def times_of_regions(program, threads):
-    """By region, of each time that it began its phases, and of these the parts by thread. It goes on where no code
-    stands behind a barrier."""
-    code, found, group, region = program.code, defaultdict(list), None, ""
-    for first, end, number in zip(code.own, [*code.own[1:], len(code)], code.groups):
-        before, region = region, code.kinds[code.of[first]].region
-        follows = program.kinds[code.of[first - 1]].startswith(AFTER_REGION) and not program.costs[first - 1]
-        if number != group and not (follows and region == before):
-            found[region].append([])
-        if number != group:
-            found[region][-1].append({})
-        found[region][-1][-1][threads[first]] = part_of(program, first, end)
-        group = number
+    """By region, of each time that it began its phases, and of these the parts by thread. Regions whose threads seldom
+    go on behind a barrier are left out: there are many."""
+    found, phases, more = defaultdict(list), Counter(), Counter()
+    for region, goes_on, _ in phases_in(program):
+        phases[region] += 1
+        more[region] += goes_on
+    several = {region for region, count in phases.items() if more[region] >= SELDOM * count}
+    of, costs, name_of = program.code.of, program.costs, kinds_of(program).__getitem__
+    for region, goes_on, parts in phases_in(program) if several else ():
+        if region in several:
+            found[region] += [] if goes_on else [[]]
+            found[region][-1].append({threads[first]: part_of(map(name_of, of[first:end]), costs[first:end])
+                                      for first, end in parts})
     return found
 
 
@@ -55,7 +81,10 @@ def phase_of(parts, threads):
     """None of one that is not of all threads, or has tasks."""
     if len(parts) < threads or None in parts.values():
         return None
-    places = sum(parts.values(), Counter())
+    places = {}
+    for name, cost in chain.from_iterable(part.items() for part in parts.values()):
+        if cost:
+            places[name] = places.get(name, 0) + cost
     return Phase(max(places, key=places.get, default=""), {name: sum(part.values()) for name, part in parts.items()})
 
 

@@ -24,6 +24,8 @@ MPI_BEGINS = re.compile("P?MPI_Init")
 AT_START = "the start"      # in the place of code's name, of what slept then
 # The system's loader, and constructors of static objects.
 BEFORE_MAIN = re.compile(r"_GLOBAL__(sub_)?I_|__cxx_global_var_init|[^;]*@ld-linux")
+# Where only this is on the stack: what calls the program's first function.
+CALLS_MAIN = re.compile(r"_*(libc_)?start(_call)?(_main)?(_impl)?@")
 OF_COMPILERS = re.compile(r"(\.omp_outlined|\._omp_fn|\.part\.|\.constprop\.|\.isra\.|\.cold|\.lto_priv| \[clone ).*$")
 ARGUMENTS = re.compile(r"(?<!operator)(?<!^)\(.*$")
 OFFSET = re.compile(r"\+0x[0-9a-f]+$")
@@ -75,7 +77,8 @@ def is_of_ranks(calls):
 
 def is_start(calls):
     """Whether they are of the program's start, which no change divides: before its first function, or of MPI's."""
-    return bool(BEFORE_MAIN.match(calls[0]) or MPI_BEGINS.match(calls[-1]))
+    is_before = BEFORE_MAIN.match(calls[0]) or len(calls) == 1 and CALLS_MAIN.match(calls[0])
+    return bool(is_before or MPI_BEGINS.match(calls[-1]))
 
 
 def samples_in(path):

@@ -125,7 +125,7 @@ class Bench:
 
     def __init__(self, text, facts, end_of, seconds=None):
         self.facts, self.end_of, self.path = facts, end_of, text.path
-        self.until, self.longest = time.monotonic() + (seconds or seconds_for(text.head)), 0
+        self.until, self.longest = time.monotonic() + (seconds or seconds_for(facts.elapsed)), 0
         self.unit = text.head.nanoseconds or 1
         self.kept = text.statements()
         self.seen = survey(self.kept)

@@ -72,8 +72,8 @@ def with_interpreter(facts, found, causes):
 
 def causes_of(facts, found, steps, code):
     """The first is that of the step that is worth most, and a second one where it may bring a tenth of the run's time,
-    as has to the first one on a busy machine or of an efficient program. Where the program has none of its own it is
-    the machine, and what the program did in the rest of the time."""
+    as has to the first one on a busy machine or of an efficient program, or where more is lost to it in several places.
+    Where the program has none of its own it is the machine, and what the program did in the rest of the time."""
     out, seen = [], set()
     ran = facts.own_time - sum(loss.time for loss in found if loss.kind in NO_CAUSE)
     is_efficient = code >= EFFICIENT * ran
@@ -82,7 +82,8 @@ def causes_of(facts, found, steps, code):
         loss = loss and with_alike(loss, found)
         if not loss or step.kind in seen or loss.time < least_of(facts, found, step.kind):
             continue
-        if step.worth >= SECOND * facts.now or not (out or facts.taken or is_efficient):
+        is_more = out and loss.time > out[0].time
+        if step.worth >= SECOND * facts.now or is_more or not (out or facts.taken or is_efficient):
             out.append(loss)
             seen.add(step.kind)
     if out:

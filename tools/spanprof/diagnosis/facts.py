@@ -14,7 +14,7 @@ from spanprof.diagnosis.calls import AT_START, RUNTIME, Sampled, calls_of, is_of
 from spanprof.diagnosis.library_locks import set_library_locks
 from spanprof.diagnosis.lock_times import locks_of
 from spanprof.diagnosis.losses import divided
-from spanprof.diagnosis.own_code import interpreter_of
+from spanprof.diagnosis.own_code import interpreter_of, is_loading
 from spanprof.diagnosis.places import A_START, AROUND_REGIONS, TASK, in_text, read_places
 from spanprof.diagnosis.undisturbed import is_disturbed, set_disturbed, starved_alone
 from spanprof.errors import reading
@@ -179,6 +179,8 @@ def function_in(words):
 
 def of_those_at_once(found, threads):
     """The account of as many threads as the program had at a time: nested regions may each make new ones."""
+    if threads == found.threads:
+        return found
     rows = found.rows.on_few_threads
     threads = max(threads, 1 + max(rows.thread))
     if threads == found.threads:
@@ -274,7 +276,7 @@ def set_starting(facts):
     ran, slept = facts.calls.ran.get(BEGINNING, {}), facts.calls.slept.get(BEGINNING, {})
     for calls in filter(is_start, list(ran)):
         del ran[calls]
-    asleep = min(1000 * sum(slept.pop(calls) for calls in filter(is_start, list(slept))),
+    asleep = min(1000 * sum(slept.pop(calls) for calls in filter(is_loading, list(slept))),
                  facts.asleep_by.get(BEGINNING, 0))
     if asleep:
         facts.asleep_by[BEGINNING] -= asleep

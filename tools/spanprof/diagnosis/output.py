@@ -14,8 +14,10 @@ from spanprof.errors import Fault
 from spanprof.recording import open_recording
 from spanprof.source import Sources
 from spanprof.whatif.texts import Text, version_of
+from spanprof.whatif.trials import seconds_for
 
 LONG = 50000        # pieces of code
+A_PIECE = 7e-6      # seconds that it takes to read one of a text
 MOST_OF_IT = 0.4    # of the run's time
 
 
@@ -34,10 +36,12 @@ class Output:
         return as_json(self.found, self.names)
 
 
-def needs_trials(facts):
+def needs_trials(facts, seconds=None):
     """Of a long text that has lost most to a cause that no change of the text tells, none is tried: each is a pass over
-    all of it."""
+    all of it. Nor is one where there is no time to read the text."""
     pieces, found = sum(place.pieces for place in facts.places.values()), losses(facts)
+    if pieces * A_PIECE > (seconds or seconds_for(facts.elapsed)):
+        return False
     facts.taken = taken_by_others(facts, found)
     first = next(iter(bounds(facts, facts.now, found)), None)
     return pieces < LONG or not first or first.gain < MOST_OF_IT * first.before
@@ -57,7 +61,7 @@ def output_of(recording, folders=(), seconds=None, end_of=greedy_end):
     """`folders` are where the source is; without them beside the recording, and here. Changes are tried for so many
     seconds, or as long as a person waits."""
     facts = facts_of(recording, end_of)
-    bench = bench_of(recording.text, facts, end_of, seconds) if needs_trials(facts) else None
+    bench = bench_of(recording.text, facts, end_of, seconds) if needs_trials(facts, seconds) else None
     beside = [os.path.dirname(os.path.abspath(recording.folder or recording.text)), os.getcwd()]
     names = Names(facts, Sources(list(folders) or beside, facts.sources))
     if bench:

@@ -2,7 +2,7 @@
 that it loads without lines."""
 import re
 
-from spanprof.diagnosis.calls import A_SAMPLE, LEAST, OF_SYSTEM, OUTERMOST, shares, together
+from spanprof.diagnosis.calls import A_SAMPLE, LEAST, OF_SYSTEM, OUTERMOST, is_start, shares, together
 from spanprof.diagnosis.places import SERIAL
 from spanprof.durations import lasting
 
@@ -22,6 +22,12 @@ def file_that_ran(calls):
     """Of an interpreter, where it called nothing but the system; empty for other code."""
     files = (name.partition(OF_SYSTEM)[2] for name in calls if not any(map(is_called, calls)))
     return next(filter(INTERPRETER.match, files), "")
+
+
+def is_loading(calls):
+    """Whether they are of the program's start, or an interpreter's own code, which sleeps where it first reads a
+    file."""
+    return is_start(calls) or bool(INTERPRETER.match(calls[-1].partition(OF_SYSTEM)[2]))
 
 
 def serial_places(facts):

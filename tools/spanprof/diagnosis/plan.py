@@ -2,9 +2,10 @@
 from dataclasses import replace
 
 from spanprof.diagnosis.bounds import bounds
+from spanprof.diagnosis.calls import SHARES, innermost
 from spanprof.diagnosis.causes import WORTH_A_CHANGE
 from spanprof.diagnosis.losses import is_in_a_row, kind_of_task, most_shared, share_of_start
-from spanprof.diagnosis.own_code import own_share
+from spanprof.diagnosis.own_code import called_code, own_share
 from spanprof.diagnosis.places import SERIAL, TASK
 from spanprof.diagnosis.step import Step, least_time, predicted
 from spanprof.program_text import BEGINNING
@@ -74,10 +75,18 @@ def likely(facts, seen, change):
     return AT_THE_ENDS if is_at_an_end(facts, change.place) else LIKELY[change.kind]
 
 
+def named_share(facts, name):
+    """Of serial code that is named by a function, what that has of its samples; all where it has most of them."""
+    place = facts.places.get(name)
+    ran = innermost(called_code(facts, place)) if place and place.kind == SERIAL else None
+    return ran.share if ran and ran.share < SHARES[0] else 1.0
+
+
 def undivided(facts, name):
-    """Of the code at a place, the share in which the program and its runtime start, or that is not the program's."""
+    """Of the code at a place, the share in which the program and its runtime start, or that is not the program's, or
+    not in the function that the change names."""
     start = share_of_start(facts) if name == BEGINNING else 0.0
-    return 1 - (1 - start) * own_share(facts, name)
+    return 1 - (1 - start) * min(own_share(facts, name), named_share(facts, name))
 
 
 def left_alone(facts, change):

@@ -5,6 +5,7 @@ from array import array
 from unittest import mock
 
 from spanprof.breakdown_program import NoBreakdown
+from spanprof.errors import Fault
 from spanprof.head import Lock
 from spanprof.record.tests.made_up import Answers, Head
 from spanprof.remarks import remark_of
@@ -44,7 +45,7 @@ class Asked(unittest.TestCase):
         asked = []
 
         def places(path, numbers, wanted, times):
-            asked.extend((path, list(numbers), wanted, times.split("\n")))
+            asked.extend((path, list(numbers), wanted, list(times)))
             return array("q", [3, 0, 4]), array("q", [7, 0, 1])
 
         found = self.account(answers())
@@ -52,7 +53,7 @@ class Asked(unittest.TestCase):
             self.assertEqual(found.delayed_by, {"after a taskwait": 4, "the beginning": 3})
             self.assertEqual(found.starved_by, {"the beginning": 7, "after a taskwait": 1})
         self.assertEqual(asked, ["mine.timed", [0, 1, 2, 0], ("delayed", "starved"),
-                                 ["times 2 0 14", "0 0 0 5", "1 0 6 9", "2 0 9 11", "3 1 12 13"]])
+                                 ["times 2 0 14\n", "0 0 0 5\n", "1 0 6 9\n", "2 0 9 11\n", "3 1 12 13\n"]])
 
     def test_on_as_few_threads_as_ran_at_once(self):
         rows = rows_of([(9, 0, 0, 4), (7, 0, 2, 6), (5, 0, 3, 3), (5, 0, 4, 8), (9, 0, 6, 7)])
@@ -112,13 +113,21 @@ class Beside(unittest.TestCase):
             found, why = recorded_breakdown(self.made)
         return found and found.busy, why
 
-    def test_the_document_beside_the_text(self):
-        self.assertEqual(times_name(self.made.path), "")
+    def write(self):
         for ending in (".tasks", ".timed"):
             with open(self.made.path.removesuffix(".tasks") + ending, "w", encoding="utf-8"):
                 pass
+
+    def test_the_document_beside_the_text(self):
+        self.assertEqual(times_name(self.made.path), "")
+        self.write()
         self.assertEqual(self.beside(), (11, ""))
         self.assertEqual(times_name(self.made.path), "mine.timed")
+
+    def test_no_room_for_the_document(self):
+        self.write()
+        with mock.patch("spanprof.time_breakdown.document", side_effect=Fault("/tmp/x: File too large")):
+            self.assertEqual(self.beside(), (None, "/tmp/x: File too large"))
 
     def test_why_there_is_none(self):
         self.assertEqual(self.beside(), (None, ""))

@@ -11,7 +11,7 @@ def proof_of(made, old, new):
     if proof.not_proved() or not all(one.relaxes for one in made):
         return []
     try:
-        client.ask(["relaxation"], Document(old, TextFile(new)))
+        client.ask(["relaxation"], Document(old, [str(TextFile(new)), "\n"]))
     except client.Refused as refused:
         if refused.is_of_memory:
             return []

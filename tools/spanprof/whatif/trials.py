@@ -4,8 +4,8 @@ from collections import Counter
 LEAST_SECONDS = 10      # in which changes of a text are tried, if its program took no longer
 
 
-def seconds_for(head):
-    return max(LEAST_SECONDS, (head.elapsed or 0) * (head.nanoseconds or 0) / 1e9)
+def seconds_for(elapsed):
+    return max(LEAST_SECONDS, elapsed / 1e9)
 
 
 def best_first(requests, kind_of):

@@ -96,7 +96,7 @@ class Tries(unittest.TestCase):
     def test_none_is_begun_that_may_end_too_late(self):
         wait = single("drop-wait", "taskwait at image.c:30")
         self.assertTrue(self.bench.has_time())
-        self.bench.longest = module.seconds_for(self.head)    # as long as there is for all of them
+        self.bench.longest = module.seconds_for(self.bench.facts.elapsed)    # as long as there is for all of them
         self.assertFalse(self.bench.has_time())
         self.assertEqual(self.bench.tries([wait]), [])
 

@@ -105,6 +105,14 @@ class Diagnoses(unittest.TestCase):
         found = facts([place(TASKS)], at_locks=120 * MS, asleep=20 * MS)
         self.assertEqual([loss.kind for loss in diagnose(found).causes], ["lock"])
 
+    def test_a_second_cause_is_reported_where_more_is_lost_to_it_in_several_places(self):
+        after = ["after the barrier of the region at a.c:%d" % i for i in range(8)]
+        for each, kinds in ((15, ["lock", "serial"]), (7, ["lock"])):
+            found = facts([place(name, SERIAL, tasks=0, pieces=1) for name in after], starved=8 * each * MS,
+                          starved_by={name: each * MS for name in after}, at_locks=60 * MS)
+            bench = Bench({(): 100, asked("split", after[0] + "=4"): 96})
+            self.assertEqual([loss.kind for loss in diagnose(found, bench).causes], kinds)
+
     def test_a_busy_machine_does_not_hide_what_cost_more(self):
         found = facts([place(TASKS)], preempted=110 * MS, at_locks=130 * MS)
         self.assertEqual(diagnose(found).causes[0].kind, "lock")

@@ -8,7 +8,7 @@ from types import SimpleNamespace
 from unittest import mock
 
 from spanprof.diagnosis import facts as module
-from spanprof.diagnosis.calls import RUNTIME, Sampled, calls_of
+from spanprof.diagnosis.calls import AT_START, RUNTIME, Sampled, calls_of
 from spanprof.diagnosis.diagnose import diagnose
 from spanprof.diagnosis.facts import (Facts, denied_time, function_in, inner_regions,
                                       of_those_at_once, off_by_segment, regions_of, runtime_name, set_meta, set_off,
@@ -91,6 +91,15 @@ class OfText(unittest.TestCase):
                       asleep_by={begins.name: 60 * MS}, calls=Sampled({begins.name: {("main", "solve"): 40000}}, slept))
         module.set_starting(found)
         self.assertEqual({loss.kind for loss in diagnose(found).losses}, {"startup", "serial"})
+
+    def test_an_interpreter_sleeps_where_it_starts(self):
+        name, calls = "the beginning", {("read@libc.so.6",): 4000, ("load", "python3.11@python3.11"): 5000,
+                                        ("start@python3.11",): 6000, ("libc_start_main@libc.so.6",): 7000,
+                                        ("main", "wait"): 8000}
+        found = facts([place(name, SERIAL)], asleep_by={name: 40 * MS}, calls=Sampled({}, {name: dict(calls)}))
+        module.set_starting(found)
+        self.assertEqual(found.calls.slept[name], {("read@libc.so.6",): 4000, ("main", "wait"): 8000})
+        self.assertEqual(found.asleep_by, {name: 22 * MS, AT_START: 18 * MS})
 
     def test_names_of_functions(self):
         self.assertEqual(self.found.functions, {"image.c:25": "main"})

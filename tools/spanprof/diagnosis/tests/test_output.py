@@ -15,6 +15,11 @@ class Trials(unittest.TestCase):
         self.assertTrue(needs_trials(run(90000, at_locks=20 * MS)))
         self.assertTrue(needs_trials(run(90000)))
 
+    def test_none_where_the_text_takes_longer_to_read_than_the_program_ran(self):
+        self.assertFalse(needs_trials(run(2000000)))
+        self.assertTrue(needs_trials(run(2000000), 20))
+        self.assertTrue(needs_trials(run(2000000, elapsed=20000 * MS)))
+
 
 if __name__ == "__main__":
     unittest.main()

@@ -21,8 +21,13 @@ def key(words, text):
     """Words, and a short name of the text, or of a document, which may be an open file."""
     if hasattr(text, "seek"):
         text.seek(0)
-        text = text.read().decode()
-    read = str(text) + getattr(text, "rest", "")
+        read = text.read().decode()
+        text.seek(0)
+    else:
+        read = str(text)
+    if hasattr(text, "rest"):
+        text.rest = list(text.rest)     # to be read again
+        read += "".join(text.rest)[:-1]
     return "%s < %s" % (" ".join(words), hashlib.sha256(read.encode()).hexdigest()[:12])
 
 
@@ -114,12 +119,13 @@ def page_text(name):
 def noting(out, ask):
     """A program's answers, which are kept by words and text."""
     def asked(words, text):
+        name = key(words, text)
         try:
-            out[key(words, text)] = answer = ask(words, text)
+            out[name] = ask(words, text)
         except Fault as reported:
-            out[key(words, text)] = str(reported).partition(": ")[2]
+            out[name] = str(reported).partition(": ")[2]
             raise
-        return answer
+        return out[name]
     return asked
 
 
