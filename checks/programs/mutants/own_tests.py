@@ -9,13 +9,17 @@ import concurrent.futures
 import json
 import os
 import pathlib
+import shutil
 import subprocess
 import sys
 import tempfile
 import time
 from dataclasses import dataclass
 
-CALLS = pathlib.Path(__file__).resolve().parents[2] / "recorders" / "runtime_calls"
+sys.path.insert(0, str(pathlib.Path(__file__).resolve().parents[2] / "recorders" / "runtime_calls"))
+import testsuite
+
+COMPILERS = {"c": "gcc", "c++": "g++", "fortran": "gfortran"}
 SECONDS = 20  # until a test counts as failed on the runtime as it is; the slowest takes two alone
 LEAST, TIMES_AS_LONG = 5, 10  # on a mutant: so many seconds at least, or so many times as long
 PATIENCE = 4  # times as long, where a test has not ended in its time
@@ -28,17 +32,17 @@ def options_of(words=None):
     add("out", type=pathlib.Path, help="what failed")
     add("--jobs", type=int, default=2, help="tests that run side by side (2)")
     add("--only", type=lambda words: words.split(","), default=[], help="these mutants alone")
-    add("--no-cpp", dest="cpp", action="store_false", help="leave out the tests in C++, which take longest to build")
     add("--enough", type=int, default=0, help="go on to the next mutant once so many tests have failed (0: run all)")
     return parser.parse_args(words)
 
 
 def compiled(program, folder):
-    """The test as a program, or None where the compiler refuses it."""
-    target = folder / program.name.replace("/", "_").replace(":", "_")
-    words = ["g++" if program.is_cpp else "gcc", "-O2", "-w", "-fopenmp", *program.options, program.path, "-o", target,
-             "-lm"]
-    done = subprocess.run(list(map(str, words)), capture_output=True, check=False)
+    """The test as a program, or None where the compiler is missing or refuses it."""
+    target, compiler = folder / program.name.replace("/", "_").replace(":", "_"), COMPILERS[program.language]
+    words = [compiler, "-O2", "-w", "-fopenmp", *program.options, program.path, "-o", target, "-lm"]
+    if not shutil.which(compiler):
+        return None
+    done = subprocess.run(list(map(str, words)), cwd=folder, capture_output=True, check=False)
     return target if done.returncode == 0 else None
 
 
@@ -90,13 +94,9 @@ def failed(tests, library, jobs, enough=0):
     return sorted(wrong)
 
 
-def build_tests(folder, jobs, cpp=True):
-    """The tests that the compiler takes, as programs in a folder; those in C alone where `cpp` is not."""
-    sys.path.insert(0, str(CALLS))
-    import testsuite
-
+def build_tests(folder, jobs):
+    """The tests that the compilers take, as programs in a folder."""
     sources = testsuite.programs(testsuite.unpack(testsuite.archive(), str(folder)))
-    sources = [source for source in sources if cpp or not source.is_cpp]
     with concurrent.futures.ThreadPoolExecutor(jobs) as pool:
         return [Test(program) for program in pool.map(lambda source: compiled(source, folder), sources) if program]
 
@@ -118,7 +118,7 @@ def main():
     options = options_of()
     with tempfile.TemporaryDirectory(prefix="own-tests-") as folder:
         (_, plain), *mutants = libraries(options.folder, options.only)
-        built, seen = build_tests(pathlib.Path(folder), options.jobs, options.cpp), {}
+        built, seen = build_tests(pathlib.Path(folder), options.jobs), {}
         tests = usable(built, plain, options.jobs)
         print(f"{len(tests)} tests; {len(built) - len(tests)} left out, which fail on the runtime as it is", flush=True)
         for name, library in mutants:

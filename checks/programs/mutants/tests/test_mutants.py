@@ -153,6 +153,12 @@ class Tables(unittest.TestCase):
 
 
 class OwnTests(unittest.TestCase):
+    def test_each_language_has_a_compiler(self):
+        self.assertEqual(set(own_tests.COMPILERS), set(own_tests.testsuite.LANGUAGES.values()))
+        program = own_tests.testsuite.Program("c:some.c", "/some.c", ("-O1",), "c")
+        with unittest.mock.patch.object(own_tests.shutil, "which", lambda _: None):
+            self.assertIsNone(own_tests.compiled(program, pathlib.Path("/none")))
+
     def test_status_and_time(self):
         with tempfile.TemporaryDirectory() as folder:
             program = pathlib.Path(folder) / "prog"
