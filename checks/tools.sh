@@ -3,7 +3,7 @@
 # of time. `.ci/run` calls it after the gate, with the program that the gate left. A check whose compiler or runtime
 # is missing is skipped, and counted as skipped. LLVM is the newest that is here, or the version in LLVM. Where it runs
 # as root with CI=true it installs the distribution's packages first: of LLVM, where none is here, the newest version of
-# those that were tried. Where it did, a check that misses one of them fails.
+# those that were tried. Where one is installed, a check that misses it, or a part of one, fails.
 #
 #     checks/tools.sh    its last line is `N passed, M failed, K skipped, T second tries`; the status is 0 where M is 0
 set -uo pipefail
@@ -24,6 +24,8 @@ llvm_packages() { # of the version in LLVM, or of the first of those that were t
     done
 }
 
+install() { DEBIAN_FRONTEND=noninteractive timeout 900 apt-get install -y "$@" > /dev/null 2>&1; }
+
 install_packages() { # without a word where all are there, and none where they cannot be had
     local missing llvm_is_here=0
     [ "${CI:-}" = true ] && [ "$(id -u)" = 0 ] || return 0
@@ -33,10 +35,10 @@ install_packages() { # without a word where all are there, and none where they c
         timeout 300 apt-get update > /dev/null 2>&1
         [ $llvm_is_here = 1 ] || missing+=" $(llvm_packages)"
         # shellcheck disable=SC2086
-        DEBIAN_FRONTEND=noninteractive timeout 900 apt-get install -y $missing > /dev/null 2>&1 ||
-            { echo "not installed: $missing"; return 0; }
+        install $missing || { echo "not installed: $missing"; return 0; }
     fi
-    ! checks/llvm/versions.py ${LLVM:+"$LLVM"} > /dev/null || installed='packages? (g\+\+|gcc|make|binutils|clang)'
+    ! checks/llvm/versions.py ${LLVM:+"$LLVM"} > /dev/null || installed='packages? (g\+\+|gcc|make|binutils|clang-[0-9])'
+    for it in pycodestyle pyflakes3 shellcheck vulture clang-format-14; do ! install "$it" || installed+="|package $it"; done
 }
 
 # one SECONDS NAME WORD..: runs the words and reports what came of it, with the end of what they printed where they
@@ -49,16 +51,16 @@ one() {
     second_tries=$((second_tries + $(grep -c '^again ' <<< "$printed")))
     skipped=$((skipped + $(grep -c '^skipped ' <<< "$printed")))
     grep -E '^(again|skipped) ' <<< "$printed"
-    if [ "$status" -eq 0 ] && [[ $last != 'skipped: '* ]]; then
-        printf 'ok      %s, %s s\n' "$name" $((SECONDS - began))
-        passed=$((passed + 1))
-    elif [ "$status" -eq 0 ] && ! grep -qE "$installed" <<< "$last"; then
-        printf 'skipped %s: %s\n' "$name" "${last#skipped: }"
-        skipped=$((skipped + 1))
-    else
+    if [ "$status" -ne 0 ] || grep -E '^skipped:? ' <<< "$printed" | grep -qE "$installed"; then
         printf '%s\n' "$printed" | tail -n 30
         printf 'FAILED  %s (status %s), %s s\n' "$name" "$status" $((SECONDS - began))
         failed=$((failed + 1))
+    elif [[ $last == 'skipped: '* ]]; then
+        printf 'skipped %s: %s\n' "$name" "${last#skipped: }"
+        skipped=$((skipped + 1))
+    else
+        printf 'ok      %s, %s s\n' "$name" $((SECONDS - began))
+        passed=$((passed + 1))
     fi
 }
 

@@ -1,6 +1,7 @@
 #!/usr/bin/env bash
 # Completes lines by the functions of tools/completion, in bash, and in zsh where there is one, and compares what comes
-# with what has to come. SPANPROF_LARGE names that program. A prefix may be named on which `make -C tools install` has put them.
+# with what has to come. SPANPROF_LARGE names that program. A prefix may be named on which `make -C tools install` has
+# put them.
 set -euo pipefail
 cd "$(dirname "$0")/../.."
 top=$PWD large=${SPANPROF_LARGE:-$PWD/crates/spanprof_large/out/spanprof_large}

@@ -105,17 +105,16 @@ mod tests {
     use crate::cut::Table;
     use crate::documents::Document;
     use crate::graph::Graph;
-use crate::growth::listed;
     use crate::limits::ANY_SIZE;
     use crate::read::read;
-    use crate::refusal::told;
+    use crate::refusal::printed;
 
     fn account_of(times: &str, flag: Option<&str>) -> String {
         let text = format!("omptasks 1\nwork 5 task {{ work 3 }} work 2 taskwait work 1\n---\n{times}");
         let document = Document::split(text.as_bytes());
         let program = read(document.program, &ANY_SIZE).unwrap_or_else(|fault| panic!("{fault}"));
         let graph = Table::of(&program).and_then(|table| Graph::of(&program, &table));
-        told(graph.and_then(|graph| account(&graph, &document, flag)))
+        printed(graph.and_then(|graph| account(&graph, &document, flag)))
     }
 
     const TIMES: &str = "times 2 0 14\n0 0 0 5\n1 0 6 9\n2 0 9 11\n3 1 12 13\n";

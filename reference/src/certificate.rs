@@ -104,7 +104,7 @@ mod tests {
     use super::check;
     use crate::documents::Document;
     use crate::limits::COMMANDS;
-    use crate::refusal::told;
+    use crate::refusal::printed;
 
     #[test]
     fn each_test_in_turn() {
@@ -122,7 +122,7 @@ mod tests {
         ];
         for (claim, wanted) in rows {
             let document = format!("omptasks 1\nwork 5 task {{ work 3 }} work 2 taskwait work 1\n---\n{claim}");
-            assert_eq!(told(check(&Document::split(document.as_bytes()), &COMMANDS)), wanted, "{claim}");
+            assert_eq!(printed(check(&Document::split(document.as_bytes()), &COMMANDS)), wanted, "{claim}");
         }
     }
 }

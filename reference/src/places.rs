@@ -1,4 +1,4 @@
-//! What is told of each place of a program: how many segments stand there and their work, the same of those on the
+//! What is reported of each place of a program: how many segments stand there and their work, the same of those on the
 //! critical path, and the least of all slacks. With the times of a run also how long the segments ran, and for how long
 //! threads were idle because of one.
 
@@ -32,28 +32,28 @@ pub fn places(graph: &Graph, document: &Document) -> Result<Vec<u8>, Refusal> {
     times.iter().try_for_each(|times| times.check(graph))?;
     let found = analyse(graph)?;
     let count = places.iter().max().map_or(0, |largest| largest + 1);
-    let mut told = filled(Sums::default(), count)?;
+    let mut of_places = filled(Sums::default(), count)?;
     for ((place, cost), slack) in places.iter().zip(&graph.costs).zip(&found.slacks) {
-        let sums = &mut told[*place];
+        let sums = &mut of_places[*place];
         sums.segments += 1;
         sums.work += cost;
         sums.slack = sums.slack.into_iter().chain([*slack]).min();
     }
     for member in &found.chain {
-        let sums = &mut told[places[*member as usize]];
+        let sums = &mut of_places[places[*member as usize]];
         sums.on_path += 1;
         sums.path += graph.costs[*member as usize];
     }
     if let Some(times) = &times {
         let Idle { delayed, starved } = idle_by_segment(&readies(graph, times)?, times)?;
         for (segment, place) in places.iter().enumerate() {
-            let (sums, ran) = (&mut told[*place], times.ran[segment]);
+            let (sums, ran) = (&mut of_places[*place], times.ran[segment]);
             sums.busy += ran.end - ran.begin;
             sums.delayed += delayed[segment];
             sums.starved += starved[segment];
         }
     }
-    Ok(table(&told, times.is_some()))
+    Ok(table(&of_places, times.is_some()))
 }
 
 /// A place for each segment, in their order. Places are numbered below the number of segments.
@@ -66,10 +66,10 @@ fn read_places(text: &[u8], segments: usize) -> Result<Vec<usize>, Refusal> {
     Ok(places)
 }
 
-fn table(told: &[Sums], is_timed: bool) -> Vec<u8> {
+fn table(of_places: &[Sums], is_timed: bool) -> Vec<u8> {
     let more = if is_timed { ",busy,delayed,starved" } else { "" };
     let mut text = format!("place,segments,work,on_path,path,slack{more}\n").into_bytes();
-    for (place, sums) in told.iter().enumerate() {
+    for (place, sums) in of_places.iter().enumerate() {
         let slack = sums.slack.map_or(String::new(), |slack| slack.to_string());
         let Sums { segments, work, on_path, path, busy, delayed, starved, .. } = sums;
         let more = if is_timed { format!(",{busy},{delayed},{starved}") } else { String::new() };
@@ -86,14 +86,14 @@ mod tests {
     use crate::graph::Graph;
     use crate::limits::ANY_SIZE;
     use crate::read::read;
-    use crate::refusal::told;
+    use crate::refusal::printed;
 
-    fn told_of(rest: &str) -> String {
+    fn report_of(rest: &str) -> String {
         let text = format!("omptasks 1\nwork 5 task {{ work 3 }} work 2 taskwait work 1\n{rest}");
         let document = Document::split(text.as_bytes());
         let program = read(document.program, &ANY_SIZE).unwrap_or_else(|fault| panic!("{fault}"));
         let graph = Table::of(&program).and_then(|table| Graph::of(&program, &table));
-        told(graph.and_then(|graph| places(&graph, &document)))
+        printed(graph.and_then(|graph| places(&graph, &document)))
     }
 
     #[test]
@@ -106,7 +106,7 @@ mod tests {
             ("---\n2 0 02 2", "0,1,3,1,3,0\n1,0,0,0,0,\n2,3,8,2,6,0\n"),
         ];
         for (rest, rows) in worked {
-            assert_eq!(told_of(rest), format!("{header}{rows}"), "{rest}");
+            assert_eq!(report_of(rest), format!("{header}{rows}"), "{rest}");
         }
     }
 
@@ -122,7 +122,7 @@ mod tests {
             ("2 0 2 2", "0,1,3,1,3,0,3,2,0\n1,0,0,0,0,,0,0,0\n2,3,8,2,6,0,8,5,8\n"),
         ];
         for (places, rows) in worked {
-            assert_eq!(told_of(&format!("---\n{places}\n{times}")), format!("{header}{rows}"), "{places}");
+            assert_eq!(report_of(&format!("---\n{places}\n{times}")), format!("{header}{rows}"), "{places}");
         }
     }
 
@@ -137,7 +137,7 @@ mod tests {
             ("---\n0 0 0 0\n---\ntimes 2 0 14\n0 0 0 5\n1 0 4 9\n2 0 9 11\n3 1 12 13\n", "TooSoon 1 0"),
         ];
         for (rest, why) in wrong {
-            assert_eq!(told_of(rest), why, "{rest}");
+            assert_eq!(report_of(rest), why, "{rest}");
         }
     }
 }

@@ -202,7 +202,6 @@ impl<'a> Builder<'a> {
 #[cfg(test)]
 mod tests {
     use super::read;
-    use crate::growth::{boxed, push};
 use crate::limits::{ANY_SIZE, COMMANDS};
 
     fn fault(text: &str) -> String {

@@ -59,6 +59,6 @@ impl fmt::Display for Refusal {
 
 /// What is printed, or why there is no answer.
 #[cfg(test)]
-pub fn told(answer: Result<Vec<u8>, Refusal>) -> String {
+pub fn printed(answer: Result<Vec<u8>, Refusal>) -> String {
     answer.map_or_else(|refusal| refusal.to_string(), |text| String::from_utf8_lossy(&text).into_owned())
 }

@@ -99,7 +99,7 @@ mod tests {
     use super::replay;
     use crate::documents::Document;
     use crate::limits::COMMANDS;
-    use crate::refusal::told;
+    use crate::refusal::printed;
 
     #[test]
     fn legal_and_refused_events() {
@@ -119,7 +119,7 @@ mod tests {
         ];
         for (events, wanted) in rows {
             let document = format!("omptasks 1 work 5 task {{ work 3 }} work 2 taskwait work 1\n---\n{events}");
-            assert_eq!(told(replay(&Document::split(document.as_bytes()), &COMMANDS)), wanted, "{events}");
+            assert_eq!(printed(replay(&Document::split(document.as_bytes()), &COMMANDS)), wanted, "{events}");
         }
     }
 }

@@ -18,7 +18,8 @@ class Product:
 
 
 def sources(folder):
-    return [path for pattern in ("*.cpp", "*.hpp", "Makefile") for path in glob.glob(os.path.join(folder, pattern))]
+    patterns = ("*.cpp", "*/**/*.[ch]pp", "Makefile")
+    return [path for pattern in patterns for path in glob.glob(os.path.join(folder, pattern), recursive=True)]
 
 
 def is_built(folder, product):

@@ -13,7 +13,6 @@ from spanprof.remarks import Remark, read_remark, occurrences
 NANOSECONDS = {"ns": 1, "us": 1000, "ms": 1000000}
 DIVISION = ("outside regions", "in other regions", "in serial code", "in loops", "in parts without tasks", "in tasks")
 CLOCKS = {"own": "wall time without preemption", "wall": "wall time", "cpu": "processor time"}
-COSTS = DIVISION[2:]  # of the text; the others are wall time of the program
 UNREAD = "line of the head that is not read, as it is damaged: "
 OLDER = "the head is that of an older version of the recorder, and is not read: convert the log again, or record again"
 

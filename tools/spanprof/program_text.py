@@ -48,11 +48,6 @@ class Segment:
         return named("task", self.task_place)
 
 
-def code_at(place):
-    """A place's name as a noun."""
-    return "the code " + place if place.startswith(("after ", "between ")) else place
-
-
 def is_one_of(names, words):
     """Whether these are one of the names, alone or with what follows it."""
     return words.startswith(names) and words.partition(" at ")[0].partition(",")[0] in names

@@ -27,8 +27,6 @@ KINDS = {
     "Unclosed": "missing `}` for this `{`",
     "Unopened": "missing `{` for this `}`",
     "TooDeep": "at most 1,048,576 blocks inside each other, 64 in version 2",
-    "TooManyTasks": "spanprof reads at most 4,096 tasks, and spanprof_large, which is not found, any number",
-    "TooManySegments": "spanprof reads at most 16,384 segments, and spanprof_large, which is not found, any number",
     "TooManyItems": "a task has at most 65,536 depend items, and a text 4,294,967,294",
     "WorkTooLarge": "all costs together are at most 1,000,000,000,000,000; a larger unit of time helps",
     "TooManyTurns": "all loops together have at most 4,000,000,000 turns"}
@@ -47,7 +45,7 @@ EVENTS = {
     "NotReady": "its predecessor, segment %s, has not finished",
     "NotRunning": "this worker does not run that segment"}
 WHOLE = {
-    "input too long": "spanprof reads at most 8,388,608 bytes, and spanprof_large, which is not found, any number",
+    "input too long": "a line has at most 4,000,000,000 bytes",
     "BadForm": "after the line `---` a replay has `start WORKER SEGMENT` and `finish WORKER SEGMENT`, a certificate "
                "`end`, `start`s and a `chain`",
     "ThreadCount": "a number of threads is 1 to 1,024",

@@ -57,10 +57,6 @@ class Remark(str):
     name = ""
     work = span = ""    # how the text's differ from the program's
 
-    @property
-    def effect(self):
-        return effect_of(self.work, self.span)
-
 
 def effect_of(work, span):
     """`span too low`, `work too low, span too high`."""

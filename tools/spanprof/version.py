@@ -6,7 +6,6 @@ the commit too.
 import argparse
 import os
 import subprocess
-import sys
 
 HERE = os.path.dirname(os.path.abspath(__file__))
 INSTALLED, IN_REPOSITORY = os.path.join(HERE, "..", "VERSION"), os.path.join(HERE, "..", "..", "VERSION")
@@ -49,14 +48,3 @@ class Version(argparse.Action):
     def __call__(self, parser, namespace, values, option_string=None):
         print(version_of(parser.prog))
         parser.exit()
-
-
-def answer(usage, words):
-    """Answers --help and --version of a script whose words are not read by argparse, and ends it then."""
-    if words[:1] in (["-h"], ["--help"]):
-        print(usage.strip())
-    elif words[:1] == ["--version"]:
-        print(version_of(os.path.basename(sys.argv[0])))
-    else:
-        return
-    sys.exit(0)

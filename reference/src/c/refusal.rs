@@ -1,4 +1,4 @@
-//! The number of a refusal, and the place that it is told with.
+//! The number of a refusal, and its place.
 
 use reference::refusal::Refusal;
 
@@ -25,7 +25,7 @@ fn number_of(kind: &str) -> u32 {
     (1..).zip(KINDS).find(|(_, one)| *one == kind).map_or(OUT_OF_MEMORY, |(number, _)| number)
 }
 
-pub fn told(why: &Refusal) -> (u32, Place) {
+pub fn numbered(why: &Refusal) -> (u32, Place) {
     let nowhere = Place::default();
     match *why {
         Refusal::Line(line, kind) => (number_of(kind), Place { line: line as u64, ..nowhere }),

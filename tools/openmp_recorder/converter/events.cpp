@@ -90,9 +90,3 @@ void Events::print(const Region &region, const Taker &taker) {
   }
   put_rows(times.size(), taker);
 }
-
-Events event_lines(const Region &region) {
-  Events out;
-  out.take(region, region, 0, region.opened);
-  return out;
-}

@@ -38,5 +38,3 @@ class Events {
   void put_away(uint32_t count);
   void put_rows(size_t count, const Taker &taker);  // the first ones
 };
-
-Events event_lines(const Region &region);  // of one that is held

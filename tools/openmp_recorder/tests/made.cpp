@@ -125,6 +125,12 @@ std::string text_of(Region &region, const Style &style) {
   return words.substr(words.find('\n') + 1);
 }
 
+Events event_lines(const Region &region) {
+  Events out;
+  out.take(region, region, 0, region.opened);
+  return out;
+}
+
 std::string told_times(const Region &region, Events events) {
   std::string out;
   events.print(region, [&](std::string_view piece) { out += piece; });

@@ -55,5 +55,6 @@ Region &only_region(Run &run);  // composed and added up
 std::string whole_text(Region &region, const Style &style, const Places &places);
 std::string text_of(Region &region, const Style &style = {});  // without its first line
 std::string events_of(Region &region);  // after its text
+Events event_lines(const Region &region);  // of one that is held
 std::string told_times(const Region &region, Events events);
 std::string times_of(Region &region);  // of its text, part by part, and of what was off the processor there

@@ -30,8 +30,7 @@ class Asking(unittest.TestCase):
             with self.assertRaises(client.Refused) as ended:
                 client.ask(["span"], "work 1\n" * 100000)
         self.assertEqual(str(ended.exception),
-                         "spanprof span: error: input too long: spanprof reads at most 8,388,608 bytes, and "
-                         "spanprof_large, which is not found, any number")
+                         "spanprof span: error: input too long: a line has at most 4,000,000,000 bytes")
         self.assertEqual(signal.getsignal(signal.SIGPIPE), before)
 
     def test_a_program_that_is_not_spanprof(self):

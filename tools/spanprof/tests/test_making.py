@@ -8,7 +8,7 @@ from spanprof.built import Product, find_or_build
 from spanprof.errors import Fault
 
 PRODUCT = Product("made", "the thing", "some-package")
-MAKEFILE = "made: it.cpp\n\techo begun >> runs && sleep 0.1 && echo whole > $@.new && mv $@.new $@\n"
+MAKEFILE = "made: it.cpp room/other.cpp\n\techo begun >> runs && sleep 0.1 && echo whole > $@.new && mv $@.new $@\n"
 
 
 class Making(unittest.TestCase):
@@ -17,6 +17,8 @@ class Making(unittest.TestCase):
         self.addCleanup(scratch.cleanup)
         self.folder = scratch.name
         self.write("it.cpp", "")
+        os.mkdir(os.path.join(self.folder, "room"))
+        self.write("room/other.cpp", "")
         self.write("Makefile", MAKEFILE)
 
     def write(self, name, text):
@@ -39,6 +41,12 @@ class Making(unittest.TestCase):
         self.assertEqual(self.runs(), 1)
         self.assertEqual(self.find(), os.path.join(self.folder, "made"))
         self.assertEqual(self.runs(), 1)
+
+    def test_a_source_in_a_folder_that_is_newer(self):
+        self.find()
+        os.utime(os.path.join(self.folder, "room", "other.cpp"), (2e9, 2e9))
+        self.find()
+        self.assertEqual(self.runs(), 2)
 
     def test_what_cannot_be_made_is_a_fault(self):
         self.write("Makefile", "made: it.cpp\n\techo 'it.cpp:1: error: no such thing' && false\n")

@@ -43,7 +43,7 @@ class OfALine(unittest.TestCase):
         self.assertIn("the text ends too early", reported("error: line 5: BadWord", "x"))
 
     def test_every_kind_of_a_line_has_words(self):
-        for kind in ("TooLong", "BadByte", "TooDeep", "TooManyTasks", "WorkTooLarge", "TooManyTurns", "Unopened"):
+        for kind in ("TooLong", "BadByte", "TooDeep", "TooManyItems", "WorkTooLarge", "TooManyTurns", "Unopened"):
             self.assertRegex(reported("error: line 3: " + kind, "}"), "^mine.tasks:3(:[0-9]+)?: %s: .{10}" % kind)
 
     def test_an_empty_text(self):

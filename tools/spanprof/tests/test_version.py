@@ -1,6 +1,4 @@
-"""Tests of version.py: versions in a repository and where the tools are installed, and what scripts answer."""
-import contextlib
-import io
+"""Tests of version.py: versions in a repository and where the tools are installed."""
 import os
 import tempfile
 import unittest
@@ -36,23 +34,6 @@ class Versions(unittest.TestCase):
 
     def test_no_clone_has_no_commit(self):
         self.assertEqual(version.commit_of(self.folder.name), "")
-
-
-class Answers(unittest.TestCase):
-    def answered(self, *words):
-        out = io.StringIO()
-        with contextlib.redirect_stdout(out), self.assertRaises(SystemExit) as ended:
-            version.answer("usage of it\n", list(words))
-        self.assertEqual(ended.exception.code, 0)
-        return out.getvalue()
-
-    def test_help_and_version(self):
-        self.assertEqual(self.answered("--help"), "usage of it\n")
-        self.assertIn("(logic ", self.answered("--version"))
-
-    def test_other_words_go_on(self):
-        self.assertIsNone(version.answer("usage", ["mine.tasks"]))
-        self.assertIsNone(version.answer("usage", []))
 
 
 if __name__ == "__main__":

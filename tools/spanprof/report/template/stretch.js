@@ -10,7 +10,6 @@ class Stretch {
     this.show(0, this.whole);
   }
   get length() { return this.to - this.from; }
-  get isWhole() { return this.length >= this.whole; }
   show(from, length) {
     const kept = Math.min(Math.max(length, this.least), this.whole);
     this.from = Math.min(Math.max(from, 0), this.whole - kept);

@@ -1,4 +1,4 @@
-//! What calls tell in several numbers, as C has it.
+//! What calls answer in several numbers, as C has it.
 
 #[repr(C)]
 #[derive(Debug, Default, PartialEq, Eq)]
