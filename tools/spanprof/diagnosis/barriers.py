@@ -1,6 +1,6 @@
 """Barriers between loops of a region at which threads wait for each other, though each has as much to do in all."""
+import itertools
 from collections import Counter, defaultdict
-from itertools import chain, groupby
 from operator import itemgetter
 from typing import NamedTuple
 
@@ -50,8 +50,8 @@ def phases_in(program):
     first segments, and those behind them."""
     code, before = program.code, ""
     is_barrier = [name.startswith(AFTER_REGION) for name in program.kinds]
-    parts = zip(code.own, chain(code.own[1:], (len(code),)), code.groups)
-    for _, some in groupby(parts, itemgetter(2)):
+    parts = zip(code.own, itertools.chain(code.own[1:], (len(code),)), code.groups)
+    for _, some in itertools.groupby(parts, itemgetter(2)):
         some = list(some)
         first = some[0][0]
         region = code.kinds[code.of[first]].region
@@ -82,7 +82,7 @@ def phase_of(parts, threads):
     if len(parts) < threads or None in parts.values():
         return None
     places = {}
-    for name, cost in chain.from_iterable(part.items() for part in parts.values()):
+    for name, cost in itertools.chain.from_iterable(part.items() for part in parts.values()):
         if cost:
             places[name] = places.get(name, 0) + cost
     return Phase(max(places, key=places.get, default=""), {name: sum(part.values()) for name, part in parts.items()})
