@@ -1,5 +1,5 @@
 #!/usr/bin/env python3
-"""Finds Python modules of tools, checks, bench and examples that import each other in a circle.
+"""Finds Python modules of tools, checks, bench and examples that import each other in a circle, or what is not there.
 
     checks/sources/imports.py
 A name is looked for beside the module that imports it, in the folders above that one, and in tools/. Imports inside
@@ -38,10 +38,29 @@ def file_of(name, path, known):
     return None
 
 
-def imports_of(path, source, known):
-    found = (next(filter(None, (file_of(name, path, known) for name in names)), None)
-             for names in named(ast.parse(source)))
+def imports_of(path, tree, known):
+    found = (next(filter(None, (file_of(name, path, known) for name in names)), None) for names in named(tree))
     return {one for one in found if one not in (None, path)}
+
+
+def defined(tree):
+    """All names that a module defines, at its top or deeper."""
+    for node in ast.walk(tree):
+        if isinstance(node, (ast.FunctionDef, ast.ClassDef)):
+            yield node.name
+        elif isinstance(node, ast.Name) and isinstance(node.ctx, ast.Store):
+            yield node.id
+        elif isinstance(node, ast.alias):
+            yield node.asname or node.name
+
+
+def missing(path, tree, names):
+    """What a module imports by `from` from another one that has no such name."""
+    for node in ast.walk(tree):
+        if isinstance(node, ast.ImportFrom) and node.module and not node.level:
+            known = names.get(file_of(node.module, path, names))
+            yield from ("%s.%s" % (node.module, alias.name) for alias in node.names
+                        if known and alias.name not in known)
 
 
 def circle(imports):
@@ -63,12 +82,14 @@ def circle(imports):
 
 
 def main():
-    sources = {path: path.read_text(encoding="utf-8") for path in files()}
-    found = circle({path: imports_of(path, source, sources) for path, source in sources.items()})
-    if found:
-        print("a circle: " + " imports ".join(str(path.relative_to(TOP)) for path in found + found[:1]))
-    print("%d modules, %d wrong" % (len(sources), bool(found)))
-    return 1 if found else 0
+    trees = {path: ast.parse(path.read_text(encoding="utf-8")) for path in files()}
+    names = {path: set(defined(tree)) for path, tree in trees.items()}
+    found = circle({path: imports_of(path, tree, trees) for path, tree in trees.items()})
+    wrong = ["a circle: " + " imports ".join(str(path.relative_to(TOP)) for path in found + found[:1])] * bool(found)
+    wrong += ["%s imports %s, which is not there" % (path.relative_to(TOP), name)
+              for path, tree in trees.items() for name in missing(path, tree, names)]
+    print(*wrong, "%d modules, %d wrong" % (len(trees), len(wrong)), sep="\n")
+    return 1 if wrong else 0
 
 
 if __name__ == "__main__":
