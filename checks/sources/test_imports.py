@@ -25,7 +25,7 @@ class Imported(unittest.TestCase):
 
 class Names(unittest.TestCase):
     def test_what_a_module_defines(self):
-        source = "import os as system\nfrom a import b\nclass C:\n    def f(self):\n        pass\nlimit, (x, y) = 1, p\n"
+        source = "import os as system\nfrom a import b\nclass C:\n  def f(self):\n    pass\nlimit, (x, y) = 1, p\n"
         self.assertEqual(set(defined(ast.parse(source))), {"system", "b", "C", "f", "limit", "x", "y"})
 
     def test_what_is_imported_and_not_there(self):
