@@ -22,7 +22,7 @@ from programs import KINDS, kind_of, program
 from run import HERE, diagnosed_again
 
 ARCHIVE, ANSWERS = (os.path.join(HERE, "kept." + ending) for ending in ("tar.xz", "txt"))
-SMALL = 200000      # bytes of a recording without its log
+SMALL = 300000      # bytes of a recording without its log
 
 
 def sources_of(folder):

@@ -3,7 +3,7 @@ from dataclasses import replace
 
 from spanprof.diagnosis.allocation import parallel_places
 from spanprof.diagnosis.causes import BY_KIND, ESTIMATED
-from spanprof.diagnosis.losses import OF_SHAPE, in_code_losses, least_of, slowed_lines
+from spanprof.diagnosis.losses import FINE, OF_SHAPE, in_code_losses, least_of, made_by_one, slowed_lines
 from spanprof.diagnosis.sleeps import is_of_programs, threads_for_sleep
 from spanprof.diagnosis.step import Step, least_time, predicted
 from spanprof.program_text import where
@@ -30,13 +30,20 @@ def of_program(facts, found, waiting):
     return max(1, facts.whole_time - others - facts.recorder - waiting)
 
 
+def waiting_for_recorder(facts, loss):
+    """What the others wait for one thread while it records: that a small region begins or ends; or that it makes a
+    task, where it makes all of them, while others record that these begin and end, which takes as long."""
+    recorder = facts.recorder if loss.kind == "small_regions" else \
+        facts.recorder // 2 if loss.kind in FINE and made_by_one(facts) else 0
+    return min(loss.time, (facts.threads - 1) * recorder)
+
+
 def left(facts, now, loss, found):
-    """Of the run, without what is lost by this cause; all other code is still to run. While one thread records that a
-    small region begins or ends the others wait for it."""
+    """Of the run, without what is lost by this cause; all other code is still to run."""
     in_code = sum(one.time for one in in_code_losses(facts) if one.kind == loss.kind)
     in_code = max(in_code, loss.time) if in_code else 0
     freed = freed_with(facts, loss, found)
-    waiting = min(loss.time, (facts.threads - 1) * facts.recorder) * (loss.kind == "small_regions")
+    waiting = waiting_for_recorder(facts, loss)
     gone = loss.time + waiting_for(facts, found, loss) + sum(freed.values()) - waiting
     least = least_time(facts, facts.code - in_code - freed["memory"])
     return min(now, max(int(now * (1 - gone / of_program(facts, found, waiting))), least))

@@ -115,14 +115,19 @@ def is_maker(place):
     return place.is_creating and place.kind in (SERIAL, OF_THREADS) and not place.tasks
 
 
-def keeps_waiting(facts):
-    """Whether one thread makes nearly all tasks, and its own code for each lasts as long as the others take for one."""
+def made_by_one(facts):
+    """The places of such code, where one thread makes nearly all tasks; else none."""
     making = [place for place in facts.places.values() if place.is_creating and not place.tasks]
     own = list(filter(is_maker, making))
     made, all_made = (sum(place.pieces for place in some) for some in (own, making))
-    alone = sum(place.cost for place in own)
-    return made > MANY * facts.threads and 10 * made > 9 * all_made and alone > A_CREATION * made and \
-        (facts.threads - 1) * alone > average_task(facts) * made
+    return own if made > MANY * facts.threads and 10 * made > 9 * all_made else []
+
+
+def keeps_waiting(facts):
+    """Whether one thread makes nearly all tasks, and its own code for each lasts as long as the others take for one."""
+    own = made_by_one(facts)
+    made, alone = (sum(numbers) for numbers in ((place.pieces for place in own), (place.cost for place in own)))
+    return alone > A_CREATION * made and (facts.threads - 1) * alone > average_task(facts) * made
 
 
 def fine_kind(facts):

@@ -4,6 +4,7 @@ from types import SimpleNamespace
 from spanprof.diagnosis.bounds import bound_of, bounds
 from spanprof.diagnosis.calls import Sampled
 from spanprof.diagnosis.losses import Loss
+from spanprof.diagnosis.places import OF_THREADS
 from spanprof.diagnosis.tests.worked import MS, facts, place
 
 TASKS = "task at image.c:25"
@@ -51,6 +52,14 @@ class Bounds(unittest.TestCase):
         lost, run = Loss("small_regions", "image.c:25", 124 * MS), facts(code=200 * MS, recorder=8 * MS)
         self.assertEqual(bound_of(run, 92 * MS, lost).after, 67 * MS)   # of 400, 32 while threads wait for the recorder
         self.assertEqual(bound_of(run, 98 * MS, lost._replace(kind="lock")).after, 67 * MS)
+
+    def test_the_others_wait_for_the_one_that_records_that_it_makes_tasks(self):
+        made = place(TASKS, pieces=8000, tasks=8000)
+        maker = place("after creating a task at image.c:25", OF_THREADS, pieces=8000, tasks=0)
+        lost = Loss("small_tasks", TASKS, 112 * MS)
+        for places, after in (([made, maker], 95 * 280 // 380), ([made], 95 * 280 // 392)):
+            step = bound_of(facts(places, code=200 * MS, recorder=8 * MS), 95 * MS, lost)
+            self.assertEqual(step.after // MS, after)
 
     def test_what_other_programs_take_is_as_much_of_a_shorter_run(self):
         lost, others = Loss("lock", "image.c:25", 190 * MS), Loss("machine", TASKS, 20 * MS)
