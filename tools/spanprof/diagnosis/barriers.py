@@ -90,30 +90,30 @@ def phase_of(parts, threads):
 
 def chains_of(phases):
     """Those that follow each other, and that several threads run."""
-    chain = []
+    some = []
     for phase in [*phases, None]:
         if phase and not phase.is_alone:
-            chain.append(phase)
-        elif chain:
-            yield chain
-            chain = []
+            some.append(phase)
+        elif some:
+            yield some
+            some = []
 
 
-def evened(chain):
-    """What threads would wait less that went through these phases without barriers."""
+def evened(phases):
+    """What threads would wait less that went through these without barriers."""
     whole = Counter()
-    for phase in chain:     # a sum of counters leaves out threads without cost
+    for phase in phases:     # a sum of counters leaves out threads without cost
         whole.update(phase.costs)
-    return sum(waits_of(phase.costs.values()) for phase in chain) - waits_of(whole.values())
+    return sum(waits_of(phase.costs.values()) for phase in phases) - waits_of(whole.values())
 
 
 def barrier_of(times):
     """Of the phases of a region's times: the places, that with most waits at a barrier, and the share of all waits that
     goes without barriers."""
     waits, behind, less = Counter(), Counter(), 0
-    for chain in (chain for phases in times for chain in chains_of(phases)):
-        less += evened(chain)
-        for phase in chain[:-1]:
+    for some in (some for phases in times for some in chains_of(phases)):
+        less += evened(some)
+        for phase in some[:-1]:
             behind[phase.name] += waits_of(phase.costs.values())
     for phase in (phase for phases in times for phase in filter(None, phases)):
         waits[phase.name] += waits_of(phase.costs.values())

@@ -15,6 +15,7 @@ from spanprof.record.linkage import linkage
 from spanprof.record.log_head import process_of, usage_in_log
 from spanprof.record.messages import Messages
 from spanprof.record.meta import old_meta, write_meta
+from spanprof.record.processes import expect, note_of_others
 from spanprof.record.ranks import is_launcher, of_rank, rank_of
 from spanprof.record.run import environment, signal_name, watched
 from spanprof.record.runtime import choose, refuse_targets, what_it_lacks
@@ -103,6 +104,7 @@ class Session:
         self.converter = converter(tell)
         self.notes = notes_on(self.preload, linked.called, bool(options.runtime))
         self.work = None
+        self.others = ""    # on processes that are not recorded
 
     @contextmanager
     def begun(self):
@@ -181,9 +183,11 @@ class Session:
     def record_once(self, more=None):
         """The program's end, the recordings, and what was said. `more` adds to the folder of the program's own, and
         answers what more is known of its run."""
+        expect(self.work.stem)
         ended = self.run(self.work.stem)
         self.note_end(ended)
         folders = self.work.folders
+        self.others = note_of_others(self.work.stem, set(map(process_of, folders)))
         said = self.write_all(folders, self.work.stem, ended)
         if more and ended.status:
             say("%s: no speedup" % Failed("the recorded run", ended.status))

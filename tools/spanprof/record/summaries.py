@@ -67,7 +67,7 @@ def print_summary(session, recording, answers, others, news, is_cut):
         return
     account, no_breakdown = recorded_breakdown(answers)
     if options.all or not (diagnosis or is_cut):
-        show(summary(answers, news + [why] * bool(why), others, lines_of(account, no_breakdown),
+        show(summary(answers, news + list(filter(None, [session.others, why])), others, lines_of(account, no_breakdown),
                      program_of(recording.text), asleep_in(recording, answers)))
         show(named("losses", diagnosis.sum_lines() if diagnosis else []) +
              named("counters", words_of(recording.meta.get("counters") or {})))

@@ -37,7 +37,7 @@ class Printed(InFolder):
     def reported(self, *folders, things=(), rank=None, **options):
         chosen = argparse.Namespace(**dict(dict(json=None, runs=1, all=True, against=None), **options))
         made = mock.Mock(notes=["a note"], rank=rank, out=os.path.join(self.folder, "mine"), options=chosen,
-                         work=argparse.Namespace(name="mine"))
+                         work=argparse.Namespace(name="mine"), others="2 others met no OpenMP")
         with mock.patch("spanprof.record.summaries.Answers", side_effect=self.answered), \
                 contextlib.redirect_stderr(io.StringIO()) as reported:
             summaries.print_summaries(made, Recorded(0, list(folders), Messages(True, list(things))))
@@ -47,7 +47,7 @@ class Printed(InFolder):
         reported = self.reported(recording(self.folder))
         self.assertEqual(reported[0], "mine.spanprof, the whole program, 4 threads, costs in us of wall time")
         self.assertTrue(reported[1].startswith("program       100 ns: 60.0 % outside of regions"))
-        self.assertEqual(reported[-1], "warnings      a note")
+        self.assertEqual(reported[-2:], ["warnings      a note", "              2 others met no OpenMP"])
 
     def test_the_diagnosis_alone_where_there_is_one(self):
         self.diagnosed.return_value = mock.Mock(lines=lambda more, news: ["now: " + more, *news],
@@ -71,7 +71,7 @@ class Printed(InFolder):
     def test_its_own_text_is_no_news(self):
         folder = recording(self.folder)
         reported = self.reported(folder, things=[{"message": "text", "file": os.path.join(folder, "program.tasks")}])
-        self.assertEqual(reported[-1], "warnings      a note")
+        self.assertEqual(reported[-2:], ["warnings      a note", "              2 others met no OpenMP"])
 
     def test_several_runs(self):
         """By recording.json, in the unit of the text."""

@@ -1,0 +1,36 @@
+import os
+import tempfile
+import unittest
+
+from spanprof.record.processes import ENDING, expect, note_of_others, started
+
+
+class Processes(unittest.TestCase):
+    def setUp(self):
+        folder = tempfile.TemporaryDirectory()
+        self.addCleanup(folder.cleanup)
+        self.out = os.path.join(folder.name, "mine")
+        expect(self.out)
+
+    def note(self, lines, *recorded):
+        with open(self.out + ENDING, "a", encoding="utf-8") as file:
+            file.write(lines)
+        return note_of_others(self.out, recorded)
+
+    def test_those_that_met_no_openmp(self):
+        self.assertEqual(self.note("7 sh\n8 awk\n9 awk\n", 7), "2 other processes met no OpenMP: awk (2)")
+        self.assertEqual(self.note("10 solve\n11 a b\n", 7, 8, 9, 10), "1 other process met no OpenMP: a b")
+        self.assertEqual(self.note("12 x\n13 y\n", 7, 10),
+                         "5 other processes met no OpenMP: awk (2), a b, x, ..")
+
+    def test_a_process_that_went_on_as_another_program_is_one(self):
+        self.assertEqual(self.note("7 env\n7 solve\n", 7), "")
+        self.assertEqual(started(self.out), {7: "solve"})
+
+    def test_no_file(self):
+        self.assertEqual((started(self.out + "2"), note_of_others(self.out + "2", ())), ({}, ""))
+        self.assertEqual(self.note("x y\n\n"), "")
+
+
+if __name__ == "__main__":
+    unittest.main()
