@@ -202,7 +202,7 @@ impl<'a> Builder<'a> {
 #[cfg(test)]
 mod tests {
     use super::read;
-use crate::limits::{ANY_SIZE, COMMANDS};
+    use crate::limits::{ANY_SIZE, COMMANDS};
 
     fn fault(text: &str) -> String {
         read(text.as_bytes(), &COMMANDS).err().map_or(String::new(), |fault| fault.to_string())
