@@ -55,7 +55,7 @@ class Run {
 // A run of too many segments for one bar each: bins of time, with how busy a thread is there and with what most.
 class LevelRun {
   constructor(packed) {
-    const wide = packed.end / packed.bins, digit = (words, i) => parseInt(words[i], 36);
+    const wide = packed.wide, digit = (words, i) => parseInt(words[i], 36);
     this.isTimed = true;
     this.where = new Map();
     this.end = packed.end;
