@@ -127,10 +127,12 @@ void SegmentTable::task(std::string_view clauses, std::string_view place) {
   uint32_t of_kind = open(Nothing, 0);
   std::size_t last = std::exchange(before, SIZE_MAX);
   if (clauses.empty()) return;
-  std::string key(clauses);
-  key += '#' + std::to_string(of_place);
-  auto [met, is_new] = clauses_met.try_emplace(std::move(key), written.size());
-  if (is_new) written.push_back({are_of_regions[of_place] ? no_kind : of_kind, std::string(clauses)});
+  asked.assign(clauses).append("#").append(std::to_string(of_place));
+  auto met = clauses_met.find(asked);
+  if (met == clauses_met.end()) {
+    written.push_back({are_of_regions[of_place] ? no_kind : of_kind, asked, clauses.size()});
+    met = clauses_met.emplace(written.back().words, written.size() - 1).first;
+  }
   before = met->second;
   written[before].count++;
   written[before].again += before == last;
@@ -167,12 +169,15 @@ bool SegmentTable::finish() {
   for (const Sums &one : sums)
     list += (list.empty() ? "[" : ", [") + std::to_string(one.kind) + ", " + std::to_string(one.following) + ", " +
             std::to_string(one.count) + ", " + std::to_string(one.cost) + ", " + std::to_string(one.most) + "]";
-  line.put_bare("sums", in_brackets(list));
-  list.clear();
-  for (const Clauses &one : written)
-    list += (list.empty() ? "[" : ", [") + (one.kind == no_kind ? "null" : std::to_string(one.kind)) + ", " +
-            in_json(one.words) + ", " + std::to_string(one.count) + ", " + std::to_string(one.again) + "]";
-  line.put_bare("own", in_brackets(own.words())).put_bare("clauses", in_brackets(list));
-  taker("\n" + line.end() + "\n");
+  line.put_bare("sums", in_brackets(list)).put_bare("own", in_brackets(own.words()));
+  list = "\n" + line.end();
+  list.replace(list.size() - 1, 1, ", \"clauses\": [");  // there may be as many as tasks
+  for (const Clauses &one : written) {
+    list += (&one == &written.front() ? "[" : ", [") + (one.kind == no_kind ? "null" : std::to_string(one.kind)) +
+            ", " + in_json(std::string_view(one.words).substr(0, one.length)) + ", " + std::to_string(one.count) +
+            ", " + std::to_string(one.again) + "]";
+    if (list.size() >= of_a_block) taker(list), list.clear();
+  }
+  taker(list + "]}\n");
   return kinds.size() < most_words && words.size() < most_words;
 }

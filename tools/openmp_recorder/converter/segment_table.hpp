@@ -3,6 +3,7 @@
 #pragma once
 #include <array>
 #include <cstdint>
+#include <deque>
 #include <functional>
 #include <map>
 #include <string>
@@ -37,7 +38,8 @@ class SegmentTable {
   };
   struct Clauses {
     uint32_t kind;
-    std::string words;
+    std::string words;  // and behind them the place
+    std::size_t length;  // without that
     uint64_t count = 0, again = 0;  // tasks, and those right behind another one with the same
   };
   struct Sums {  // of the segments of a kind before those of another one
@@ -56,8 +58,9 @@ class SegmentTable {
   std::vector<Sums> sums;
   std::unordered_map<uint64_t, uint32_t> sums_met;
   std::array<std::pair<uint64_t, uint32_t>, 64> recent_sums{};
-  std::vector<Clauses> written;
-  std::unordered_map<std::string, std::size_t> clauses_met;
+  std::deque<Clauses> written;
+  std::unordered_map<std::string_view, std::size_t> clauses_met;  // their words
+  std::string asked;  // of them
   std::vector<Block> blocks;
   std::vector<std::size_t> groups;  // of the blocks
   Code here;
