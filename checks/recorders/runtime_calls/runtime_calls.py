@@ -23,6 +23,7 @@ def options():
     parser.add_argument("--llvm", default="19,16", help="versions of LLVM; those that are missing are left out")
     parser.add_argument("--compilers", default="clang,gcc,gnu", help="gnu: gcc's code on gcc's own runtime")
     parser.add_argument("--most", type=int, default=10000, help="so many programs of each compiler, evenly chosen")
+    parser.add_argument("--all", action="store_true", help="programs without tasks too: what they print")
     parser.add_argument("--only", default="", help="programs with this in their name")
     parser.add_argument("--jobs", type=int, default=os.cpu_count(), help="programs at a time")
     parser.add_argument("--verbose", action="store_true", help="a line for each program")
@@ -77,7 +78,7 @@ def main():
         return 0
     failed, tries, built = 0, 0, 0
     with tempfile.TemporaryDirectory() as folder:
-        programs = [it for it in testsuite.programs(testsuite.unpack(tar, folder)) if asked.only in it.name]
+        programs = [it for it in testsuite.programs(testsuite.unpack(tar, folder), asked.all) if asked.only in it.name]
         there = versions.asked(asked.llvm)
         for number in set(asked.llvm.split(",")) - {version.number for version in there}:
             print("left out: LLVM %s's compiler or runtime is missing (packages clang-%s, libomp-%s-dev)" % (

@@ -1,4 +1,4 @@
-"""The programs of libgomp's own tests that have tasks, from the distribution's package gcc-12-source."""
+"""The programs of libgomp's own tests, those that have tasks or all, from the distribution's package gcc-12-source."""
 import glob
 import os
 import re
@@ -45,7 +45,7 @@ def is_run(source):
     return not found or found.group(1) == "run"
 
 
-def programs(folder):
+def programs(folder, without_tasks=False):
     found = []
     for path in sorted(glob.glob(os.path.join(folder, "**", "*"), recursive=True)):
         language = LANGUAGES.get(os.path.splitext(path)[1])
@@ -53,7 +53,7 @@ def programs(folder):
             continue
         with open(path, encoding="latin-1") as file:
             source = file.read()
-        if TASKS.search(source) and is_run(source):
+        if (without_tasks or TASKS.search(source)) and is_run(source):
             name = os.path.relpath(path, folder).replace("libgomp.", "").replace("/", ":")
             found.append(Program(name, path, options(source), language))
     return found

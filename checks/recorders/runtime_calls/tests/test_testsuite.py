@@ -31,8 +31,9 @@ class Testsuite(unittest.TestCase):
             for name, pragma in (("a.c", "task"), ("b.c", "for"), ("c.C", "taskloop")):
                 with open(os.path.join(folder, "libgomp.c", name), "w", encoding="utf-8") as file:
                     file.write(HEAD + "#pragma omp %s\n" % pragma)
-            found = testsuite.programs(folder)
+            found, every = testsuite.programs(folder), testsuite.programs(folder, True)
         self.assertEqual([(it.name, it.language) for it in found], [("c:a.c", "c"), ("c:c.C", "c++")])
+        self.assertEqual([it.name for it in every], ["c:a.c", "c:b.c", "c:c.C"])
 
 
 if __name__ == "__main__":
