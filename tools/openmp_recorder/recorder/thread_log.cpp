@@ -188,12 +188,14 @@ void ThreadLog::read_anew(Moment &now) {
   now.at = read_ticks();
 }
 
-// Of what passed since the clocks were read before the wait, no more than passed since its end.
+// Since the clocks were read before the wait, the thread was off as long as it waited, and what it was off for longer is
+// of the lock, but no more than it had that.
 std::optional<Passed> ThreadLog::passed_since_lock(const Moment &now, bool has_stood) {
-  int64_t lasted = wall_time_at(now.at) - wall_time_at(std::exchange(held_since, 0));
+  int64_t got = wall_time_at(std::exchange(held_since, 0));
+  int64_t lasted = wall_time_at(now.at) - got, waited = got - wall_time_at(lock.asked.at);
   std::optional<Passed> passed = both.at_record(times(now));
   if (!passed || has_stood) return {};
-  int64_t off = std::min(lasted, passed->off());
+  int64_t off = std::clamp(passed->off() - waited, int64_t{0}, std::max(lasted, int64_t{0}));
   return Passed{passed->slept, lasted, lasted - off, passed->taken, std::min(off, passed->put_off)};
 }
 

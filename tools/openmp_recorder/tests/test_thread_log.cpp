@@ -199,6 +199,20 @@ TEST(sleep_in_a_wait_for_a_lock_is_not_told) {
   for (const Passed &one : thread.passed()) EXPECT(one.slept && one.off() >= 2000000, false);
 }
 
+TEST(the_wait_for_a_lock_is_no_sleep_while_it_is_held) {
+  Switching thread;
+  if (!thread.is_known()) return;
+  thread.record();
+  thread.wait_for_lock();
+  Passed held = {};
+  int64_t wall = wall_time(), processor = processor_time();
+  while (processor_time() - processor < 3000000) continue;
+  usleep(100);
+  held.wall = wall_time() - wall, held.processor = processor_time() - processor;
+  thread.record();
+  for (const Passed &one : thread.passed()) EXPECT(one.off() <= held.off() + 200000, true);
+}
+
 TEST(of_sleep_in_a_lock_and_before_it_no_more_is_told_than_the_lock_was_held) {
   Switching thread;
   if (!thread.is_known()) return;

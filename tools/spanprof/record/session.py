@@ -15,7 +15,7 @@ from spanprof.record.linkage import linkage
 from spanprof.record.log_head import process_of, usage_in_log
 from spanprof.record.messages import Messages
 from spanprof.record.meta import old_meta, write_meta
-from spanprof.record.processes import expect, note_of_others
+from spanprof.record.processes import expect, note_of_others, started
 from spanprof.record.ranks import is_launcher, of_rank, rank_of
 from spanprof.record.run import environment, signal_name, watched
 from spanprof.record.runtime import choose, refuse_targets, what_it_lacks
@@ -76,6 +76,8 @@ def why_nothing(status, said, session):
 
 
 class Session:
+    processes, others = {}, ""      # those of the run, and a sentence on those that are not recorded
+
     def __init__(self, options):
         self.options = options
         self.path = find(options.command[0])
@@ -104,7 +106,6 @@ class Session:
         self.converter = converter(tell)
         self.notes = notes_on(self.preload, linked.called, bool(options.runtime))
         self.work = None
-        self.others = ""    # on processes that are not recorded
 
     @contextmanager
     def begun(self):
@@ -131,9 +132,12 @@ class Session:
 
     def facts_of(self, ended, out, folder):
         """What a recording tells of its run, and the system of its own process alone: the command may start others."""
-        is_started = process_of(folder) == ended.process
-        usage = usage_in_log(folder) or (usage_of(ended.usage) if is_started else {})
-        return {**facts_of_run(ended, usage, self.variables(out), processors_there_are()),
+        process = process_of(folder)
+        usage = usage_in_log(folder) or (usage_of(ended.usage) if process == ended.process else {})
+        processors = processors_there_are()
+        if process in self.processes:
+            processors = min(processors, self.processes[process].processors or processors)
+        return {**facts_of_run(ended, usage, self.variables(out), processors),
                 "arguments": self.options.command}
 
     def write(self, folder, out, ended):
@@ -187,7 +191,8 @@ class Session:
         ended = self.run(self.work.stem)
         self.note_end(ended)
         folders = self.work.folders
-        self.others = note_of_others(self.work.stem, set(map(process_of, folders)))
+        self.processes = started(self.work.stem)
+        self.others = note_of_others(self.processes, set(map(process_of, folders)))
         said = self.write_all(folders, self.work.stem, ended)
         if more and ended.status:
             say("%s: no speedup" % Failed("the recorded run", ended.status))

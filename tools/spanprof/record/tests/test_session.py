@@ -8,6 +8,7 @@ from unittest import mock
 
 from spanprof.errors import Fault
 from spanprof.record import command, session
+from spanprof.record.processes import Process
 from spanprof.record.messages import Messages
 from spanprof.record.run import Ended
 from spanprof.record.runs import record_often
@@ -119,6 +120,16 @@ class Runs(InFolder):
             self.assertEqual(((facts["usage"] or {}).get("minor_faults"), facts["children_ns"]), (faults, children))
             self.assertEqual(facts["host"]["command_ns"], 1750000000)
             self.assertEqual(facts["counters"], {"cycles": 5} if faults else None)
+
+    def test_processors_are_those_that_the_process_may_use(self):
+        """Such as those that mpirun or taskset in a script binds it to."""
+        made, folder = self.session([]), os.path.join(self.folder, "mine.spanprof")
+        log_head(folder, 7, ())
+        for known, processors in (({}, 8), ({7: Process(2, "mine")}, 2), ({7: Process(0, "mine")}, 8),
+                                  ({9: Process(1, "sh")}, 8), ({7: Process(16, "mine")}, 8)):
+            made.processes = known
+            with mock.patch("spanprof.record.session.processors_there_are", return_value=8):
+                self.assertEqual(made.facts_of(Ended(0, 9, USED, process=7), "mine", folder)["processors"], processors)
 
     def test_a_name_that_is_taken(self):
         self.record(self.session([0]))
