@@ -14,7 +14,7 @@ def table(heads, rows):
 
 
 def line_of(row):
-    return "| " + " | ".join(map(str, row)) + " |"
+    return "| " + " | ".join(str(cell).replace("|", "\\|") for cell in row) + " |"   # as in an assertion
 
 
 def first_few(names, most=4):

@@ -54,6 +54,9 @@ class Tables(unittest.TestCase):
         self.assertEqual(tables.matrix({"hang": ["a"], "crash": ["b", "a"]}).split("\n")[2:4],
                          ["| a | x | x |", "| b |  | x |"])
 
+    def test_a_bar_in_a_cell_is_no_border(self):
+        self.assertEqual(tables.line_of(["nproc == 1 || busy", 3]), r"| nproc == 1 \|\| busy | 3 |")
+
     def test_long_lists_are_cut(self):
         self.assertEqual(tables.first_few(list("abcdef")), "a, b, c, d and 2 more")
 
