@@ -7,20 +7,29 @@ from spanprof.whatif.changes import Change
 KEPT = 20       # characters of a name; with a number it has 31 at most
 
 
-def written(task):
-    """The names that a task writes and does not read: those of `out`, for which a recorded text has `inout`."""
+def written(task, name=""):
+    """The names, or this one alone, that a task writes and does not read: those of `out`, for which a recorded text has
+    `inout`."""
     kind = "out" if any(kind == "out" for kind, _ in task.items) else "inout"
     others = {name for other, name in task.items if other != kind}
-    return {name for other, name in task.items if other == kind} - others
+    found = {name for other, name in task.items if other == kind} - others
+    return found & {name} if name else found
 
 
 class Rename(Change):
     """What a task of a place writes has a new name, which the siblings behind it have too, up to the next such task."""
     what, relaxes = "%d depend item%s renamed: %s", True
 
+    def __init__(self, place, name=""):
+        super().__init__(place)
+        self.name = name
+
+    def words(self):
+        return super().words() + (", the name " + self.name) * bool(self.name)
+
     def made_of(self, found):
         row, newest, numbers = found.row[:], [{}], count(1)
-        known = {name for one in found.known for _, name in one.items}
+        known = {name for number in set(found.row) if number < 0 for _, name in found.known[-number].items}
 
         def unused(name):
             return next(new for new in ("%s_%d" % (name[:KEPT], number) for number in numbers) if new not in known)
@@ -35,7 +44,7 @@ class Rename(Change):
 
     def renamed(self, task, newest, unused):
         """`newest` has what names stand for now that siblings before it have."""
-        again = [name for name in written(task) if name in newest] if task.name == self.place else []
+        again = [name for name in written(task, self.name) if name in newest] if task.name == self.place else []
         newest.update((name, unused(name)) for name in sorted(again))
         self.count += len(again)
         return task._replace(items=tuple((kind, newest.setdefault(name, name)) for kind, name in task.items))

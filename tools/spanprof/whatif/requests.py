@@ -87,6 +87,13 @@ def join(word, seen, costs):
     return Join(find(place, seen.tasks, "task"), whole(number, 2, MOST_TOGETHER), costs.creating)
 
 
+def rename(word, seen, _):
+    place, _, name = word.rpartition("=")
+    if name not in seen.items:
+        place, name = word, ""
+    return Rename(find(place, +seen.dependent, DEPENDENT), name)
+
+
 class Option(NamedTuple):
     """`make` answers the change, of the option's word, what a survey saw of the text, and costs."""
     name: str
@@ -107,8 +114,8 @@ OPTIONS = (
            lambda word, seen, _: InForInout(find(word, seen.items, "depend item")), IS_RIGHT),
     Option("read-only", "PLACE", "make in what the tasks there hold of those before them: they only read it",
            lambda word, seen, _: ReadOnly(find(word, +seen.dependent, DEPENDENT)), IS_RIGHT),
-    Option("rename", "PLACE", "have each task there write to new locations, which those behind it read",
-           lambda word, seen, _: Rename(find(word, +seen.dependent, DEPENDENT)), IS_WRITTEN),
+    Option("rename", "PLACE[=NAME]", "have each task there write to new locations, or to one in place of NAME alone, "
+           "which those behind it read", rename, IS_WRITTEN),
     Option("defer", "PLACE", "defer the undeferred tasks there",
            lambda word, seen, _: Defer(find(word, +seen.undeferred, "undeferred task"))),
     Option("split", "PLACE=K", "divide the code at PLACE into K tasks in a group", split, IS_DIVISIBLE),

@@ -50,6 +50,10 @@ class Renames(unittest.TestCase):
     def test_out_alone_where_a_text_has_it(self):
         self.assertTrue(changed(OUT, Rename("task at m.c:3")).endswith("depend(out: a_1) depend(inout: sum) { }"))
 
+    def test_one_name_alone(self):
+        task = read("omptasks 1\ntask depend(inout: a, b) { }\n")[0]
+        self.assertEqual((written(task, "b"), written(task, "c")), ({"b"}, set()))
+
     def test_no_name_that_the_text_has(self):
         text = RING.replace("b", "a_1")
         self.assertIn("task depend(in: a_2) depend(inout: a_1)", changed(text, Rename("task at m.c:3")))
