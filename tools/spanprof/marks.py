@@ -6,6 +6,7 @@ work, and below 0 it stands for another statement. Beside each number is that of
 import re
 from array import array
 from itertools import chain, compress
+from threading import Lock
 from typing import NamedTuple
 
 from spanprof.program_text import (BARRIER, BEGINNING, BLOCKS, DIVIDER, HEADER, OF_A_THREAD, Segment, Statement,
@@ -148,7 +149,9 @@ class Written(dict):
 
 
 class Statements:
-    """They are iterated as statements. Those made by changes share what is known with the text's own."""
+    """They are iterated as statements. Those made by changes, on several threads at once, share what is known with the
+    text's own."""
+    adding = Lock()
 
     def __init__(self):
         self.known, self.numbers = [Statement("work")], {}
@@ -157,14 +160,16 @@ class Statements:
 
     def number(self, statement):
         if statement not in self.numbers:
-            self.numbers[statement] = -len(self.known)
-            self.known.append(statement)
+            with self.adding:
+                self.known.append(statement)
+                return self.numbers.setdefault(statement, 1 - len(self.known))
         return self.numbers[statement]
 
     def place(self, name):
         if name not in self.place_numbers:
-            self.place_numbers[name] = len(self.places)
-            self.places.append(name)
+            with self.adding:
+                self.places.append(name)
+                return self.place_numbers.setdefault(name, len(self.places) - 1)
         return self.place_numbers[name]
 
     def __len__(self):

@@ -20,6 +20,7 @@ PROGRAMS = (
     small("wait", "drop-wait", "taskwait at wait.c"),
     small("depend", "drop-depend", "task at depend.c"),
     small("neighbours", "read-only", "task at neighbours.c:16"),
+    Rewrite("rename", "rename_rewritten", (("rename", "task at rename.c:16"), ("rename", "task at rename.c:18"))),
     small("factor", "factor", "task at factor.c:17=0.5"),
     small("join", "join", "task at join.c=8"),
     small("own_task", "task", "after taskwait at own_task.c:16"),

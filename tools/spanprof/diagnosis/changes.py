@@ -4,6 +4,7 @@ from dataclasses import dataclass
 from typing import Tuple
 
 from spanprof import client
+from spanprof.diagnosis.buffers import renamings
 from spanprof.diagnosis.calls import innermost
 from spanprof.diagnosis.losses import holds_neighbours, kind_of_starved, most_shared
 from spanprof.diagnosis.places import LEAST_HOLDERS, OF_THREADS, SERIAL, SHARE, in_text
@@ -31,10 +32,16 @@ class Change:
         return self.requests[0].option
 
     @property
+    def places(self):
+        """What it changes: places, waits, or names."""
+        words = [one.word for one in self.requests]
+        if self.kind in ("split", "join"):
+            return [word.rpartition("=")[0] for word in words]
+        return [word.partition("=")[0] for word in words] if self.kind == "rename" else words
+
+    @property
     def place(self):
-        """What it changes: a place, a wait, or a name."""
-        word = self.requests[0].word
-        return word.rpartition("=")[0] if self.kind in ("split", "join") else word
+        return self.places[0]
 
 
 @dataclass(frozen=True)
@@ -116,6 +123,7 @@ def candidates(facts, seen):
     """What may help, each kind where there is a reason for it."""
     out = list(readers(facts)) + list(undeferred(facts)) + list(waits(facts, seen)) + list(splits(facts))
     out += [single("drop-depend", name) for name, _ in (+seen.dependent).most_common(2)]
+    out += list(map(Change, renamings(facts)[:MOST]))
     return out + list(own_tasks(facts))
 
 

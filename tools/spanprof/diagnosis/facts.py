@@ -96,6 +96,7 @@ class Facts:
     interpreter: str = ""               # the file of that which runs the program
     is_imported: bool = False           # of another tool's tasks
     needless: set = field(default_factory=set)      # waits that may be, by the source
+    rewriting: dict = field(default_factory=dict)   # by place: what its tasks write again and again that others read
     usage: Optional[dict] = None
     children: int = 0                   # processor time of the programs that it started
     stolen: float = 0.0                 # of the machine's processors' time, by its host

@@ -3,6 +3,7 @@ import os
 from dataclasses import dataclass
 
 from spanprof.diagnosis.bounds import bounds
+from spanprof.diagnosis.buffers import rewriting
 from spanprof.diagnosis.changes import Bench
 from spanprof.diagnosis.diagnose import Diagnosis, diagnose, taken_by_others
 from spanprof.diagnosis.facts import facts_of, greedy_end
@@ -66,6 +67,7 @@ def output_of(recording, folders=(), seconds=None, end_of=greedy_end):
     names = Names(facts, Sources(list(folders) or beside, facts.sources))
     if bench:
         facts.needless = set(filter(names.is_needless, bench.seen.waits))
+        facts.rewriting = rewriting(facts, names)
     return Output(diagnose(facts, bench), names)
 
 

@@ -13,8 +13,8 @@ from spanprof.program_text import BEGINNING
 STEPS = 3
 SPREAD = 0.16       # of a predicted time: nine of ten were within
 # How often such a change is one that a program allows: what it brings is weighed with it.
-LIKELY = {"in-for-inout": 1.0, "read-only": 0.9, "defer": 1.0, "split": 0.8, "task": 0.6, "drop-depend": 0.3,
-          "drop-wait": 0.3}
+LIKELY = {"in-for-inout": 1.0, "read-only": 0.9, "defer": 1.0, "split": 0.8, "task": 0.6, "rename": 0.9,
+          "drop-depend": 0.3, "drop-wait": 0.3}
 # A wait for tasks that depend items order too may not be needed; nor one that only some turns of the loop reach that
 # makes the tasks, as if these used a few buffers in turns; nor one that ends turns which work on data of their own.
 ORDERED = 0.9
@@ -38,8 +38,8 @@ def cause_of(facts, change):
         return "dependence", holder(facts, place).name
     if change.kind == "split":
         return kind_of_split(facts, place), place
-    return {"drop-depend": "dependence", "read-only": "dependence", "drop-wait": "wait", "defer": "undeferred",
-            "task": "too_few_tasks"}[change.kind], place
+    return {"drop-depend": "dependence", "read-only": "dependence", "rename": "dependence", "drop-wait": "wait",
+            "defer": "undeferred", "task": "too_few_tasks"}[change.kind], place
 
 
 def kind_of_split(facts, name):

@@ -29,10 +29,12 @@ TRIED = {
     "in-for-inout": "depend(in: {item}) at {at} if only read, or a copy for each",
     "read-only": "depend({item}) at {at} if only read",
     "drop-depend": "finer depend items at {at}, or none if no order is needed",
+    "rename": "several buffers for {written} at {at}, used in turns",
     "drop-wait": "remove {waits} if no result is needed yet",
     "defer": "defer more tasks at {at}: change its if or final",
     "outside": "create the tasks of {at} inside parallel and single",
     "task": "make {where} a task of its own"}
+REWRITES = "tasks of {where} wait until others have read {written}"
 BOUNDS = {ABOUT: "about %s", AT_BEST: "%s"}     # the first of several holds for all
 DIVIDED = r"\b(for|do|sections|loop|taskloop|workshare)\b"
 ONE_EACH = re.compile(r"schedule\s*\(\s*(\w+\s*:\s*)?(dynamic|(static|dynamic)\s*,\s*1)\s*\)", re.IGNORECASE)
@@ -90,9 +92,12 @@ def lines_of(sampled):
 def joined(lines):
     """Those of one file by their numbers: `sort.c:11, 12 and 15`."""
     of_file = {line.file: ["%d" % one.number for one in sorted(lines) if one.file == line.file] for line in lines}
-    reported = ("%s:%s" % (file, " and ".join(filter(None, (", ".join(numbers[:-1]), numbers[-1]))))
-                for file, numbers in of_file.items())
-    return " and ".join(reported)
+    return " and ".join("%s:%s" % (file, in_words(numbers)) for file, numbers in of_file.items())
+
+
+def in_words(several):
+    """Such as `a, b and c`."""
+    return " and ".join(filter(None, (", ".join(several[:-1]), *several[-1:])))
 
 
 def words_of_schedule(names, name, place):
@@ -358,7 +363,15 @@ def times_of(lock):
 def lost_sentence(facts, names, loss):
     if not loss.place:
         loss = loss._replace(place=max(facts.places, key=lambda name: facts.places[name].cost, default=""))
-    return BY_KIND[loss.kind].lost.format(**words(facts, names, loss.place))
+    found = words(facts, names, loss.place)
+    if loss.kind == "dependence" and loss.place in facts.rewriting:
+        return REWRITES.format(written=written(facts, [loss.place]), **found)
+    return BY_KIND[loss.kind].lost.format(**found)
+
+
+def written(facts, places):
+    """What tasks of these places write that others read."""
+    return in_words([item for name in dict.fromkeys(places) for item in facts.rewriting[name].items])
 
 
 def waits(names, found):
@@ -391,6 +404,7 @@ def change_sentence(facts, names, step):
     if kind == "read-only":
         found["item"] = "in: " + ", ".join(names.read_only(facts.places[step.place]))
     found["waits"] = waits(names, [one.word for one in step.change.requests])
+    found["written"] = written(facts, step.change.places) if kind == "rename" else ""
     return TRIED["outside" if kind == "defer" and not facts.tasks_in_regions else kind].format(**found)
 
 

@@ -18,6 +18,6 @@ def listing(seen, costs):
     yield from by_count("code, with its cost (--factor, --split, --grain, --task):", costs)
     yield from by_count("tasks (--join):", seen.tasks)
     yield from by_count("waits (--drop-wait):", seen.waits)
-    yield from by_count("tasks with depend items (--drop-depend):", seen.dependent)
+    yield from by_count("tasks with depend items (--drop-depend, --read-only, --rename):", seen.dependent)
     yield from by_count("names of depend items, with their items (--drop-name):", seen.items)
     yield "depth of the tasks (--cutoff): %d" % seen.depth

@@ -6,6 +6,7 @@ from typing import Callable, NamedTuple
 from spanprof.errors import Fault
 from spanprof.whatif.changes import Defer, DropDepend, DropName, DropWait, Factor, InForInout, ReadOnly
 from spanprof.whatif.join import Join
+from spanprof.whatif.rename import Rename
 from spanprof.whatif.shapes import Cutoff, Grain, OwnTask, Split
 
 MOST_FACTOR = 1e6
@@ -13,6 +14,7 @@ MOST_TOGETHER = 1000000
 MOST_COST = 10 ** 12
 CODE, DEPENDENT = "piece of code", "task with depend items"
 IS_RIGHT = "whether the program stays right without it is for you to judge: no text says what its tasks read and write"
+IS_WRITTEN = "whether those tasks write all of it and read none is for you to judge: a recorded text has inout for out"
 IS_DIVISIBLE = "whether that code can be divided, or run in parallel to what follows it, is for you to judge"
 
 
@@ -85,6 +87,13 @@ def join(word, seen, costs):
     return Join(find(place, seen.tasks, "task"), whole(number, 2, MOST_TOGETHER), costs.creating)
 
 
+def rename(word, seen, _):
+    place, _, name = word.rpartition("=")
+    if name not in seen.items:
+        place, name = word, ""
+    return Rename(find(place, +seen.dependent, DEPENDENT), name)
+
+
 class Option(NamedTuple):
     """`make` answers the change, of the option's word, what a survey saw of the text, and costs."""
     name: str
@@ -105,6 +114,8 @@ OPTIONS = (
            lambda word, seen, _: InForInout(find(word, seen.items, "depend item")), IS_RIGHT),
     Option("read-only", "PLACE", "make in what the tasks there hold of those before them: they only read it",
            lambda word, seen, _: ReadOnly(find(word, +seen.dependent, DEPENDENT)), IS_RIGHT),
+    Option("rename", "PLACE[=NAME]", "have each task there write to new locations, or to one in place of NAME alone, "
+           "which those behind it read", rename, IS_WRITTEN),
     Option("defer", "PLACE", "defer the undeferred tasks there",
            lambda word, seen, _: Defer(find(word, +seen.undeferred, "undeferred task"))),
     Option("split", "PLACE=K", "divide the code at PLACE into K tasks in a group", split, IS_DIVISIBLE),

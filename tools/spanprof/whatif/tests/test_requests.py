@@ -37,6 +37,9 @@ class Made(unittest.TestCase):
         self.assertEqual(made("drop-wait", "sort.c:7").place, "taskgroup at sort.c:7")
         self.assertEqual(made("drop-name", "b", survey(read(ROW))).place, "b")
         self.assertEqual(made("drop-depend", "row", survey(read(ROW))).place, "task at row.c:3")
+        self.assertEqual(made("rename", "row=b", survey(read(ROW))).words(), "0 depend items renamed: task at row.c:3, "
+                         "the name b")
+        self.assertEqual(made("rename", "row", survey(read(ROW))).words(), "0 depend items renamed: task at row.c:3")
         self.assertEqual(made("join", "sort.c:9=4").together, 4)
         self.assertEqual(made("grain", "sort.c:9=4").parts_of(9), 3)
         self.assertEqual(made("cutoff", "2").depth, 2)

@@ -1,0 +1,55 @@
+"""Tasks that write what others read, again and again, so that they wait for these: with several buffers, used in turns,
+they would overlap."""
+from typing import List, NamedTuple, Tuple
+
+from spanprof.program_text import where
+from spanprof.whatif.requests import Request
+
+LEAST_TIMES = 2     # that a location is written by tasks of a place
+MOST_NAMES = 8      # that are renamed one by one
+
+
+class Rewriting(NamedTuple):
+    """What has to be renamed at a place, and what its tasks write there, as the source spells it."""
+    requests: Tuple[Request, ...]
+    items: List[str]
+
+
+def read_by_others(facts, place):
+    """The names that its tasks write several times, and tasks of other places read."""
+    read = {name for other in facts.places.values() if other.at != place.at
+            for kind, name in other.items if kind == "in"}
+    return {name for (kind, name), times in place.items.items()
+            if kind == "inout" and times >= LEAST_TIMES and name in read}
+
+
+def requests_for(place, spelt):
+    """For all that its tasks write, or for each name of it where they may read the rest."""
+    only_written = [name for name, (kind, _) in spelt.items() if kind == "out"]
+    if len(only_written) == len(spelt):
+        return (Request("rename", place.name),)
+    few = only_written if len(only_written) <= MOST_NAMES else []
+    return tuple(Request("rename", "%s=%s" % (place.name, name)) for name in few)
+
+
+def rewriting_at(facts, names, place):
+    read = read_by_others(facts, place)
+    spelt = {name: names.item(place, (kind, name)).split(": ", 1) for kind, name in place.items if kind == "inout"} \
+        if read else {}
+    items = dict.fromkeys(item for name, (kind, item) in spelt.items() if kind == "out" and name in read)
+    return Rewriting(requests_for(place, spelt) if items else (), list(items))
+
+
+def rewriting(facts, names):
+    """By place, where the source says of some of it that tasks only write it."""
+    found = {place.name: rewriting_at(facts, names, place) for place in facts.places.values()}
+    return {name: one for name, one in found.items() if one.requests}
+
+
+def renamings(facts):
+    """The requests for each such place, and before them those for all of a function together."""
+    of_function = {}
+    for name, one in facts.rewriting.items():
+        of_function.setdefault(facts.functions.get(where(name), ""), []).append(one.requests)
+    several = [sum(found, ()) for found in of_function.values() if len(found) > 1]
+    return several + [requests for found in of_function.values() for requests in found]
