@@ -23,13 +23,6 @@ def waiting_for(facts, found, loss):
     return int(waits * min(1, loss.time / cost)) if loss.kind in SHORTER and cost else 0
 
 
-def of_program(facts, found, waiting):
-    """The threads' time, without what the recorder takes, of itself and of those that wait for it, and without what
-    other programs take: that is as much of a shorter run."""
-    others = max(facts.taken, sum(one.time for one in found if one.kind == "machine"))
-    return max(1, facts.whole_time - others - facts.recorder - waiting)
-
-
 def waiting_for_recorder(facts, loss):
     """What the others wait for one thread while it records: that a small region begins or ends; or that it makes a
     task, where it makes all of them, while others record that these begin and end, which takes as long."""
@@ -39,14 +32,16 @@ def waiting_for_recorder(facts, loss):
 
 
 def left(facts, now, loss, found):
-    """Of the run, without what is lost by this cause; all other code is still to run."""
+    """Of the run, without what is lost by this cause; all other code is still to run. What the recorder takes, of
+    itself and of those that wait for it, is part of neither time."""
     in_code = sum(one.time for one in in_code_losses(facts) if one.kind == loss.kind)
     in_code = max(in_code, loss.time) if in_code else 0
     freed = freed_with(facts, loss, found)
     waiting = waiting_for_recorder(facts, loss)
     gone = loss.time + waiting_for(facts, found, loss) + sum(freed.values()) - waiting
     least = least_time(facts, facts.code - in_code - freed["memory"])
-    return min(now, max(int(now * (1 - gone / of_program(facts, found, waiting))), least))
+    unrecorded = max(1, facts.own_time - facts.recorder - waiting)
+    return min(now, max(int(now * (1 - gone / unrecorded)), least))
 
 
 def meets_at(facts, loss, place):

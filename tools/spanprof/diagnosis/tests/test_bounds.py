@@ -61,10 +61,6 @@ class Bounds(unittest.TestCase):
             step = bound_of(facts(places, code=200 * MS, recorder=8 * MS), 95 * MS, lost)
             self.assertEqual(step.after // MS, after)
 
-    def test_what_other_programs_take_is_as_much_of_a_shorter_run(self):
-        lost, others = Loss("lock", "image.c:25", 190 * MS), Loss("machine", TASKS, 20 * MS)
-        self.assertEqual(bound_of(facts(code=180 * MS), 100 * MS, lost, [lost, others]).after, 50 * MS)
-
     def test_what_passes_between_threads_with_a_lock_goes_with_it(self):
         run = facts([place(TASKS)], code=200 * MS, calls=Sampled({}, {}, at={TASKS: {"image.c:25": 9}}))
         shared, others = Loss("memory", TASKS, 40 * MS), Loss("memory", "task at image.c:40", 40 * MS)
