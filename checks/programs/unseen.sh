@@ -10,7 +10,7 @@
 #     checks/programs/unseen.sh texts FOLDER              makes texts of the recordings
 #     checks/programs/unseen.sh judge FOLDER              judges by all that the folder has
 #     checks/programs/unseen.sh kept                      judges by what is kept of a measurement, and runs nothing
-# RUNTIME=gnu measures them on gcc's runtime, recorded and predicted on four threads alone.
+# RUNTIME=gnu: others on gcc's runtime, recorded and predicted on four threads alone, two seconds a turn.
 # Variables: SPANPROF (crates/spanprof/out/spanprof), LLVM (16), LLVM_FOLDERS (checks/llvm/versions.py),
 # SPANPROF_MACHINE (a model of this machine; without it `build` measures that first, in half a minute).
 set -euo pipefail

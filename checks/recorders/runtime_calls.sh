@@ -2,7 +2,8 @@
 # Records programs of libgomp's own tests, compiled by clang and gcc, on LLVM's runtime, and compares each recording with
 # what a library that stands between the program and its runtime has seen of the program's calls. Build spanprof first.
 #
-#     checks/recorders/runtime_calls.sh [WORD ..]     --llvm 19,16: these versions (those that are there); --most N: so many programs
+#     checks/recorders/runtime_calls.sh [WORD ..]     --llvm 19,16: these versions (those that are there); --all: programs
+#                                           without tasks too, by what they print; --most N: so many programs
 #                                           of each compiler; --only NAME; --verbose
 set -euo pipefail
 cd "$(dirname "$0")/../.."

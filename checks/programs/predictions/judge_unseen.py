@@ -12,14 +12,14 @@ from judge_changes import changed
 from judging import Case, Judged, of_estimate, summary
 from measured import read, texts
 from quiet import Used, verdict
-from unseen import UNSEEN
+from unseen import ON_GCC, UNSEEN
 
 from spanprof.predict.estimate import estimate
 from spanprof.predict.machine import read_machine
 from spanprof.predict.predictions import undisturbed
 from spanprof.predict.recorded import GNU, LLVM, recorded_as, take_times
 
-RUNTIME = os.environ.get("RUNTIME", LLVM)
+RUNTIME = GNU if ON_GCC else LLVM
 COVERED, WORST = 0.9, 0.20
 FEWEST = 5      # quiet turns, of which alone the times are taken
 TOGETHER = 5    # recordings on each number of threads
@@ -37,7 +37,7 @@ class Kind(NamedTuple):
 
 
 KINDS = (Kind("4 from 4", Case((4,), 4, 0.05, 0.15)), Kind("4 from 1 and 2", Case((1, 2), 4, 0.08, 0.20)),
-         Kind("changed, 4 from 4", Case((4,), 4, 0.05, 0.20, True)))[:1 if RUNTIME == GNU else None]
+         Kind("changed, 4 from 4", Case((4,), 4, 0.05, 0.20, True)))[:1 if ON_GCC else None]
 
 
 class Measured(NamedTuple):

@@ -10,7 +10,7 @@ from spanprof.predict.estimate import kind_of
 from spanprof.predict.interval import CHANGED, OF_GROWTH, OF_SPREAD, SEVERAL, Width
 
 assert HERE
-FITTED = 0.95   # of the cases are within the widths that are fitted; told is nine of ten, since days differ
+FITTED = 0.97   # of the cases are within the widths that are fitted, so that nine of ten of other programs' are
 
 
 @dataclass(frozen=True)

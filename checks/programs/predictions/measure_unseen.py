@@ -22,10 +22,9 @@ from concurrent.futures import ThreadPoolExecutor
 
 from quiet import Watch, going_first
 from runs import TOP, build_clock, compiled, convert, record_all, recordings, region_time
-from unseen import UNSEEN
+from unseen import ON_GCC, UNSEEN
 
-from recording import ON_GCC    # of checks/llvm, which `runs` has found
-from versions import asked
+from versions import asked      # of checks/llvm, which `runs` has found
 
 VERSION = os.environ.get("LLVM", "16")
 TURNS, THREADS, RECORDED = (40, (4,), (4,)) if ON_GCC else (12, (4, 3, 2, 1), (4, 2, 1))

@@ -9,6 +9,7 @@ TOP = pathlib.Path(__file__).resolve().parents[3]
 HERE = TOP / "checks" / "programs" / "predictions"
 sys.path.append(str(TOP / "checks" / "llvm"))
 from recording import LOADED, log_of, made_texts  # noqa: E402
+from unseen import FOLDER  # noqa: E402
 
 OPTIONS = ("-O2", "-g", "-fopenmp", "-fno-optimize-sibling-calls")
 
@@ -18,7 +19,7 @@ def compiled(words, one, version, path, linked=()):
     places too."""
     flags = ["-DREWRITTEN"] if version == "after" else []
     path.parent.mkdir(parents=True, exist_ok=True)
-    source = HERE / "unseen" / (one.name + ".c")
+    source = HERE / FOLDER / (one.name + ".c")
     subprocess.run([*words, *OPTIONS, *flags, str(source), "-o", str(path), *linked], check=True)
     return path
 

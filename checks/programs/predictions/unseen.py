@@ -1,13 +1,20 @@
-"""Programs that nothing was fitted to, each with a change that was made to it. Whoever changes the model by what is
-measured on them writes others."""
+"""Programs that nothing was fitted to, on LLVM's runtime each with a change that was made to it, on gcc's others
+(RUNTIME=gnu). Whoever changes the model by what is measured on them writes others."""
+import os
+
 from changes import GRAIN, Made
+
+ON_GCC = os.environ.get("RUNTIME") == "gnu"
+FOLDER = os.path.join("unseen", "on_gcc") if ON_GCC else "unseen"   # of their sources
 
 
 def unseen(name, *changes):
     return Made(name, changes)
 
 
-UNSEEN = (
+OF_GCC = ("alignment", "barnes_hut", "compress", "fft", "floyd", "health", "karatsuba", "lcs", "quadtree", "seidel",
+          "sudoku")
+UNSEEN = tuple(map(unseen, OF_GCC)) if ON_GCC else (
     unseen("spmv", ("join", "task at spmv.c:46=4"), ("join", "task at spmv.c:54=4")),
     unseen("life", ("drop-wait", "taskwait at life.c")),
     unseen("alphabeta", ("cutoff", "2")),

@@ -9,7 +9,7 @@ from spanprof.errors import Fault
 from spanprof.predict.burden import burdened
 from spanprof.predict.gnu import LOCK, GnuSimulation
 from spanprof.predict.growth import Growth
-from spanprof.predict.interval import ALONE, AS_RECORDED, CHANGED, ON_OTHERS, spread, width
+from spanprof.predict.interval import ALONE, AS_RECORDED, CHANGED, ON_GCC, ON_OTHERS, spread, width
 from spanprof.predict.policy import Simulation, Spent
 from spanprof.predict.recorded import GNU, LLVM, Recorded
 from spanprof.predict.times import on_threads
@@ -92,7 +92,8 @@ def runs_of(runtime, base, machine, threads):
 
 
 def simulated(runs, program, costs, threads, seeds):
-    """The median end of some runs."""
+    """The median end of some runs; on gcc's runtime there is no chance in them."""
+    seeds = seeds if runs.simulation is Simulation else seeds[:1]
     return statistics.median_low(
         runs.simulation(program, costs, threads, runs.spent, seed, runs.came).run().end for seed in seeds)
 
@@ -119,7 +120,7 @@ def estimate(recordings, machine, threads, runtime=None):
                     for i, base in enumerate(bases)), key=lambda one: one.time)
     middle, fewest = found[(len(found) - 1) // 2], min(map(len, recordings.values())) if growth else len(found)
     apart = spread([one.time for one in found])
-    kind = CHANGED if middle.base.is_changed else kind_of(recordings, threads)
+    kind = ON_GCC if runtime == GNU else CHANGED if middle.base.is_changed else kind_of(recordings, threads)
     far = width(kind, fewest, apart, middle.grown)
     return replace(middle, low=int(middle.time / exp(far)), high=int(middle.time * exp(far)), of=len(found),
                    apart=apart)

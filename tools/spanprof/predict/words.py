@@ -6,10 +6,10 @@ from spanprof.predict.gnu import LOCK
 from spanprof.predict.recorded import GNU, LLVM
 from spanprof.proof import proved
 
-MODEL = "predicted: by a model of LLVM's scheduling, not proved; its intervals held in three of four cases of 14 " \
-    "programs that nothing was fitted to, on 4 threads, and by five recordings in five of six"
-OF_GNU = "predicted: by a model of gcc's scheduling, not proved; tried on fourteen programs on 4 threads of it; " \
-    "the intervals are those of LLVM's model"
+MODEL = "predicted: by a model of LLVM's scheduling, not proved; its intervals held in nine of ten cases of 14 other " \
+    "programs than those that it is fitted to, on 4 threads"
+OF_GNU = "predicted: by a model of gcc's scheduling, not proved; its intervals held in nine of ten cases of 11 " \
+    "programs that nothing was fitted to, on 4 threads of a machine that did other work too"
 UNMATCHED = 0.05    # of the work, from which on it is reported
 PREEMPTED = 0.01    # likewise
 

@@ -6,7 +6,7 @@ from spanprof.predict import estimate as estimating
 from spanprof.predict.burden import burdened, burdened_text
 from spanprof.predict.estimate import estimate
 from spanprof.predict.gnu import LOCK
-from spanprof.predict.interval import ALONE, AS_RECORDED, ON_OTHERS, width
+from spanprof.predict.interval import ALONE, AS_RECORDED, ON_GCC, ON_OTHERS, width
 from spanprof.predict.machine import Machine, Measured
 from spanprof.predict.program import read_program
 from spanprof.predict.recorded import GNU, Recorded
@@ -94,7 +94,9 @@ class Estimates(unittest.TestCase):
     def test_recorded_on_gccs_runtime(self):
         """The second thread comes late. A dispatch as recorded has the wait for the lock in it."""
         one = recording(2, dispatch=1000, arrivals=(0, 2200), runtime=GNU)
-        self.assertEqual(estimate({2: [one]}, machine(), 2).time, 5 * 2000)
+        found = estimate({2: [one]}, machine(), 2)
+        self.assertEqual(found.time, 5 * 2000)
+        self.assertAlmostEqual(log(found.high / found.low), 2 * width(ON_GCC, 1, 0, 0), places=3)
         on_one = estimate({2: [one]}, machine(), 1)
         self.assertEqual((on_one.dispatch, on_one.time), (1000 - LOCK, 8 * 2000))
         waiting = recording(2, TASKS + "taskwait\n", dispatch=1000, resumption=500, runtime=GNU)
