@@ -188,8 +188,8 @@ void ThreadLog::read_anew(Moment &now) {
   now.at = read_ticks();
 }
 
-// Since the clocks were read before the wait, the thread was off as long as it waited, and what it was off for longer is
-// of the lock, but no more than it had that.
+// Since the clocks were read before the wait, the thread was off as long as it waited, and what it was off for longer
+// is of the lock, but no more than it had that.
 std::optional<Passed> ThreadLog::passed_since_lock(const Moment &now, bool has_stood) {
   int64_t got = wall_time_at(std::exchange(held_since, 0));
   int64_t lasted = wall_time_at(now.at) - got, waited = got - wall_time_at(lock.asked.at);
