@@ -8,6 +8,8 @@
 #include <semaphore.h>
 #include <stdio.h>
 #include <sys/epoll.h>
+#include <sys/file.h>
+#include <sys/resource.h>
 #include <sys/select.h>
 #include <sys/socket.h>
 #include <sys/syscall.h>
@@ -101,11 +103,17 @@ WAITS(int, epoll_wait, (int files, epoll_event *events, int count, int time), fi
 WAITS(pid_t, wait, (int *status), status)
 WAITS(int, waitid, (idtype_t kind, id_t process, siginfo_t *status, int flags), kind, process, status, flags)
 WAITS(pid_t, waitpid, (pid_t process, int *status, int flags), process, status, flags)
+WAITS(pid_t, wait4, (pid_t process, int *status, int flags, rusage *use), process, status, flags, use)
 WAITS(int, system, (const char *command), command)
 WAITS(int, pthread_join, (pthread_t thread, void **value), thread, value)
 WAITS(int, pthread_barrier_wait, (pthread_barrier_t * barrier), barrier)
 WAITS(int, sem_wait, (sem_t * semaphore), semaphore)
 WAITS(int, sem_timedwait, (sem_t * semaphore, const timespec *until), semaphore, until)
+WAITS(int, sem_clockwait, (sem_t * semaphore, clockid_t clock, const timespec *until), semaphore, clock, until)
+WAITS(int, flock, (int file, int how), file, how)
+WAITS(int, pthread_mutex_timedlock, (pthread_mutex_t * mutex, const timespec *until), mutex, until)
+WAITS(int, pthread_rwlock_timedrdlock, (pthread_rwlock_t * lock, const timespec *until), lock, until)
+WAITS(int, pthread_rwlock_timedwrlock, (pthread_rwlock_t * lock, const timespec *until), lock, until)
 WAITS(int, pthread_mutex_clocklock, (pthread_mutex_t * mutex, clockid_t clock, const timespec *until), mutex, clock,
       until)
 

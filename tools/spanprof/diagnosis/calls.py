@@ -15,6 +15,7 @@ NO_NAME = "["       # before the name of a file, which stands for a function tha
 RUNTIME = "runtime@OpenMP"
 # Functions of the C library that let in one thread at a time, and what does without.
 ONE_AT_A_TIME = {
+    "pthread_spin_lock": "hold it for less, or a copy for each thread",
     **dict.fromkeys(("rand", "random", "srand", "srandom"), "a generator for each thread, such as rand_r"),
     **dict.fromkeys(("printf", "vprintf", "puts", "putchar"), "a buffer for each thread, printed at its end"),
     **dict.fromkeys(("localtime", "localtime_r", "mktime", "strftime"), "call it once for many")}
