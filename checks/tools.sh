@@ -38,7 +38,9 @@ install_packages() { # without a word where all are there, and none where they c
         install $missing || { echo "not installed: $missing"; return 0; }
     fi
     ! checks/llvm/versions.py ${LLVM:+"$LLVM"} > /dev/null || installed='packages? (g\+\+|gcc|make|binutils|clang-[0-9])'
-    for it in pycodestyle pyflakes3 shellcheck vulture clang-format-14; do ! install "$it" || installed+="|package $it"; done
+    for it in pycodestyle pyflakes3 shellcheck vulture clang-format-14; do
+        if dpkg -s "$it" > /dev/null 2>&1 || install "$it"; then installed+="|package $it"; fi
+    done
 }
 
 # one SECONDS NAME WORD..: runs the words and reports what came of it, with the end of what they printed where they

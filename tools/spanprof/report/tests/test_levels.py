@@ -42,8 +42,8 @@ class Bins(unittest.TestCase):
         self.assertEqual([bins_for(threads) for threads in (1, 4, 64, 1024)], [32768, 32768, 16384, 1024])
 
     def test_for_the_script(self):
-        self.assertEqual(Levels(1, 3000, bins=1).data(1000), {"end": 3.0, "bins": 1, "wide": 3.0, "count": 1,
-                                                           "rows": ["00"]})
+        self.assertEqual(Levels(1, 3000, bins=1).data(1000),
+                         {"end": 3.0, "bins": 1, "wide": 3.0, "count": 1, "rows": ["00"]})
 
 
 class Times(unittest.TestCase):
