@@ -10,8 +10,10 @@ MOST_NAMES = 8      # that are renamed one by one
 
 
 class Rewriting(NamedTuple):
-    """What has to be renamed at a place, and what its tasks write there, as the source spells it."""
+    """What has to be renamed at a place, the names that its tasks only write, and those that others read, as the source
+    spells them."""
     requests: Tuple[Request, ...]
+    names: List[str]
     items: List[str]
 
 
@@ -23,10 +25,9 @@ def read_by_others(facts, place):
             if kind == "inout" and times >= LEAST_TIMES and name in read}
 
 
-def requests_for(place, spelt):
+def requests_for(place, only_written, is_all):
     """For all that its tasks write, or for each name of it where they may read the rest."""
-    only_written = [name for name, (kind, _) in spelt.items() if kind == "out"]
-    if len(only_written) == len(spelt):
+    if is_all:
         return (Request("rename", place.name),)
     few = only_written if len(only_written) <= MOST_NAMES else []
     return tuple(Request("rename", "%s=%s" % (place.name, name)) for name in few)
@@ -36,14 +37,21 @@ def rewriting_at(facts, names, place):
     read = read_by_others(facts, place)
     spelt = {name: names.item(place, (kind, name)).split(": ", 1) for kind, name in place.items if kind == "inout"} \
         if read else {}
-    items = dict.fromkeys(item for name, (kind, item) in spelt.items() if kind == "out" and name in read)
-    return Rewriting(requests_for(place, spelt) if items else (), list(items))
+    only_written = [name for name, (kind, _) in spelt.items() if kind == "out"]
+    items = dict.fromkeys(spelt[name][1] for name in only_written if name in read)
+    requests = requests_for(place, only_written, len(only_written) == len(spelt)) if items else ()
+    return Rewriting(requests, only_written, list(items))
 
 
 def rewriting(facts, names):
     """By place, where the source says of some of it that tasks only write it."""
     found = {place.name: rewriting_at(facts, names, place) for place in facts.places.values()}
     return {name: one for name, one in found.items() if one.requests}
+
+
+def is_only_written(facts, place, name):
+    """Whether the source says so of what a place's tasks write."""
+    return place.name in facts.rewriting and name in facts.rewriting[place.name].names
 
 
 def renamings(facts):
