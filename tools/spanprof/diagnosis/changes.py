@@ -1,4 +1,5 @@
 """The changes that are tried on a recorded text, and where its greedy run ends with them."""
+import re
 import time
 from dataclasses import dataclass
 from typing import Tuple
@@ -37,7 +38,7 @@ class Change:
         words = [one.word for one in self.requests]
         if self.kind in ("split", "join"):
             return [word.rpartition("=")[0] for word in words]
-        return [word.partition("=")[0] for word in words] if self.kind == "rename" else words
+        return [re.sub(r"=\w+$", "", word) for word in words] if self.kind == "rename" else words
 
     @property
     def place(self):
