@@ -79,7 +79,7 @@ class Buffers(unittest.TestCase):
         self.assertEqual((cause_of(found, change), likely(found, None, change)), (("dependence", DRAW), 0.9))
         step = Step("dependence", DRAW, 2, 1, 1, 1, 1.0, change)
         self.assertEqual(change_sentence(found, names, step),
-                         "several buffers for *sharp and *soft at a.c:1, used in turns")
+                         "a ring of buffers for *sharp and *soft at a.c:1 and 3")
         self.assertEqual(lost_sentence(found, names, Loss("dependence", BLUR, 9)),
                          "tasks of a.c:3 (blur) wait until others have read *soft")
 
