@@ -1,10 +1,11 @@
 """The changes that are tried on a recorded text, and where its greedy run ends with them."""
+import re
 import time
 from dataclasses import dataclass
 from typing import Tuple
 
 from spanprof import client
-from spanprof.diagnosis.buffers import renamings
+from spanprof.diagnosis.buffers import is_only_written, renamings
 from spanprof.diagnosis.calls import innermost
 from spanprof.diagnosis.losses import holds_neighbours, kind_of_starved, most_shared
 from spanprof.diagnosis.places import LEAST_HOLDERS, OF_THREADS, SERIAL, SHARE, in_text
@@ -37,7 +38,7 @@ class Change:
         words = [one.word for one in self.requests]
         if self.kind in ("split", "join"):
             return [word.rpartition("=")[0] for word in words]
-        return [word.partition("=")[0] for word in words] if self.kind == "rename" else words
+        return [re.sub(r"=\w+$", "", word) for word in words] if self.kind == "rename" else words
 
     @property
     def place(self):
@@ -82,7 +83,7 @@ def readers(facts):
     found = {}
     for place in facts.places.values():
         shared = most_shared(place)
-        if shared and place.items[shared] >= LEAST_HOLDERS:
+        if shared and place.items[shared] >= LEAST_HOLDERS and not is_only_written(facts, place, shared[1]):
             found[shared[1]] = max(found.get(shared[1], 0), place.items[shared])
     for name in sorted(found, key=lambda name: -found[name])[:MOST]:
         yield single("in-for-inout", name)

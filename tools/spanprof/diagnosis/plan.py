@@ -18,7 +18,9 @@ LIKELY = {"in-for-inout": 1.0, "read-only": 0.9, "defer": 1.0, "split": 0.8, "ta
 # A wait for tasks that depend items order too may not be needed; nor one that only some turns of the loop reach that
 # makes the tasks, as if these used a few buffers in turns; nor one that ends turns which work on data of their own.
 ORDERED = 0.9
-IN_A_ROW = 0.9      # tasks that are made to run one after the other by items of several are mostly meant to run at once
+# Tasks that are made to run one after the other by items of several are mostly meant to run at once, but for those that
+# write what others read.
+IN_A_ROW = 0.9
 AT_THE_ENDS = 0.4   # code before all constructs, or after them, mostly reads, fills or frees
 ALIKE = 0.7         # of the gain of a change, that another one in its place brings at least
 LATER = 0.08        # of the time before it, that a change on top of another brings at least
@@ -69,7 +71,7 @@ def likely(facts, seen, change):
         place = holder(facts, change.place)
         return LIKELY[change.kind] if 2 * place.items[most_shared(place)] >= place.tasks else FEW_HOLD
     if change.kind == "drop-depend" and is_in_a_row(facts.places[facts.key(change.place)]):
-        return IN_A_ROW
+        return LIKELY[change.kind] if facts.key(change.place) in facts.rewriting else IN_A_ROW
     if change.kind == "split" and facts.places[facts.key(change.place)].shared_at:
         return SHARED
     return AT_THE_ENDS if is_at_an_end(facts, change.place) else LIKELY[change.kind]

@@ -29,7 +29,7 @@ TRIED = {
     "in-for-inout": "depend(in: {item}) at {at} if only read, or a copy for each",
     "read-only": "depend({item}) at {at} if only read",
     "drop-depend": "finer depend items at {at}, or none if no order is needed",
-    "rename": "several buffers for {written} at {at}, used in turns",
+    "rename": "a ring of buffers for {written} at {several_at}",
     "drop-wait": "remove {waits} if no result is needed yet",
     "defer": "defer more tasks at {at}: change its if or final",
     "outside": "create the tasks of {at} inside parallel and single",
@@ -371,7 +371,13 @@ def lost_sentence(facts, names, loss):
 
 def written(facts, places):
     """What tasks of these places write that others read."""
-    return in_words([item for name in dict.fromkeys(places) for item in facts.rewriting[name].items])
+    return in_words(list(dict.fromkeys(item for name in places for item in facts.rewriting[name].items)))
+
+
+def words_of_buffers(names, places):
+    """What their tasks write that others read, and where."""
+    lines = {names.begin(name, names.facts.places[name].at) for name in places}
+    return {"written": written(names.facts, places), "several_at": joined(lines)}
 
 
 def waits(names, found):
@@ -404,7 +410,7 @@ def change_sentence(facts, names, step):
     if kind == "read-only":
         found["item"] = "in: " + ", ".join(names.read_only(facts.places[step.place]))
     found["waits"] = waits(names, [one.word for one in step.change.requests])
-    found["written"] = written(facts, step.change.places) if kind == "rename" else ""
+    found.update(words_of_buffers(names, step.change.places) if kind == "rename" else {})
     return TRIED["outside" if kind == "defer" and not facts.tasks_in_regions else kind].format(**found)
 
 

@@ -32,7 +32,7 @@ def having(name, **items):
 def run(lines=tuple(SOURCE)):
     places = [having(DRAW, inout=["a0"]), having(BLUR, **{"in": ["a0"], "inout": ["a1", "a2"]}),
               having(COMPARE, **{"in": ["a0", "a1"]})]
-    found = facts(places, functions={"a.c:%d" % line: "main" for line in (1, 3, 5)})
+    found = facts(places)
     names = Names(found, SimpleNamespace(lines_of=lambda _: list(lines)))
     found.rewriting = rewriting(found, names)
     return found, names
@@ -60,9 +60,18 @@ class Buffers(unittest.TestCase):
         found.places[BLUR].positions.update(dict.fromkeys(more, 0))
         self.assertNotIn(BLUR, rewriting(found, names))
 
-    def test_those_of_a_function_together(self):
+    def test_related_ones_together(self):
         self.assertEqual(renamings(run()[0]), [(Request("rename", DRAW), OF_BLUR), (Request("rename", DRAW),),
                                                (OF_BLUR,)])
+
+    def test_others_apart(self):
+        found = run()[0]
+        del found.places[COMPARE], found.places[BLUR].items["in", "a0"]
+        self.assertEqual(renamings(found), [(Request("rename", DRAW),), (OF_BLUR,)])
+
+    def test_a_place_with_an_equals_sign(self):
+        change = Change((Request("rename", "task at a=b.c:3"), Request("rename", "task at a=b.c:3=a0")))
+        self.assertEqual(change.places, ["task at a=b.c:3"] * 2)
 
     def test_words(self):
         found, names = run()
@@ -70,7 +79,7 @@ class Buffers(unittest.TestCase):
         self.assertEqual((cause_of(found, change), likely(found, None, change)), (("dependence", DRAW), 0.9))
         step = Step("dependence", DRAW, 2, 1, 1, 1, 1.0, change)
         self.assertEqual(change_sentence(found, names, step),
-                         "several buffers for *sharp and *soft at a.c:1, used in turns")
+                         "a ring of buffers for *sharp and *soft at a.c:1 and 3")
         self.assertEqual(lost_sentence(found, names, Loss("dependence", BLUR, 9)),
                          "tasks of a.c:3 (blur) wait until others have read *soft")
 
