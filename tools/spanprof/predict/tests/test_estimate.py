@@ -90,6 +90,7 @@ class Estimates(unittest.TestCase):
         found = estimate({2: [one]}, machine(dispatch=50, steal=400), 2, GNU)
         self.assertEqual((found.runtime, found.dispatch), (GNU, 0))
         self.assertEqual(found.time, 4 * 1000 + 5 * LOCK)
+
     def test_recorded_on_gccs_runtime(self):
         """The second thread comes late. A dispatch as recorded has the wait for the lock in it."""
         one = recording(2, dispatch=1000, arrivals=(0, 2200), runtime=GNU)
@@ -100,7 +101,6 @@ class Estimates(unittest.TestCase):
         self.assertEqual((on_one.dispatch, on_one.time), (1000 - LOCK, 8 * 2000))
         waiting = recording(2, TASKS + "taskwait\n", dispatch=1000, resumption=500, runtime=GNU)
         self.assertEqual(estimate({2: [waiting]}, machine(), 2).time, 4 * 2000 + 500)
-
 
     def test_a_lock(self):
         found = estimate({2: [recording(2, held=3000)]}, machine(), 4)
