@@ -1,5 +1,7 @@
 import os
+import pathlib
 import subprocess
+import tempfile
 import time
 import unittest
 from types import SimpleNamespace
@@ -17,17 +19,6 @@ CONDITIONS = Conditions(2, 8, 1, 0, 10)
 def bench(build):
     return SimpleNamespace(toolchain=SimpleNamespace(build_alone=build), environment={"PATH": "/usr/bin:/bin"},
                            expectations=Expectations("", ()))
-
-
-def script(lines):
-    """A program in place of a built one."""
-    def build(_text, name, _suffix):
-        path = f"/tmp/spanprof-test-{name}.sh"
-        with open(path, "w", encoding="utf-8") as file:
-            file.write("#!/bin/sh\n" + lines)
-        subprocess.run(["chmod", "+x", path], check=True)
-        return path
-    return build
 
 
 class Files(unittest.TestCase):
@@ -61,8 +52,22 @@ class Verdicts(unittest.TestCase):
 class Tries(unittest.TestCase):
     CASE = Case("cancel_loop", (), self_checking.VARIANT, 0)
 
+    def setUp(self):
+        folder = tempfile.TemporaryDirectory()
+        self.addCleanup(folder.cleanup)
+        self.folder = pathlib.Path(folder.name)
+
+    def script(self, lines):
+        """A program in place of a built one."""
+        def build(_text, name, _suffix):
+            path = self.folder / name
+            path.write_text("#!/bin/sh\n" + lines)
+            path.chmod(0o755)
+            return path
+        return build
+
     def tally(self, lines):
-        return self_checking.try_case(bench(script(lines)), self.CASE, [CONDITIONS])[0]
+        return self_checking.try_case(bench(self.script(lines)), self.CASE, [CONDITIONS])[0]
 
     def test_accepted(self):
         tally = self.tally('[ "$OMP_NUM_THREADS$OMP_CANCELLATION" = 2true ]')
@@ -74,14 +79,14 @@ class Tries(unittest.TestCase):
 
     def test_hangs_asleep_and_is_not_run_again(self):
         conditions = Conditions(2, 8, 1, 0, 1)
-        tally = self_checking.try_case(bench(script("exec sleep 60")), self.CASE, [conditions])[0]
+        tally = self_checking.try_case(bench(self.script("exec sleep 60")), self.CASE, [conditions])[0]
         self.assertEqual([(failure.verdict, failure.rule) for failure in tally.failures],
                          [(Verdict("hung", "asleep"), "cancel_loop")])
 
     def test_hangs_busy_once_it_has_had_the_time_of_a_processor(self):
         conditions = Conditions(2, 8, 1, 0, 1)
         for runs in ("while :; do :; done", "while :; do sleep .001; done"):
-            tally = self_checking.try_case(bench(script(runs)), self.CASE, [conditions])[0]
+            tally = self_checking.try_case(bench(self.script(runs)), self.CASE, [conditions])[0]
             self.assertEqual([failure.verdict for failure in tally.failures], [Verdict("hung", "busy")])
 
     def test_naps_count_as_time(self):
@@ -92,7 +97,7 @@ class Tries(unittest.TestCase):
         self.assertTrue(self_checking.is_asleep(looks[:1] * self_checking.LOOKS))
 
     def test_what_is_known_takes_no_more_time(self):
-        known = bench(script("echo 'turns: 12 was seen, 11 is right'; exit 1"))
+        known = bench(self.script("echo 'turns: 12 was seen, 11 is right'; exit 1"))
         known.expectations = Expectations("libgomp.so.1", [read_line("family=gomp program=cancel_loop : some.c")])
         tallies = self_checking.try_case(known, self.CASE, [CONDITIONS, CONDITIONS])
         self.assertEqual([dict(tally.expected) for tally in tallies], [{"some.c": self_checking.RUNS}])
