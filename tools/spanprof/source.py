@@ -19,24 +19,30 @@ def files_below(folders):
 
 
 class Sources:
-    """The lines of the files below some folders, or else of those that were compiled, by the paths that are known of
-    them. A name that two files have is not guessed at."""
+    """The lines of the files that were compiled, by the paths that are known of them, or else of files of their names
+    below some folders; in those that a person chose first of all. A name that two files have is not guessed at."""
 
-    def __init__(self, folders, known=None):
-        self.folders, self.known = folders, known or {}
+    def __init__(self, folders, known=None, are_chosen=False):
+        self.folders, self.known, self.are_chosen = folders, known or {}, are_chosen
         self.files = None
         self.lines = {}
 
-    def read(self, name):
+    def below(self, name):
+        """The path of the one file of this name in the folders; empty where there is none, or several."""
         if self.files is None:
             self.files = files_below(self.folders)
         paths = self.files.get(name, set())
-        if len(paths) != 1:
-            paths = {self.known[name]} if name in self.known else set()
-        if not paths:
-            return []
+        return next(iter(paths)) if len(paths) == 1 else ""
+
+    def path_of(self, name):
+        known = self.known.get(name, "")
+        if os.path.exists(known) and not self.are_chosen:
+            return known
+        return self.below(name) or known
+
+    def read(self, name):
         try:
-            with open(next(iter(paths)), encoding="utf-8", errors="replace") as file:
+            with open(self.path_of(name), encoding="utf-8", errors="replace") as file:
                 return file.read().split("\n")
         except OSError:     # such as a file that one may not read
             return []

@@ -64,7 +64,7 @@ def output_of(recording, folders=(), seconds=None, end_of=greedy_end):
     facts = facts_of(recording, end_of)
     bench = bench_of(recording.text, facts, end_of, seconds) if needs_trials(facts, seconds) else None
     beside = [os.path.dirname(os.path.abspath(recording.folder or recording.text)), os.getcwd()]
-    names = Names(facts, Sources(list(folders) or beside, facts.sources))
+    names = Names(facts, Sources(list(folders) or beside, facts.sources, bool(folders)))
     if bench:
         facts.needless = set(filter(names.is_needless, bench.seen.waits))
         facts.rewriting = rewriting(facts, names)

@@ -43,7 +43,8 @@ class View:
         self.name, self.unit, self.is_long = self.answers.name, self.units.name, self.answers.is_long
         self.figures = Figures(self.units)
         here = [os.path.dirname(os.path.abspath(folder_of(path) or path)), os.getcwd()]
-        self.sources = Sources(source or here)
+        self.chosen = source or ()      # folders of the source
+        self.sources = Sources(source or here, self.answers.head.sources, bool(source))
         self.task_places, self.places = task_places(self.answers), places(self.answers)
         self.run = None
         if not self.is_long and self.account and self.account.rows:
@@ -92,7 +93,7 @@ class View:
     def diagnosis(self):
         """Of a recorded run on several threads; None where there is none, as of a text without times."""
         self.answers.tell("changes of %s" % self.name)
-        return diagnosis_of(self.answers, self.sources.folders)
+        return diagnosis_of(self.answers, self.chosen)
 
     @cached_property
     def account(self):

@@ -21,6 +21,11 @@ class Files(unittest.TestCase):
             self.assertEqual(Sources([os.path.join(folder, "a")]).lines_of("x.c"), ["a"])
             known = {"x.c": os.path.join(folder, "a", "x.c")}
             self.assertEqual(Sources([os.path.join(folder, "none")], known).lines_of("x.c"), ["a"])
+            other = os.path.join(folder, "b")
+            self.assertEqual(Sources([other], known).lines_of("x.c"), ["a"])
+            self.assertEqual(Sources([other], known, are_chosen=True).lines_of("x.c"), ["b"])
+            known["x.c"] = os.path.join(folder, "none.c")
+            self.assertEqual(Sources([other], known).lines_of("x.c"), ["b"])
 
     def test_bytes_that_are_no_text(self):
         with tempfile.TemporaryDirectory() as folder:
