@@ -15,7 +15,7 @@ class Made(NamedTuple):
 
 
 GRAIN = "grain"
-LATER = ("neighbours",)     # not in the measurements that are kept
+LATER = ("neighbours", "rename")   # not in the measurements that are kept
 # As these programs are compiled here, its code has another place.
 OTHER_PLACES = {"own_task": (("task", "after taskwait at own_task.c"),)}
 
