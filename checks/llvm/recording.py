@@ -51,11 +51,15 @@ def log_of(name):
     return os.path.join(name + ENDING, "log")
 
 
+def paths_of(name):
+    """What this name has, with any ending: a turn 3 has nothing of the turn 30."""
+    return [path for path in glob.glob(glob.escape(name) + "*") if not path[len(name):len(name) + 1].isalnum()]
+
+
 def names_of(name):
     """Those of the recordings that a run made: the program's own first, then its children's."""
-    found = glob.glob(glob.escape(name) + "*" + os.path.join(ENDING, "log"))
-    return sorted((log[:-len(os.path.join(ENDING, "log"))] for log in found),
-                  key=lambda path: (path.count("."), path))
+    found = [path[:-len(ENDING)] for path in paths_of(name) if path.endswith(ENDING) and os.path.exists(path + "/log")]
+    return sorted(found, key=lambda path: (path.count("."), path))
 
 
 def reported_of(log, out, settings):
@@ -86,5 +90,5 @@ def made_texts(name, settings=(), out=None):
 
 def remove(name):
     """Recordings and texts of this name."""
-    for path in glob.glob(glob.escape(name) + "*"):
+    for path in paths_of(name):
         shutil.rmtree(path) if os.path.isdir(path) else os.remove(path)
