@@ -179,7 +179,7 @@ void Head::lock(Object &fields, const LockUse &use) {
   line("lock", fields);
 }
 
-// Of each object the time inside it bounds the run; they are told by place and kind, whatever was locked there.
+// Of each object the time inside it bounds the run; all are reported by place and kind, whatever was locked there.
 void Head::locks(const Region &region) {
   LockSums sums;
   int64_t alone = 0;

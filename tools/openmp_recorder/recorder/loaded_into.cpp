@@ -23,7 +23,7 @@ __attribute__((constructor)) void note_process() {
   if (file < 0) return;
   std::string line = std::to_string(getpid()) + " " + std::to_string(processors()) + " ";
   line += program_invocation_short_name + std::string("\n");
-  if (write(file, line.data(), line.size()) < 0) return void(close(file));
+  [[maybe_unused]] ssize_t written = write(file, line.data(), line.size());  // else it is one that is not named
   close(file);
 }
 }  // namespace

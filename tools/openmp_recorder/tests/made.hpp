@@ -29,7 +29,7 @@ class Made {
   Made &add(unsigned thread, RecordKind kind, uint32_t task, uint32_t other = 0, unsigned detail = 0,
             uint64_t code = 0);
   Made &begin_threads();
-  Made &region_inside(uint32_t region, unsigned many, int64_t nanoseconds);  // of which one thread is told
+  Made &region_inside(uint32_t region, unsigned many, int64_t nanoseconds);  // of which one thread is recorded
   Made &create(unsigned thread, uint32_t task, uint32_t child, unsigned details = 0, uint64_t place = 100);
   Made &path(unsigned thread, uint32_t number);  // of the thread's last record
   Made &depend(unsigned thread, uint32_t task, const std::vector<DependItem> &items);  // task 0: of a wait

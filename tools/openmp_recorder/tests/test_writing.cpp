@@ -233,7 +233,7 @@ TEST(the_head_tells_the_recording) {
 )");
 }
 
-TEST(locks_of_one_place_are_told_together) {
+TEST(locks_of_one_place_are_reported_together) {
   Run run = two_tasks();
   Region &region = only_region(run);
   for (uint64_t name = 1; name <= 13; name++) region.locks[name] = {ompt_mutex_lock, nullptr, 1, 40, 2, 30};
@@ -244,7 +244,7 @@ TEST(locks_of_one_place_are_told_together) {
 )");
 }
 
-TEST(places_of_locks_beyond_ten_are_told_together) {
+TEST(places_of_locks_beyond_ten_are_reported_together) {
   Run run = two_tasks();
   Region &region = only_region(run);
   Places places;

@@ -454,8 +454,9 @@ def handling(facts):
             time = int(share * max(0, facts.places[name].cost - facts.asleep_by.get(name, 0)))
             if times * A_TASK > time:
                 out[tuple(loss)] = out.get(tuple(loss), 0) + time
-    if lock := lock_of_switches(facts):
-        out["lock", lock_name(lock)] = sum(system_locking(facts).values())
+    lock, time = lock_of_switches(facts), sum(system_locking(facts).values())
+    if lock and lock.times * A_TASK > time:     # else locks that no thread waits for take it
+        out["lock", lock_name(lock)] = time
     return out
 
 

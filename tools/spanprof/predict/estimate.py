@@ -120,7 +120,7 @@ def estimate(recordings, machine, threads, runtime=None):
                     for i, base in enumerate(bases)), key=lambda one: one.time)
     middle, fewest = found[(len(found) - 1) // 2], min(map(len, recordings.values())) if growth else len(found)
     apart = spread([one.time for one in found])
-    kind = ON_GCC if runtime == GNU else CHANGED if middle.base.is_changed else kind_of(recordings, threads)
-    far = width(kind, fewest, apart, middle.grown)
+    kinds = [CHANGED if middle.base.is_changed else kind_of(recordings, threads)] + [ON_GCC] * (runtime == GNU)
+    far = max(width(kind, fewest, apart, middle.grown) for kind in kinds)
     return replace(middle, low=int(middle.time / exp(far)), high=int(middle.time * exp(far)), of=len(found),
                    apart=apart)

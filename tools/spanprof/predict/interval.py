@@ -20,7 +20,7 @@ WIDTHS = {AS_RECORDED: Width(0.21, 0.06),   # on as many threads as were recorde
           ON_OTHERS: Width(0.09, 0.08),     # on another number, where recordings tell how code grows
           ALONE: Width(0.29, 0.30),         # on another number, by recordings on one
           CHANGED: Width(0.28, 0.21),       # of a changed text
-          ON_GCC: Width(0.44, 0.17)}        # on gcc's runtime: of 24 programs on a machine that did other work too
+          ON_GCC: Width(0.44, 0.17)}        # on gcc's runtime at least: of 24 programs, as recorded, on a busy machine
 
 
 def spread(times):

@@ -17,7 +17,7 @@ KINDS = [[True, "", "", "", ""], [False, "a.c:3", "", "", ""], [False, "a.c:3", 
          [True, "", "taskgroup", "barrier of the region at a.c:8", "a.c:8"]]
 SUMS = [[0, 1, 1, 7, 7], [1, 2, 1, 5, 5], [2, 3, 1, 6, 6], [3, 4, 1, 0, 0], [4, 5, 1, 1, 1], [5, 6, 1, 0, 0],
         [6, 0, 1, 1 << 33, 1 << 33]]
-TOLD = {"segments": 7, "kinds": KINDS, "long": [6, 1 << 33], "sums": SUMS, "own": [4, 1],
+LAST = {"segments": 7, "kinds": KINDS, "long": [6, 1 << 33], "sums": SUMS, "own": [4, 1],
         "clauses": [[1, " depend(inout: x)", 1, 0]]}
 ROWS = [(0, 0, 7), (1, 1, 5), (2, 1, 6), (3, 0, 0), (4, 2, 1), (5, 0, 0), (6, 0, 0)]    # kind, task, cost
 
@@ -46,17 +46,17 @@ class OfARecording(unittest.TestCase):
             self.assertEqual(getattr(found, name), getattr(wanted, name), name)
 
     def test_it_has_what_the_text_has(self):
-        self.check(read(table(ROWS, TOLD)))
+        self.check(read(table(ROWS, LAST)))
 
     def test_older_ones_have_no_sums(self):
-        self.check(read(table(ROWS, {name: value for name, value in TOLD.items() if name != "sums"})))
+        self.check(read(table(ROWS, {name: value for name, value in LAST.items() if name != "sums"})))
 
     def test_block_by_block(self):
         with mock.patch("spanprof.segment_file.OF_A_BLOCK", 3):
-            self.check(read(table(ROWS, TOLD, 3)))
+            self.check(read(table(ROWS, LAST, 3)))
 
     def test_damage(self):
-        for data in (b"", b"\n", table(ROWS[1:], TOLD), table(ROWS, {"segments": 7}), table(ROWS, TOLD)[1:]):
+        for data in (b"", b"\n", table(ROWS[1:], LAST), table(ROWS, {"segments": 7}), table(ROWS, LAST)[1:]):
             with self.assertRaisesRegex(Fault, "segments is damaged"):
                 read(data)
 
@@ -65,9 +65,9 @@ class OfARecording(unittest.TestCase):
                             ("sums", SUMS[1:]), ("sums", [[*SUMS[0][:4], ""], *SUMS[1:]]), ("sums", []),
                             ("clauses", [[7, "if(0)", 1, 0]]), ("clauses", [[1, "if(0)", "", 0]])):
             with self.assertRaisesRegex(Fault, "segments is damaged"):
-                read(table(ROWS, {**TOLD, name: value}))
+                read(table(ROWS, {**LAST, name: value}))
         with self.assertRaisesRegex(Fault, "segments that it does not have"):
-            read(table([(0, 1 << 31, 7), *ROWS[1:]], TOLD))
+            read(table([(0, 1 << 31, 7), *ROWS[1:]], LAST))
 
     def test_it_lies_beside_the_text_of_a_recording(self):
         reported = {"segments": 3, "kinds": KINDS[:2] + KINDS[3:4], "long": [], "own": [], "clauses": []}
