@@ -109,6 +109,9 @@ def pieces(words, text):
         raise refused(words, text, first.decode(errors="replace"), running.returncode)
 
 
+OTHER_ROWS = "spanprof %s: rows of another form"
+
+
 def columns(words, text, wanted):
     """Of a table of whole numbers the columns of these names, as arrays; a cell without a number is -1."""
     reported = pieces(words, text)
@@ -117,9 +120,12 @@ def columns(words, text, wanted):
     for piece in reported:
         cells = numbers_in(piece.replace(b",\n", b",-1\n").replace(b"\n", b",")[:-1])
         if not set(wanted) <= set(heads) or len(cells) != len(heads) * piece.count(b"\n"):
-            raise Fault("spanprof %s: rows of another form" % words[0])
-        for name, column in zip(wanted, out):
-            column.fromlist(cells[heads.index(name)::len(heads)])
+            raise Fault(OTHER_ROWS % words[0])
+        try:
+            for name, column in zip(wanted, out):
+                column.fromlist(cells[heads.index(name)::len(heads)])
+        except (TypeError, OverflowError) as wrong:     # no whole numbers, or too large ones
+            raise Fault(OTHER_ROWS % words[0]) from wrong
     return out
 
 

@@ -48,6 +48,8 @@ class Asking(unittest.TestCase):
     def test_columns_that_are_not_there(self):
         for script, why in (("echo a,b; echo 1,2", "spanprof slack: rows of another form"),
                             ("echo start; echo 1,2", "spanprof slack: rows of another form"),
+                            ("echo start,cost; echo 1.5,2", "spanprof slack: rows of another form"),
+                            ("echo start,cost; echo 99999999999999999999,1", "spanprof slack: rows of another form"),
                             ("echo 'error: line 1: BadWord'; exit 1", "spanprof slack: error: line 1: BadWord")):
             with self.answers("cat > /dev/null\n%s\n" % script), self.assertRaisesRegex(Fault, "^%s$" % why):
                 client.columns(["slack"], "omptasks 1\n", ["start"])
