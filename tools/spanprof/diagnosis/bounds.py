@@ -3,7 +3,7 @@ from dataclasses import replace
 
 from spanprof.diagnosis.allocation import parallel_places
 from spanprof.diagnosis.causes import BY_KIND, ESTIMATED
-from spanprof.diagnosis.losses import FINE, OF_SHAPE, in_code_losses, least_of, made_by_one, slowed_lines
+from spanprof.diagnosis.losses import CROWDED, FINE, OF_SHAPE, in_code_losses, least_of, made_by_one, slowed_lines
 from spanprof.diagnosis.sleeps import is_of_programs, threads_for_sleep
 from spanprof.diagnosis.step import Step, least_time, predicted
 from spanprof.program_text import where
@@ -80,9 +80,18 @@ def while_asleep(facts, bench, step):
     return replace(step, after=after, low=after, threads=number)
 
 
+def on_processors(facts, step):
+    """The same step where each processor runs one thread: no sooner than the greedy run of the text ends on as many, in
+    which threads wait at each barrier for the largest piece before it. What the recorder takes is part of neither
+    time."""
+    unrecorded = facts.elapsed - facts.recorder // facts.usable
+    return replace(step, after=min(step.before, max(step.after, predicted(step.before, unrecorded, facts.scheduled))))
+
+
 def bounds(facts, now, found, bench=None):
     """Of the losses for which no change of the text is tried."""
     least = {kind: least_of(facts, found, kind) for kind, cause in BY_KIND.items() if cause.is_bound}
     steps = [bound_of(facts, now, loss, found) for loss in found
              if loss.kind in least and loss.time >= least[loss.kind]]
-    return [while_asleep(facts, bench, step) if bench and step.kind == "sleep" else step for step in steps]
+    steps = [while_asleep(facts, bench, step) if bench and step.kind == "sleep" else step for step in steps]
+    return [on_processors(facts, step) if facts.scheduled and step.kind in CROWDED else step for step in steps]

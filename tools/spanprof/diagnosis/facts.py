@@ -13,7 +13,7 @@ from spanprof.diagnosis.barriers import needless_barriers
 from spanprof.diagnosis.calls import AT_START, RUNTIME, Sampled, calls_of, is_of_ranks, is_start, plain
 from spanprof.diagnosis.library_locks import set_library_locks
 from spanprof.diagnosis.lock_times import locks_of
-from spanprof.diagnosis.losses import divided
+from spanprof.diagnosis.losses import divided, is_crowded
 from spanprof.diagnosis.own_code import interpreter_of, is_loading
 from spanprof.diagnosis.places import A_START, AROUND_REGIONS, TASK, in_text, read_places
 from spanprof.diagnosis.undisturbed import is_disturbed, set_disturbed, starved_alone
@@ -94,6 +94,7 @@ class Facts:
     is_of_gcc: bool = False             # some constructs have the line of a statement before them
     barriers: dict = field(default_factory=dict)    # by place: that of a needless barrier, and its share of the waits
     interpreter: str = ""               # the file of that which runs the program
+    scheduled: Optional[int] = None     # the end of the text's greedy run on `usable` threads, where more shared these
     is_imported: bool = False           # of another tool's tasks
     needless: set = field(default_factory=set)      # waits that may be, by the source
     rewriting: dict = field(default_factory=dict)   # by place: what its tasks write again and again that others read
@@ -441,4 +442,6 @@ def facts_of(recording, end_of=greedy_end):
         set_by_greedy(facts, head, end_of(path, facts.threads))
     set_waiting(facts)
     set_library_locks(facts)
+    if is_crowded(facts):
+        facts.scheduled = end_of(path, facts.usable) * (head.nanoseconds or 1)
     return facts

@@ -29,8 +29,9 @@ BEYOND_CACHES = 1 << 27     # bytes
 OF_ITS_LINE = 7 / 8     # of the uses of numbers of 8 bytes one after the other, those whose line was used before
 UNSHARED = 0.02         # of the samples of code, below which it uses no line that other threads use
 NO_CAUSE = ("recorder", "startup")
+CROWDED = ("too_many_threads", "affinity")      # threads share processors
 FINE = ("small_tasks", "creation")      # of all tasks together
-OF_WAITS = ("small_tasks", "small_regions", "exclusion", "system", "sleep", "spin", "too_many_threads", "affinity")
+OF_WAITS = ("small_tasks", "small_regions", "exclusion", "system", "sleep", "spin", *CROWDED)
 OF_SHAPE = ("too_few_tasks", "imbalance", "dependence", "wait")
 
 
@@ -498,7 +499,7 @@ def losses(facts):
     found = idle_losses(facts) + off_losses(facts) + in_code_losses(facts) + \
         [Loss("recorder", "", facts.recorder), Loss("startup", "", facts.outside)]
     missing = missing_threads(facts)
-    one_place = {**dict.fromkeys(("too_many_threads", "affinity"), crowded_region(facts)),
+    one_place = {**dict.fromkeys(CROWDED, crowded_region(facts)),
                  **dict.fromkeys(FINE, finest_name(facts)),
                  "too_few_threads": max(missing, key=missing.get, default=""), "system": heaviest_name(facts),
                  "small_regions": most_often(facts, found)}
@@ -527,6 +528,11 @@ def of_denied(facts, found):
         out += [loss._replace(time=loss.time - part)]
         out += [Loss("too_few_threads", max(facts.denied, key=facts.denied.get), part)]
     return out or found
+
+
+def is_crowded(facts):
+    """Whether threads lost much while others had their processors."""
+    return any(loss.kind in CROWDED and facts.share(loss.time) >= BY_KIND[loss.kind].least for loss in losses(facts))
 
 
 def useful_time(facts, found):
