@@ -30,6 +30,8 @@ from spanprof.whatif.numbers import numbers_of
 RUNTIMES = {"llvm": "LLVM", "gnu": "gcc"}
 EXCLUDING = "mutexinoutset"     # the remark of a text that has inoutset in its place
 OWN_CLOCK = "own"               # by which costs are without the time in which a thread was preempted
+# Nanoseconds: gcc's runtime keeps no threads for regions inside others, and makes them for each: 63 to 100 us in all.
+A_TEAM = 80000
 OF_GCC = "lines of gcc"         # that of a text whose tasks or waits are of gcc's code
 
 
@@ -364,15 +366,16 @@ def regions_inside(program, is_meant):
     return within.values()
 
 
-def denied_time(program, usable):
+def denied_time(program, usable, a_team=0):
     """By place of regions inside others that asked for several threads and got one: the time of threads that no order
-    of these wins back, since the longest one lasts longer than all of them would divided, or the team is small."""
+    of these wins back, since the longest one lasts longer than all of them would divided, or the team is small. With
+    more threads each region takes `a_team` longer to start."""
     found = Counter()
     for around, *inner in regions_inside(program, lambda region: region.threads == 1 < region.asked):
         longest = max(inner, key=lambda region: region.elapsed)
         missing = (usable - around.threads) * union((region.begin, region.end) for region in inner)
         uneven = usable * longest.elapsed - sum(region.elapsed for region in inner)
-        found[longest.place] += max(0, missing, uneven)
+        found[longest.place] += max(0, max(missing, uneven) - len(inner) * a_team * usable // around.threads)
     return dict(+found)
 
 
@@ -426,7 +429,7 @@ def facts_of(recording, end_of=greedy_end):
     set_meta(facts, meta)
     facts.locks, regions = locks_of(recording.file("locks"), head), program_of(path)
     facts.regions, facts.inner = regions_of(regions), inner_regions(regions)
-    facts.denied = denied_time(regions, facts.usable)
+    facts.denied = denied_time(regions, facts.usable, A_TEAM if facts.is_on_gcc else 0)
     facts.tasks_in_regions = not regions or any(region.tasks for region in regions.regions)
     set_off(facts, off, program)
     facts.calls = calls_of(recording.file("calls"), code.of, program.kinds)
