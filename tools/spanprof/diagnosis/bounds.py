@@ -11,6 +11,7 @@ from spanprof.program_text import where
 FOR_CODE = (*OF_SHAPE, "undeferred", "loop_schedule")   # in which threads wait while others run it
 SHORTER = (*ESTIMATED, "system")    # causes without which the same code is shorter
 BOUND_LEAST = 0.3   # of the gain of a bound: less is rare
+A_RECORDED = 200    # nanoseconds that recording takes of a task (What recording costs, in the recorder's manual)
 HIDDEN = 0.5        # of what sleep costs, that more threads win back at least which are advised
 
 
@@ -25,10 +26,12 @@ def waiting_for(facts, found, loss):
 
 def waiting_for_recorder(facts, loss):
     """What the others wait for one thread while it records: that a small region begins or ends; or that it makes a
-    task, where it makes all of them, while others record that these begin and end, which takes as long."""
+    task, where it makes all of them, while others record that these begin and end, which takes as long. Of tasks what
+    recording them takes between two pieces of code, too, is among what they lose."""
     recorder = facts.recorder if loss.kind == "small_regions" else \
         facts.recorder // 2 if loss.kind in FINE and made_by_one(facts) else 0
-    return min(loss.time, (facts.threads - 1) * recorder)
+    between = max(0, A_RECORDED * facts.tasks - facts.recorder) if loss.kind in FINE else 0
+    return min(loss.time, max(between, (facts.threads - 1) * recorder))
 
 
 def left(facts, now, loss, found):

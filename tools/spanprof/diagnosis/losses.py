@@ -116,11 +116,20 @@ def is_maker(place):
     return place.is_creating and place.kind in (SERIAL, OF_THREADS) and not place.tasks
 
 
+def makers(facts):
+    """The places of code that makes tasks one after the other, and begins none."""
+    return [place for place in facts.places.values() if place.is_creating and not place.tasks]
+
+
+def creating(facts):
+    """What code between two creations took, where it is so short that it is mostly the runtime's."""
+    return sum(place.cost for place in makers(facts) if place.cost < A_CREATION * place.pieces)
+
+
 def made_by_one(facts):
-    """The places of such code, where one thread makes nearly all tasks; else none."""
-    making = [place for place in facts.places.values() if place.is_creating and not place.tasks]
-    own = list(filter(is_maker, making))
-    made, all_made = (sum(place.pieces for place in some) for some in (own, making))
+    """The places of such code of threads, where one thread makes nearly all tasks; else none."""
+    own = list(filter(is_maker, makers(facts)))
+    made, all_made = (sum(place.pieces for place in some) for some in (own, makers(facts)))
     return own if made > MANY * facts.threads and 10 * made > 9 * all_made else []
 
 
@@ -443,7 +452,7 @@ def calls_of_runtime(facts, name):
 
 def handling(facts):
     """By kind and place, what the runtime took of code, by samples: chunks of loops, locks, small tasks. Without them,
-    as of texts of many chunks, taking short ones is up to half of it."""
+    as of texts of many chunks, taking short ones is up to half of it, and making small tasks all between two."""
     out = {}
     if not facts.calls.ran:
         out = {("small_chunks", "%s at %s" % (TURNS, at)): min(A_TAKING * times, facts.code // 2)
@@ -455,6 +464,9 @@ def handling(facts):
             time = int(share * max(0, facts.places[name].cost - facts.asleep_by.get(name, 0)))
             if times * A_TASK > time:
                 out[tuple(loss)] = out.get(tuple(loss), 0) + time
+    fine, time = (fine_kind(facts), finest_name(facts)), creating(facts)
+    if time:
+        out[fine] = max(out.get(fine, 0), time)
     lock, time = lock_of_switches(facts), sum(system_locking(facts).values())
     if lock and lock.times * A_TASK > time:     # else locks that no thread waits for take it
         out["lock", lock_name(lock)] = time

@@ -73,6 +73,13 @@ class Bounds(unittest.TestCase):
             step = bound_of(facts(places, code=200 * MS, recorder=8 * MS), 95 * MS, lost)
             self.assertEqual(step.after // MS, after)
 
+    def test_recording_takes_time_between_tasks_too(self):
+        """Of 30 ms that recording 150,000 tasks takes 8 are in code: 22 of the 112 that tasks lose are no loss."""
+        made = place(TASKS, pieces=150000, tasks=150000)
+        for kind, after in (("small_tasks", 95 * 280 // 370), ("lock", 95 * 280 // 392)):
+            step = bound_of(facts([made], code=200 * MS, recorder=8 * MS), 95 * MS, Loss(kind, TASKS, 112 * MS))
+            self.assertEqual(step.after // MS, after)
+
     def test_what_passes_between_threads_with_a_lock_goes_with_it(self):
         run = facts([place(TASKS)], code=200 * MS, calls=Sampled({}, {}, at={TASKS: {"image.c:25": 9}}))
         shared, others = Loss("memory", TASKS, 40 * MS), Loss("memory", "task at image.c:40", 40 * MS)
