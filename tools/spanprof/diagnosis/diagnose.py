@@ -5,8 +5,9 @@ from typing import List
 from spanprof.diagnosis.bounds import bounds
 from spanprof.diagnosis.causes import BUSY, BY_KIND, EFFICIENT, SECOND
 from spanprof.diagnosis.losses import NO_CAUSE, OF_SHAPE, Loss, code_on_one, least_of, losses, merged
+from spanprof.diagnosis.one_thread import on_one
 from spanprof.diagnosis.own_code import interpreted_time, is_interpreter
-from spanprof.diagnosis.plan import best_of, step_of, steps_after
+from spanprof.diagnosis.plan import STEPS, best_of, step_of, steps_after
 from spanprof.diagnosis.runtime_schedule import as_scheduled
 
 POOL = 0.25     # of what the shape lost, that a change wins back of whose kind it is then
@@ -120,4 +121,5 @@ def diagnose(facts, bench=None):
     if first and bench:
         first = as_scheduled(facts, bench, first)
     plan = steps_after(facts, bench, found, first, steps) if first and bench else [first] if first else []
+    plan = (plan[:1] + on_one(facts, first) + plan[1:])[:STEPS] if first else plan
     return Diagnosis(facts, found, causes, plan, steps, code)

@@ -46,6 +46,7 @@ class Region:
     together: int = 1       # at most so many at a time
     teams: Dict[int, int] = field(default_factory=dict)     # what elapsed with so many threads
     added: int = 0          # the time of threads that regions inside it had besides
+    code: int = 0           # of all threads
 
     @property
     def sizes(self):
@@ -393,7 +394,8 @@ def regions_at(place, added):
     for region in outer:
         teams[region.threads] += region.elapsed
     asked = max(region.asked for region in outer if region.threads == min(teams))
-    return Region(place.name, max(teams), place.outermost, asked or None, len(outer), teams=dict(teams), added=added)
+    return Region(place.name, max(teams), place.outermost, asked or None, len(outer), teams=dict(teams), added=added,
+                  code=sum(region.code for region in outer))
 
 
 def regions_of(program):
