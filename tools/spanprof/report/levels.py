@@ -43,9 +43,8 @@ class Levels:
     def words_of(self, thread):
         """Two digits for each bin: how busy, to a 35th, and with the tasks of which colour."""
         first, last = (row * self.bins * COLOURS for row in (thread, thread + 1))
-        busy = {colour: column for colour in range(COLOURS) if any(column := self.busy[first + colour:last:COLOURS])}
-        if not busy:
-            return "00" * self.bins
+        busy = {colour: column for colour in range(COLOURS)
+                if any(column := self.busy[first + colour:last:COLOURS]) or not colour}
         marks, width = [DIGITS[colour] for colour in busy], self.width
         return "".join(DIGITS[-(-FULL * min(sum(parts), width) // width)] + marks[parts.index(max(parts))]
                        for parts in zip(*busy.values()))

@@ -30,7 +30,7 @@ def task_cells(view, place):
         return ["", ""]
     named = "task-place %d " % made.number
     return [view.figures.number(made.tasks, named + "count", view.shape_kind),
-            view.figures.time(made.cost // made.tasks, "%scost / %scount" % (named, named), view.cost_kind)]
+            view.figures.time(made.cost / made.tasks, "%scost / %scount" % (named, named), view.cost_kind)]
 
 
 def row(view, place):
