@@ -61,6 +61,14 @@ def percent(word):
     return float(word.rstrip("%"))
 
 
+def unit(word):
+    """`ns`, `us`, `ms`, or a number of nanoseconds."""
+    number = int(word) if re.fullmatch(r"[0-9]{1,10}", word) else 0
+    if word not in ("ns", "us", "ms") and not 1 <= number <= 1000000000:
+        raise argparse.ArgumentTypeError("a unit is ns, us, ms, or nanoseconds up to 1000000000")
+    return word
+
+
 def check_files(text, output=None, what="changed text"):
     """Whether the text is there, and is not what would be written."""
     if not os.path.exists(text):

@@ -14,8 +14,7 @@ from spanprof.errors import Fault
 from spanprof.predict.machine import COSTS, Machine, Measured, machine_file, write_machine
 from spanprof.predict.program import read_program
 from spanprof.program_text import OF_A_THREAD
-from spanprof.record.console import say, tell
-from spanprof.record.run import environment, without_recorder
+from spanprof.record.run import environment, say, tell, without_recorder
 from spanprof.record.runtime import llvm_runtime
 from spanprof.recording import ENDING, LOG
 from spanprof.text_file import TextFile

@@ -4,14 +4,12 @@ import os
 import shutil
 import sys
 
-from spanprof.command import Console, end_with, naming, writing
-from spanprof.converting import (convert, convert_into, converter, has_failed, made_text, no_region, of_region)
+from spanprof.command import Console, end_with, naming, unit, writing
+from spanprof.converting import convert, convert_into, converter, has_failed, made_text, no_region, of_region
 from spanprof.errors import Fault
 from spanprof.program_text import HEADER
-from spanprof.record.files import check_folder
+from spanprof.record.folder import check_folder, check_name, old_meta, write_meta
 from spanprof.record.messages import in_words
-from spanprof.record.meta import old_meta, write_meta
-from spanprof.record.options import check_name, unit
 from spanprof.record.stretch import moment, write_part as write_part_of_run
 from spanprof.recording import ENDING, LOG, META, is_recording, made_folder, open_recording
 from spanprof.text_file import TextFile

@@ -5,7 +5,7 @@ from unittest import mock
 from spanprof import built
 from spanprof.errors import Fault
 from spanprof.converting import recorder_library
-from spanprof.record import files
+from spanprof.record.folder import check_folder
 from spanprof.tests.in_folder import InFolder
 
 
@@ -18,7 +18,7 @@ class OfARecording(InFolder):
 class Recordings(OfARecording):
     def test_a_folder_that_is_none(self):
         with self.assertRaisesRegex(Fault, "no folder"):
-            files.check_folder(os.path.join(self.out, "x"))
+            check_folder(os.path.join(self.out, "x"))
 
 
 class Recorder(OfARecording):
