@@ -8,15 +8,13 @@ from itertools import compress, repeat
 from operator import add
 from typing import NamedTuple
 
-from spanprof import client
-from spanprof.c_calls import MOST_THREADS
-from spanprof.errors import Fault
+from spanprof import MOST_THREADS, client
+from spanprof.client import is_long
+from spanprof.command import Fault
 from spanprof.head import head_of
-from spanprof.limits import is_long
+from spanprof.program_text import TextFile
 from spanprof.recording import open_recording, shown_name
-from spanprof.segment_file import file_beside
-from spanprof.segment_table import code_in, read_code
-from spanprof.text_file import TextFile
+from spanprof.segment_table import code_in, file_beside, read_code
 
 THREADS_WITHOUT_RECORDING = 4
 LONGEST_CURVE = 64

@@ -6,7 +6,7 @@ import unittest
 from unittest import mock
 
 import install
-from spanprof.errors import Fault
+from spanprof.command import Fault
 from spanprof.tests.in_folder import InFolder
 
 

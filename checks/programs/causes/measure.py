@@ -9,7 +9,7 @@ import sys
 
 from programs import FIXED, kind_of     # which adds tools to the path
 from timing import busy_processes, interleaved
-from spanprof.errors import Fault
+from spanprof.command import Fault
 from spanprof.record.command import parse, record_as_asked
 from spanprof.record.session import Session
 

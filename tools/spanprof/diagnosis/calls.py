@@ -4,7 +4,7 @@ from collections import Counter, defaultdict
 from functools import lru_cache
 from typing import NamedTuple
 
-from spanprof.errors import reading
+from spanprof.command import reading
 
 LEAST = 5           # samples, below which they say nothing
 A_SAMPLE = 4000     # microseconds

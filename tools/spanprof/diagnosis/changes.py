@@ -5,13 +5,12 @@ from dataclasses import dataclass
 from typing import Tuple
 
 from spanprof import client
+from spanprof.command import Fault, Progress, each
 from spanprof.diagnosis.buffers import is_only_written, renamings
 from spanprof.diagnosis.calls import innermost
 from spanprof.diagnosis.losses import holds_neighbours, kind_of_starved, most_shared
 from spanprof.diagnosis.places import LEAST_HOLDERS, OF_THREADS, SERIAL, SHARE, in_text
-from spanprof.errors import Fault
 from spanprof.program_text import BARRIER
-from spanprof.progress import Progress, each
 from spanprof.whatif.creating import costs_for
 from spanprof.whatif.numbers import greedy_end
 from spanprof.whatif.requests import Request, applied, changes

@@ -9,7 +9,7 @@ from typing import List, Optional
 from spanprof.diagnosis.places import lines_between
 from spanprof.diagnosis.schema import milliseconds
 from spanprof.diagnosis.sentences import LABEL, WIDTH, change_sentence, lost_sentence, shortened
-from spanprof.durations import lasting
+from spanprof.head import lasting
 
 ONE_RUN = 0.05      # of the time, that two runs of one program may differ
 MOST_PLACES = 2

@@ -8,7 +8,7 @@ from itertools import accumulate, compress
 from typing import Dict, List, Optional
 
 from spanprof import client
-from spanprof.breakdown_program import NoBreakdown
+from spanprof.command import reading
 from spanprof.diagnosis.barriers import needless_barriers
 from spanprof.diagnosis.calls import AT_START, RUNTIME, Sampled, calls_of, is_of_ranks, is_start, plain
 from spanprof.diagnosis.library_locks import set_library_locks
@@ -17,14 +17,11 @@ from spanprof.diagnosis.losses import divided
 from spanprof.diagnosis.own_code import interpreter_of, is_loading
 from spanprof.diagnosis.places import A_START, AROUND_REGIONS, TASK, in_text, read_places
 from spanprof.diagnosis.undisturbed import is_disturbed, set_disturbed, starved_alone
-from spanprof.errors import reading
 from spanprof.head import head_of
-from spanprof.program_text import BEGINNING
-from spanprof.recording import document
-from spanprof.regions import program_of, union
+from spanprof.program_text import BEGINNING, TextFile, read_once
+from spanprof.recording import document, program_of, union
 from spanprof.segment_table import code_in
-from spanprof.text_file import TextFile, read_once
-from spanprof.time_breakdown import breakdown_of
+from spanprof.time_breakdown import NoBreakdown, breakdown_of
 from spanprof.whatif.numbers import numbers_of
 
 RUNTIMES = {"llvm": "LLVM", "gnu": "gcc"}

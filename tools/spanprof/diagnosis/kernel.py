@@ -5,8 +5,7 @@ from collections import Counter
 from spanprof.diagnosis.allocation import parallel_places
 from spanprof.diagnosis.calls import RUNTIME, in_system, shares
 from spanprof.diagnosis.system_locks import lock_of_switches
-from spanprof.marks import CREATING
-from spanprof.program_text import BEGINNING
+from spanprof.program_text import BEGINNING, CREATING
 
 # Functions of the C library that do little but call the kernel.
 CALLING = re.compile(

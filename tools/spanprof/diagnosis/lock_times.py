@@ -2,7 +2,7 @@
 import json
 from dataclasses import dataclass
 
-from spanprof.errors import reading
+from spanprof.command import reading
 from spanprof.head import number, words
 
 

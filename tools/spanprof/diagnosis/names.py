@@ -4,12 +4,12 @@ from itertools import accumulate
 from typing import NamedTuple
 
 from spanprof.diagnosis.calls import A_SAMPLE, LEAST, NO_NAME, OF_SYSTEM, OFFSET, innermost, plain
-from spanprof.diagnosis.directives import (DIRECTIVE, construct_of, directive_above, directive_line, is_needless,
-                                           meets_at_end, own_item)
 from spanprof.diagnosis.own_code import called_code
 from spanprof.diagnosis.places import ALLOCATION, OF_THREADS, OWN, SERIAL, lines_between
 from spanprof.program_text import BEGINNING, where
-from spanprof.source_lines import LONGEST, STRING, after_directive, code_lines, line_of, statement_end
+from spanprof.source_lines import (DIRECTIVE, LONGEST, STRING, after_directive, code_lines, construct_of,
+                                   directive_above, directive_line, is_needless, line_of, meets_at_end, own_item,
+                                   statement_end)
 
 FUNCTION = re.compile(r"^[A-Za-z_][\w\s:*&<>,~]*\b%s\s*\(")
 COMMENT = re.compile(r"\s*//.*")

@@ -2,6 +2,7 @@
 import os
 from dataclasses import dataclass
 
+from spanprof.command import Fault
 from spanprof.diagnosis.bounds import bounds
 from spanprof.diagnosis.buffers import rewriting
 from spanprof.diagnosis.changes import Bench
@@ -11,9 +12,8 @@ from spanprof.diagnosis.losses import losses
 from spanprof.diagnosis.names import Names
 from spanprof.diagnosis.schema import as_json
 from spanprof.diagnosis.sentences import short_lines, sum_lines
-from spanprof.errors import Fault
 from spanprof.recording import open_recording
-from spanprof.source import Sources
+from spanprof.source_lines import Sources
 from spanprof.whatif.texts import Text, version_of
 from spanprof.whatif.trials import seconds_for
 

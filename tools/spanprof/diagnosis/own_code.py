@@ -4,7 +4,7 @@ import re
 
 from spanprof.diagnosis.calls import A_SAMPLE, LEAST, OF_SYSTEM, OUTERMOST, is_start, shares, together
 from spanprof.diagnosis.places import SERIAL
-from spanprof.durations import lasting
+from spanprof.head import lasting
 
 # The file of a program, or of a library as samples have it.
 INTERPRETER = re.compile(r"(R|(python|octave-cli|octave-gui|perl|ruby|guile|lua)[-.\d]*|"

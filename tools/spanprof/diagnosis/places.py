@@ -7,8 +7,7 @@ from functools import cached_property
 from itertools import compress
 from typing import List, Tuple
 
-from spanprof.marks import CREATING
-from spanprof.program_text import BARRIER, OF_A_THREAD, construct, is_share, named
+from spanprof.program_text import BARRIER, CREATING, OF_A_THREAD, construct, is_share, named
 from spanprof.segment_table import Code
 from spanprof.source_lines import line_of
 

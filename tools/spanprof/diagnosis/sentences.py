@@ -13,8 +13,7 @@ from spanprof.diagnosis.own_code import interpreted_share, is_interpreter, words
 from spanprof.diagnosis.places import AFTER_REGION, OWN, SERIAL, SHARE
 from spanprof.diagnosis.plan import holder
 from spanprof.diagnosis.sleeps import place_of_sleep, sleeper, sooner, words_of_sleep
-from spanprof.durations import lasting
-from spanprof.head import grouped
+from spanprof.head import grouped, lasting
 from spanprof.program_text import SECTION, where
 from spanprof.source_lines import line_of
 

@@ -3,8 +3,8 @@ import re
 from collections import Counter
 
 from spanprof.diagnosis.calls import OF_SYSTEM, caller_of, is_of_program
-from spanprof.diagnosis.directives import COMMENT, code_of
 from spanprof.diagnosis.places import SERIAL
+from spanprof.source_lines import COMMENT, code_of
 
 MOST = 0.8      # of a place's sleep, from which on one call is reported as all of it
 LEAST = 0.1     # from which on a call is reported beside another

@@ -2,7 +2,7 @@
 time in which a thread was preempted, so a schedule of the text tells how the run would have gone without them."""
 from spanprof import client
 from spanprof.diagnosis.losses import divided
-from spanprof.text_file import TextFile
+from spanprof.program_text import TextFile
 from spanprof.time_breakdown import Rows, idle_by_place
 
 LITTLE = 0.02       # of the time in code: threads preempted for less keep others waiting for little

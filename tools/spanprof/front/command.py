@@ -3,11 +3,9 @@ import os
 import signal
 import sys
 
-from spanprof.command import Console, end_with, show
-from spanprof.errors import NO_PROGRAM
+from spanprof.command import NO_PROGRAM, Console, end_with, show, version_of
 from spanprof.front.help_texts import GENERAL, help_of
 from spanprof.front.routes import HELP, OTHER_NAMES, PROGRAM, TOOL, TOOLS, VERSION, main_of, route
-from spanprof.version import version_of
 
 CONSOLE = Console("spanprof")
 PREFIX = "spanprof-"

@@ -4,8 +4,7 @@ import os
 import shutil
 from datetime import datetime, timezone
 
-from spanprof.command import naming
-from spanprof.errors import Fault
+from spanprof.command import Fault, naming
 from spanprof.imports.program import body, head, unit_of
 from spanprof.imports.tasks import in_order
 from spanprof.imports.times import run_of

@@ -4,15 +4,13 @@ import os
 import re
 import signal
 
-from spanprof.command import count, end_with, percent, show, unit
+from spanprof.command import OWN_FAULT, Fault, Version, count, end_with, percent, show, unit
 from spanprof.diagnosis.compare import is_slower
-from spanprof.errors import OWN_FAULT, Fault
 from spanprof.record.folder import check_name, is_launcher
 from spanprof.record.run import CONSOLE, end_as, say
 from spanprof.record.runtime import launched
 from spanprof.record.session import Session, record_often
 from spanprof.record.summaries import print_summaries
-from spanprof.version import Version
 
 DESCRIPTION = """Records a run of an OpenMP program, and prints on standard error what costs it time and what to change
 first."""

@@ -12,13 +12,11 @@ import struct
 from collections import Counter
 from typing import NamedTuple
 
-from spanprof.command import writing
+from spanprof.command import DAMAGE, Fault, writing
 from spanprof.converting import logs_in
-from spanprof.errors import DAMAGE, Fault
 from spanprof.head import head_of
 from spanprof.record.runtime import runtimes_of
-from spanprof.recording import ENDING, LOG, META, SCHEMA, TEXT, checksum
-from spanprof.regions import program_of
+from spanprof.recording import ENDING, LOG, META, SCHEMA, TEXT, checksum, program_of
 
 # Each rank with how many there are: of OpenMPI, MVAPICH, MPICH and Intel MPI, and of a step of Slurm.
 VARIABLES = (("OMPI_COMM_WORLD_RANK", "OMPI_COMM_WORLD_SIZE"), ("MV2_COMM_WORLD_RANK", "MV2_COMM_WORLD_SIZE"),

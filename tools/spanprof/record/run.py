@@ -16,8 +16,7 @@ import time
 from contextlib import suppress
 from typing import NamedTuple, Optional
 
-from spanprof.command import Console
-from spanprof.errors import NOT_EXECUTABLE, Fault
+from spanprof.command import NOT_EXECUTABLE, Console, Fault
 from spanprof.head import counted
 
 CONSOLE = Console("spanprof-record")

@@ -10,7 +10,7 @@ import subprocess
 from dataclasses import dataclass, field
 from typing import Dict, Set
 
-from spanprof.errors import NO_PROGRAM, NOT_EXECUTABLE, Fault
+from spanprof.command import NO_PROGRAM, NOT_EXECUTABLE, Fault
 
 GCC, LLVM = "gcc's runtime (libgomp)", "LLVM's runtime (libomp)"
 NAMES = {"libgomp.so": GCC, "libomp.so": LLVM, "libomp-": LLVM, "libiomp5.so": LLVM}

@@ -7,8 +7,7 @@ import tempfile
 
 from spanprof.command import writing
 from spanprof.diagnosis.places import read_places
-from spanprof.durations import lasting
-from spanprof.head import counted, head_of
+from spanprof.head import counted, head_of, lasting
 from spanprof.record.folder import old_meta
 from spanprof.record.run import ON_ONE, Failed, rewind, say, tell, unrecorded
 from spanprof.record.summary import named

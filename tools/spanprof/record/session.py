@@ -7,17 +7,17 @@ from dataclasses import dataclass, field
 from typing import List
 
 from spanprof import client
+from spanprof.command import Fault
 from spanprof.converting import convert_into, converter, has_failed, logs_in, recorder_library
 from spanprof.diagnosis.facts import used_by_others
-from spanprof.errors import Fault
 from spanprof.head import head_of
 from spanprof.record.folder import (Work, check_file, check_folder, expect, is_launcher, note_of_others, of_rank,
                                     old_meta, process_of, rank_of, started, taken, usage_in_log, write_meta)
-from spanprof.record.messages import Messages
 from spanprof.record.run import (Counters, Failed, environment, facts_of_run, processors_there_are, rewind, say,
                                  signal_name, tell, usage_of, watched)
 from spanprof.record.runtime import choose, find, launched, linkage, note_of, refuse_targets, what_it_lacks
 from spanprof.recording import ENDING, LOG, META, TEXT, open_recording
+from spanprof.remarks import Messages
 
 DISTURBED = 0.05    # of the processors' time, by which others took more in a run than in that in which they took least
 

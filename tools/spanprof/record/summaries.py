@@ -7,17 +7,15 @@ import statistics
 from typing import NamedTuple
 
 from spanprof.answers import Answers
-from spanprof.breakdown_lines import lines_of
-from spanprof.command import show
+from spanprof.command import Fault, show
 from spanprof.diagnosis.calls import IN_CALLS, is_of_ranks, samples_in
 from spanprof.diagnosis.compare import compared, lines as comparison_lines
 from spanprof.diagnosis.output import output_of
-from spanprof.durations import lasting
-from spanprof.errors import Fault
+from spanprof.head import lasting
 from spanprof.record.folder import is_child, old_meta, rank_in
 from spanprof.record.run import processor_time, tell
 from spanprof.recording import open_recording
-from spanprof.time_breakdown import recorded_breakdown
+from spanprof.time_breakdown import lines_of, recorded_breakdown
 
 MUCH = 0.05     # of a rank's sampled time
 LONGER = 1.5    # than the rank that is waited for

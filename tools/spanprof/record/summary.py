@@ -7,19 +7,18 @@ from array import array
 from itertools import repeat
 
 from spanprof import client
+from spanprof.client import proved
+from spanprof.command import Fault
 from spanprof.diagnosis.facts import off_by_segment
-from spanprof.durations import lasting
-from spanprof.errors import Fault
-from spanprof.head import CLOCKS, grouped, part_of_program, with_function
-from spanprof.proof import proved
+from spanprof.head import (CLOCKS, OTHERWISE, against_parallelism, against_span, gain_may_be_less, gain_may_be_more,
+                           grouped, is_divided, is_of_one_thread, is_partial, lasting, least_end, lock_binds,
+                           part_of_program, pieces_words, share_covered, tasks_made, tenths, why_not_of_more_threads,
+                           with_function)
 from spanprof.record.run import counter_words
-from spanprof.regions import program_of
+from spanprof.recording import program_of
 from spanprof.report.figures import rounded_down, rounded_up
 from spanprof.report.places import places
 from spanprof.report.units import Units
-from spanprof.validity import (OTHERWISE, against_parallelism, against_span, gain_may_be_less, gain_may_be_more,
-                               is_divided, is_of_one_thread, is_partial, least_end, lock_binds, pieces_words,
-                               share_covered, tasks_made, tenths, why_not_of_more_threads)
 
 LEAST = 0.01    # of the work, or of the program's time, from which on a part of it is reported
 MOST_TOLD = 3

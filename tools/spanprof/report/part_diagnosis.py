@@ -3,7 +3,7 @@ from spanprof.diagnosis.causes import AT_BEST
 from spanprof.diagnosis.sentences import (after_words, change_sentence, loss_name, lost_sentence, several, speed_words,
                                           sure_words, unsure, word_of_best, words_of_threads)
 from spanprof.diagnosis.source_change import diff
-from spanprof.durations import lasting
+from spanprof.head import lasting
 from spanprof.report.figures import PROVED, badge
 from spanprof.report.markup import join, tag
 

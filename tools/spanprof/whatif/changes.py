@@ -6,8 +6,7 @@ A change counts in `count` what it has changed.
 from array import array
 from collections import Counter
 
-from spanprof.program_text import BLOCKS, Statement
-from spanprof.marks import MOST, as_statements
+from spanprof.program_text import BLOCKS, MOST, Statement, as_statements
 
 DROPPED = "a dropped wait"      # as an empty group in its place is named
 

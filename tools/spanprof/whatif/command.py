@@ -8,13 +8,10 @@ from functools import partial
 
 from spanprof import client
 from spanprof.answers import Answers
-from spanprof.command import Console, check_files, count, end_with
-from spanprof.errors import Fault
-from spanprof.marks import as_text, statements
+from spanprof.command import Console, Fault, Version, check_files, count, end_with
 from spanprof.predict.predictions import changed_reported
+from spanprof.program_text import TextFile, as_text, statements
 from spanprof.recording import text_of
-from spanprof.text_file import TextFile
-from spanprof.version import Version
 from spanprof.whatif.creating import costs_for
 from spanprof.whatif.listing import listing
 from spanprof.whatif.numbers import numbers_of

@@ -2,9 +2,9 @@
 from typing import Dict, NamedTuple, Optional
 
 from spanprof import client
-from spanprof.errors import Fault
-from spanprof.limits import is_long
-from spanprof.text_file import TextFile
+from spanprof.client import is_long
+from spanprof.command import Fault
+from spanprof.program_text import TextFile
 
 
 FEW = 6     # threads: a curve of so many schedules is made in less time than a table of one is written and read

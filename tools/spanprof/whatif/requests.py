@@ -3,7 +3,7 @@ import re
 from difflib import get_close_matches
 from typing import Callable, NamedTuple
 
-from spanprof.errors import Fault
+from spanprof.command import Fault
 from spanprof.whatif.changes import Defer, DropDepend, DropName, DropWait, Factor, InForInout, ReadOnly
 from spanprof.whatif.join import Join
 from spanprof.whatif.rename import Rename

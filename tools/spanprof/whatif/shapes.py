@@ -5,9 +5,8 @@ the code before it where that cost less.
 """
 from array import array
 
-from spanprof.program_text import BLOCKS, Statement, is_share, is_shared_out, where
+from spanprof.program_text import BLOCKS, Statement, is_share, is_shared_out, of_stream, where
 from spanprof.whatif.changes import Change
-from spanprof.marks import of_stream
 
 
 class Creating(Change):

@@ -6,8 +6,7 @@ from collections import Counter
 from dataclasses import dataclass, field
 from itertools import compress
 
-from spanprof.program_text import is_programs, is_share, is_shared_out
-from spanprof.marks import as_statements
+from spanprof.program_text import as_statements, is_programs, is_share, is_shared_out
 
 SHORT = 10      # so many times as much as the code between a task and the wait for it does the task cost
 

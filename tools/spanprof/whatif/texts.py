@@ -2,9 +2,8 @@
 from spanprof import client
 from spanprof.command import writing
 from spanprof.head import head_text, read_head
+from spanprof.program_text import Marks, TextFile, as_statements, marks_of_file, of_marks
 from spanprof.remarks import in_json
-from spanprof.marks import Marks, as_statements, marks_of_file, of_marks
-from spanprof.text_file import TextFile
 
 ENCODING = {"encoding": "utf-8", "errors": "replace", "newline": "\n"}
 OF_THE_RUN = ("covers", "not covered", "elapsed", "outside regions", "in other regions", "in parts without tasks",

@@ -3,7 +3,7 @@ import io
 import unittest
 from unittest import mock
 
-from spanprof.errors import OWN_FAULT, Fault
+from spanprof.command import OWN_FAULT, Fault
 from spanprof.predict.machine import Machine, Measured
 from spanprof.predict.program import read_program
 from spanprof.record import calibrate, command

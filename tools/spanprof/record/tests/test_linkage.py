@@ -3,7 +3,7 @@ import tempfile
 import unittest
 from unittest import mock
 
-from spanprof.errors import Fault
+from spanprof.command import Fault
 from spanprof.record.runtime import (ELF, GCC, LLVM, Chosen, Linkage, by_version, choose, is_checked, is_static,
                                      linkage, loads_more, shared_runtimes, symbols, what_it_lacks)
 from spanprof.record.tests.made_up import LDD_GCC, LDD_LLVM, LDD_MISSING, LDD_PLAIN, LDD_STATIC, SYMBOLS

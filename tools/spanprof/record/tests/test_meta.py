@@ -3,7 +3,7 @@ import json
 import os
 import unittest
 
-from spanprof.errors import Fault
+from spanprof.command import Fault
 from spanprof.record.folder import old_meta, write_meta
 from spanprof.recording import open_recording
 from spanprof.tests.in_folder import InFolder

@@ -3,7 +3,7 @@ import unittest
 
 from spanprof.record.summary import program_line, summary
 from spanprof.record.tests.made_up import Answers
-from spanprof.regions import Program, Region
+from spanprof.recording import Program, Region
 
 
 def region(number, text, begin, end, code, place):

@@ -1,7 +1,7 @@
 import unittest
 from unittest import mock
 
-from spanprof.errors import Fault
+from spanprof.command import Fault
 from spanprof.record import folder
 from spanprof.record.runtime import LLVM, Linkage, launched
 

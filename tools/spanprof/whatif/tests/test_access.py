@@ -1,6 +1,6 @@
 import unittest
 
-from spanprof.marks import as_text, statements
+from spanprof.program_text import as_text, statements
 from spanprof.whatif.creating import Costs
 from spanprof.whatif.requests import Request, applied, changes
 from spanprof.whatif.survey import survey

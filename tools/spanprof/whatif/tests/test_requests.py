@@ -1,7 +1,7 @@
 import unittest
 from collections import Counter
 
-from spanprof.errors import Fault
+from spanprof.command import Fault
 from spanprof.whatif.creating import Costs
 from spanprof.whatif.listing import listing
 from spanprof.whatif.requests import Request, changes, find

@@ -1,6 +1,6 @@
 import unittest
 
-from spanprof.marks import as_text, statements
+from spanprof.program_text import as_text, statements
 from spanprof.whatif.changes import DropWait
 from spanprof.whatif.join import Join
 from spanprof.whatif.shapes import Cutoff, Grain, OwnTask, Split
