@@ -4,7 +4,6 @@ import signal
 import sys
 
 from spanprof.command import NO_PROGRAM, Console, end_with, show, version_of
-from spanprof.front.help_texts import GENERAL, help_of
 from spanprof.front.routes import HELP, OTHER_NAMES, PROGRAM, TOOL, TOOLS, VERSION, main_of, route
 
 CONSOLE = Console("spanprof")
@@ -34,6 +33,7 @@ def run_tool(words):
 
 def help_with(words):
     """The help of a command, or of all of them."""
+    from spanprof.front.help_texts import GENERAL, help_of      # only help needs them
     name = words[0] if words else ""
     if not name:
         print(GENERAL, end="")

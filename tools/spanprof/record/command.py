@@ -5,7 +5,7 @@ import re
 import signal
 
 from spanprof.command import OWN_FAULT, Fault, Version, count, end_with, percent, show, unit
-from spanprof.diagnosis.compare import is_slower
+from spanprof.diagnosis.output import is_slower
 from spanprof.record.folder import check_name, is_launcher
 from spanprof.record.run import CONSOLE, end_as, say
 from spanprof.record.runtime import launched

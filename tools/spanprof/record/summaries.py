@@ -9,8 +9,7 @@ from typing import NamedTuple
 from spanprof.answers import Answers
 from spanprof.command import Fault, show
 from spanprof.diagnosis.calls import IN_CALLS, is_of_ranks, samples_in
-from spanprof.diagnosis.compare import compared, lines as comparison_lines
-from spanprof.diagnosis.output import output_of
+from spanprof.diagnosis.output import compared, comparison_lines, output_of
 from spanprof.head import lasting
 from spanprof.record.folder import is_child, old_meta, rank_in
 from spanprof.record.run import processor_time, tell

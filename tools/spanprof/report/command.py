@@ -6,8 +6,7 @@ import sys
 
 from spanprof.answers import Answers
 from spanprof.command import Console, Fault, Progress, Version, check_files, count, end_with, percent, show, writing
-from spanprof.diagnosis.compare import as_json as comparison_json, compared, is_slower, lines as comparison_lines
-from spanprof.diagnosis.output import output_of
+from spanprof.diagnosis.output import compared, comparison_json, comparison_lines, is_slower, output_of
 from spanprof.recording import open_recording, text_of
 from spanprof.report.page import page
 from spanprof.report.stacks import folded, stacks

@@ -11,10 +11,9 @@ from spanprof.command import Fault
 from spanprof.diagnosis import facts as module
 from spanprof.diagnosis.calls import AT_START, RUNTIME, Sampled, calls_of
 from spanprof.diagnosis.diagnose import diagnose
-from spanprof.diagnosis.facts import (Facts, denied_time, function_in, inner_regions, of_those_at_once, off_by_segment,
-                                      regions_of, runtime_name, set_meta, set_off, set_ranks, set_waiting,
-                                      starting_shares, stolen_share, used_by_others)
-from spanprof.diagnosis.lock_times import Held, locks_of
+from spanprof.diagnosis.facts import (Facts, Held, denied_time, function_in, inner_regions, locks_of, of_those_at_once,
+                                      off_by_segment, regions_of, runtime_name, set_meta, set_off, set_ranks,
+                                      set_waiting, starting_shares, stolen_share, used_by_others)
 from spanprof.diagnosis.places import AFTER_REGION, OWN, SERIAL
 from spanprof.diagnosis.sentences import sure_words
 from spanprof.diagnosis.tests.worked import MS, TEXT, facts, place, program
