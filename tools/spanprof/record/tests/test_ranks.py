@@ -16,8 +16,8 @@ class Ranks(unittest.TestCase):
 
     def test_names(self):
         self.assertEqual([folder.of_rank("/tmp/m", rank) for rank in (None, 7)], ["/tmp/m", "/tmp/m.rank7"])
-        self.assertEqual([folder.is_child("/tmp/m%s.spanprof" % end) for end in ("", ".rank0", ".child2",
-                                                                                ".rank0.child1", ".child")],
+        self.assertEqual([folder.is_child("/tmp/m%s.spanprof" % end) for end in (
+            "", ".rank0", ".child2", ".rank0.child1", ".child")],
                          [False, False, True, True, False])
 
     def test_launchers(self):
