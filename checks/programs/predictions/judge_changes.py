@@ -23,9 +23,7 @@ from spanprof.predict.interval import CHANGED, WIDTHS
 from spanprof.predict.machine import read_machine
 from spanprof.predict.recorded import GNU, LLVM, recorded_as
 from spanprof.program_text import as_text, statements
-from spanprof.whatif.creating import costs_for
-from spanprof.whatif.requests import Request, applied, changes
-from spanprof.whatif.survey import survey
+from spanprof.whatif.requests import Request, applied, changes, costs_for, survey
 
 THREADS = 4
 BEFORE, AFTER = Case((THREADS,), THREADS, 0.05, 0.20), Case((THREADS,), THREADS, 0.05, 0.20, True)

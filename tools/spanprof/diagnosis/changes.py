@@ -9,16 +9,13 @@ from dataclasses import dataclass
 from typing import List, NamedTuple, Tuple
 
 from spanprof import client
+from spanprof.answers import greedy_end
 from spanprof.command import Fault, Progress, each
 from spanprof.diagnosis.calls import innermost
 from spanprof.diagnosis.losses import holds_neighbours, kind_of_starved, most_shared
 from spanprof.diagnosis.places import LEAST_HOLDERS, OF_THREADS, SERIAL, SHARE, in_text
 from spanprof.program_text import BARRIER
-from spanprof.whatif.creating import costs_for
-from spanprof.whatif.numbers import greedy_end
-from spanprof.whatif.requests import Request, applied, changes
-from spanprof.whatif.survey import survey
-from spanprof.whatif.trials import best_first, seconds_for
+from spanprof.whatif.requests import Request, applied, best_first, changes, costs_for, seconds_for, survey
 
 LEAST_TIMES = 2     # that a location is written by tasks of a place
 MOST_NAMES = 8      # that are renamed one by one

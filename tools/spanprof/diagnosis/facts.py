@@ -14,6 +14,7 @@ from itertools import accumulate, compress
 from typing import Dict, List, Optional
 
 from spanprof import client
+from spanprof.answers import numbers_of
 from spanprof.command import reading
 from spanprof.diagnosis.calls import (AT_START, ONE_AT_A_TIME, RUNTIME, Sampled, calls_of, in_system, interpreter_of,
                                       is_loading, is_of_ranks, is_start, plain, shares)
@@ -24,7 +25,6 @@ from spanprof.program_text import BEGINNING, TextFile, read_once
 from spanprof.recording import document, program_of, union
 from spanprof.segment_table import code_in
 from spanprof.time_breakdown import NoBreakdown, Rows, breakdown_of, idle_by_place
-from spanprof.whatif.numbers import numbers_of
 
 LEAST_INSIDE = 0.05    # of a place's samples, in a function that has a lock
 LITTLE = 0.02       # of the time in code: threads preempted for less keep others waiting for little

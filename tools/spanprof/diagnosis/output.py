@@ -21,8 +21,7 @@ from spanprof.diagnosis.sentences import LABEL, WIDTH, change_sentence, lost_sen
 from spanprof.head import lasting
 from spanprof.recording import open_recording
 from spanprof.source_lines import Sources
-from spanprof.whatif.texts import Text, version_of
-from spanprof.whatif.trials import seconds_for
+from spanprof.whatif.requests import Text, seconds_for, version_of
 
 SCHEMA = 1
 MILLION = 1e6

@@ -10,8 +10,7 @@ from spanprof.diagnosis.places import SERIAL
 from spanprof.diagnosis.tests.worked import TEXT, facts, place, program
 from spanprof.head import read_head
 from spanprof.program_text import Statement, of_stream, statements
-from spanprof.whatif.requests import Request
-from spanprof.whatif.survey import survey
+from spanprof.whatif.requests import Request, survey
 
 TASKS = "task at image.c:25"
 
