@@ -1,9 +1,9 @@
 """The runs of a long text as timelines: of each thread so many bins, with how busy it is there and with what most."""
 from operator import sub
 
-from spanprof.report.timeline_data import DIGITS
+from spanprof.recording import times_in
 from spanprof.report.colours import BARS
-from spanprof.times_file import times_in
+from spanprof.report.timeline_data import DIGITS
 
 COLOURS = len(BARS)
 MOST_BINS = 32768           # of a thread

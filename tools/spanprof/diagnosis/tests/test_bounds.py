@@ -1,8 +1,8 @@
 import unittest
 from types import SimpleNamespace
 
-from spanprof.diagnosis.bounds import bound_of, bounds
 from spanprof.diagnosis.calls import Sampled
+from spanprof.diagnosis.diagnose import bound_of, bounds
 from spanprof.diagnosis.losses import Loss
 from spanprof.diagnosis.places import OF_THREADS
 from spanprof.diagnosis.tests.worked import MS, facts, place

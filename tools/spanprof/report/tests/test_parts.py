@@ -4,7 +4,7 @@ import unittest
 from html import unescape
 from unittest.mock import patch
 
-from spanprof.regions import Program, Region
+from spanprof.recording import Program, Region
 from spanprof.remarks import remark_of
 from spanprof.report.part_curve import curve_part, step_of
 from spanprof.report.part_diagnosis import first_part
