@@ -136,9 +136,10 @@ def bound_of(facts, now, loss, found=()):
                 is_between=0 < low < after)
 
 
-def while_asleep(facts, bench, step):
-    """The same step where other threads run meanwhile, if these win back much of what sleep costs."""
-    number = 0 if is_of_programs(facts, step.place) else threads_for_sleep(facts)
+def while_asleep(facts, bench, step, is_crowded=False):
+    """The same step where other threads run meanwhile, if these win back much of what sleep costs; none where threads
+    wait for processors already."""
+    number = 0 if is_crowded or is_of_programs(facts, step.place) else threads_for_sleep(facts)
     least = least_time(facts, facts.code + facts.recorder)
     after = max(least, predicted(step.before, bench.end([]), bench.end_on(number))) if number else step.before
     if step.before - after < HIDDEN * step.gain:
@@ -151,7 +152,8 @@ def bounds(facts, now, found, bench=None):
     least = {kind: least_of(facts, found, kind) for kind, cause in BY_KIND.items() if cause.is_bound}
     steps = [bound_of(facts, now, loss, found) for loss in found
              if loss.kind in least and loss.time >= least[loss.kind]]
-    return [while_asleep(facts, bench, step) if bench and step.kind == "sleep" else step for step in steps]
+    is_crowded = any(loss.kind == "too_many_threads" for loss in found)
+    return [while_asleep(facts, bench, step, is_crowded) if bench and step.kind == "sleep" else step for step in steps]
 
 
 def holder(facts, name):
