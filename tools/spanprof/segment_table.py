@@ -184,13 +184,6 @@ class Code:
         is_first = [not kind.after for kind in self.kinds]
         return array("I", compress(range(len(self.of)), map(is_first.__getitem__, self.of)))
 
-    def task_costs(self):
-        """Of each task all its segments."""
-        costs = [0] * (self.tasks + 1)
-        for task, cost in zip(self.task, self.cost):
-            costs[task] += cost
-        return costs
-
     def parts(self):
         """How many of the tasks stand for a thread's own code between two barriers."""
         return sum(self.kinds[self.of[s]].task_place == OF_A_THREAD for s in self.own)
