@@ -1,6 +1,6 @@
-"""Programs that nothing was fitted to: each with a change that was made to it, and on gcc's runtime (RUNTIME=gnu) others
-without one. SET=shapes names a later set, with changes, for both. Whoever changes the model by what is measured on them
-writes others."""
+"""Programs that nothing was fitted to: each with a change that was made to it, and on gcc's runtime (RUNTIME=gnu)
+others without one. SET=shapes names a later set, with changes, for both. Whoever changes the model by what is measured
+on them writes others."""
 import os
 
 from changes import GRAIN, Made
