@@ -1,6 +1,6 @@
-/* The shortest schedule of jobs that all go through the same machines, by branch and bound: tasks down to the fourth job
- * of an order; for each first job they know the best schedule so far, and add theirs under a lock; rewritten, tasks
- * down to the third job. */
+/* The shortest schedule of jobs that all go through the same machines, by branch and bound: tasks down to the fourth
+ * job of an order; for each first job they have the best schedule so far as a bound, and add theirs in a critical
+ * section; rewritten, tasks down to the third job. */
 #include <stdio.h>
 
 enum { jobs = 12, machines = 5 };
