@@ -6,7 +6,7 @@ import unittest
 from unittest import mock
 
 import install
-from spanprof.errors import Fault
+from spanprof.command import Fault
 from spanprof.tests.in_folder import InFolder
 
 
@@ -20,7 +20,7 @@ class Plan(unittest.TestCase):
                      "share/zsh/site-functions/_spanprof", "share/spanprof/spanprof/record/command.py",
                      "share/spanprof/spanprof/report/template/page.html", "share/spanprof/spanprof/client.py",
                      "share/spanprof/spanprof/conformance/judge/verdicts.py",
-                     "share/spanprof/conformance/harness/log.c", "share/spanprof/spanprof/version.py",
+                     "share/spanprof/conformance/harness/log.c", "share/spanprof/spanprof/folders.py",
                      "share/spanprof/VERSION"):
             self.assertIn(path, places)
         self.assertEqual(len(places), len(set(places)))

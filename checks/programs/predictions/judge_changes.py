@@ -18,14 +18,12 @@ from measured import HERE
 
 from comparing import largest
 from spanprof.head import comments, read_head
-from spanprof.marks import as_text, statements
 from spanprof.predict.estimate import estimate
 from spanprof.predict.interval import CHANGED, WIDTHS
 from spanprof.predict.machine import read_machine
 from spanprof.predict.recorded import GNU, LLVM, recorded_as
-from spanprof.whatif.creating import costs_for
-from spanprof.whatif.requests import Request, applied, changes
-from spanprof.whatif.survey import survey
+from spanprof.program_text import as_text, statements
+from spanprof.whatif.requests import Request, applied, changes, costs_for, survey
 
 THREADS = 4
 BEFORE, AFTER = Case((THREADS,), THREADS, 0.05, 0.20), Case((THREADS,), THREADS, 0.05, 0.20, True)

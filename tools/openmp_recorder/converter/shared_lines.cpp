@@ -14,8 +14,8 @@ constexpr int64_t at_once = 20000000;  // nanoseconds, five samples of a thread
 constexpr size_t most_functions = 16;
 constexpr uint64_t longest = 1 << 14, most_bytes = 512;  // of a function, and of what follows a sample in its loop
 constexpr uint64_t least = 100;  // of all sampled time, the part of a function that is looked at
-constexpr double least_met = 5;  // uses on the same line, below which they say nothing
-constexpr size_t most_pairs = 1 << 22;  // of uses that are compared: more tell no more
+constexpr double least_met = 5;  // uses on the same line, below which they show nothing
+constexpr size_t most_pairs = 1 << 22;  // of uses that are compared: more show no more
 
 using Function = std::pair<const ModuleOfRun *, uint64_t>;  // where it begins in the file
 
@@ -99,7 +99,7 @@ struct Met {
   double times[2] = {}, on_line[2] = {};  // of the own thread, and of others
 };
 
-// The most that is within the spread of such counts: few tell hardly more than whether lines are shared or not.
+// The most that is within the spread of such counts: few show hardly more than whether lines are shared or not.
 double shared_part(const Met &met) {
   auto [own, others] = met.on_line;
   if (own + others < least_met || others == 0) return 0;

@@ -3,11 +3,10 @@ import argparse
 
 from spanprof import client
 from spanprof.answers import Answers
-from spanprof.command import Console, check_files, end_with, writing
+from spanprof.command import Console, Version, check_files, end_with, writing
 from spanprof.graph.dot import lines
+from spanprof.program_text import TextFile
 from spanprof.recording import text_of
-from spanprof.text_file import TextFile
-from spanprof.version import Version
 
 CONSOLE = Console("spanprof graph")
 DESCRIPTION = """Prints the graph of a program text: a row for each segment with its task, its cost and its

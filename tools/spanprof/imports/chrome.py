@@ -7,7 +7,7 @@ from collections import defaultdict
 from dataclasses import dataclass, field
 from typing import NamedTuple, Tuple
 
-from spanprof.errors import Fault
+from spanprof.command import Fault
 from spanprof.imports.slices import Flow, Slice, tasks_of
 from spanprof.imports.tasks import Imported
 

@@ -4,15 +4,12 @@ import os
 import shutil
 from datetime import datetime, timezone
 
-from spanprof.command import naming
-from spanprof.errors import Fault
+from spanprof.command import Fault, naming
 from spanprof.imports.program import body, head, unit_of
 from spanprof.imports.tasks import in_order
 from spanprof.imports.times import run_of
-from spanprof.record.files import check_folder
-from spanprof.record.meta import write_meta
+from spanprof.record.folder import PART, check_folder, write_meta
 from spanprof.recording import ENDING, TEXT, TIMES
-from spanprof.record.work import PART
 
 
 def fill(folder, path, name, reported):

@@ -2,8 +2,7 @@
 import json
 
 from spanprof.head import NANOSECONDS
-from spanprof.marks import as_text
-from spanprof.program_text import Statement
+from spanprof.program_text import Statement, as_text
 
 MOST_COST, MOST_WORK = 10 ** 12, 10 ** 15   # of a text
 

@@ -7,7 +7,7 @@ from bisect import bisect_left, bisect_right
 from dataclasses import dataclass, field
 from typing import List, NamedTuple, Optional, Tuple
 
-from spanprof.errors import Fault
+from spanprof.command import Fault
 from spanprof.imports.tasks import timed
 
 ROUNDED = 1000      # nanoseconds by which times of whole microseconds may be wrong

@@ -3,13 +3,12 @@ import argparse
 import sys
 
 from spanprof.answers import Answers
-from spanprof.command import Console, check_files, end_with
+from spanprof.client import proved
+from spanprof.command import Console, Version, check_files, end_with
 from spanprof.head import head_text, warning_lines
 from spanprof.path.table import lines, write_csv
-from spanprof.proof import proved
 from spanprof.recording import text_of
 from spanprof.report.places import places
-from spanprof.version import Version
 
 CONSOLE = Console("spanprof-path")
 DESCRIPTION = """Lists the places in the source with their shares of the span (the critical path that `slack` prints)

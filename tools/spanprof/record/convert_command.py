@@ -4,18 +4,13 @@ import os
 import shutil
 import sys
 
-from spanprof.command import Console, end_with, naming, writing
-from spanprof.converting import (convert, convert_into, converter, has_failed, made_text, no_region, of_region)
-from spanprof.errors import Fault
-from spanprof.program_text import HEADER
-from spanprof.record.files import check_folder
-from spanprof.record.messages import in_words
-from spanprof.record.meta import old_meta, write_meta
-from spanprof.record.options import check_name, unit
+from spanprof.command import Console, Fault, Version, end_with, naming, unit, writing
+from spanprof.converting import convert, convert_into, converter, has_failed, made_text, no_region, of_region
+from spanprof.program_text import HEADER, TextFile
+from spanprof.record.folder import check_folder, check_name, old_meta, write_meta
 from spanprof.record.stretch import moment, write_part as write_part_of_run
 from spanprof.recording import ENDING, LOG, META, is_recording, made_folder, open_recording
-from spanprof.text_file import TextFile
-from spanprof.version import Version
+from spanprof.remarks import sentence_of
 
 CONSOLE = Console("spanprof-convert")
 BYTES = "surrogateescape"   # which keeps them, whatever they encode
@@ -88,7 +83,7 @@ def variables(chosen, folder):
 def tell_all(reported, made="", name=""):
     """Ends with a fault where something could not be done. Files are named as they are in the end."""
     for one in reported:
-        CONSOLE.say(in_words(one).replace(made, name) if made else in_words(one))
+        CONSOLE.say(sentence_of(one).replace(made, name) if made else sentence_of(one))
     if has_failed(reported):
         raise Fault("nothing is written; --out names a recording elsewhere")
 

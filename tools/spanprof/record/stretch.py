@@ -3,15 +3,12 @@ import os
 import re
 import shutil
 
-from spanprof.command import naming
+from spanprof.command import Fault, naming, reading
 from spanprof.diagnosis.calls import plain
 from spanprof.diagnosis.facts import function_in
-from spanprof.errors import Fault, reading
 from spanprof.head import head_of, head_text
 from spanprof.program_text import BLOCKS, HEADER
-from spanprof.recording import REGIONS, TEXT, TIMES
-from spanprof.regions import program_of
-from spanprof.times_file import times_in
+from spanprof.recording import REGIONS, TEXT, TIMES, program_of, times_in
 
 ANY_BYTES = {"encoding": "utf-8", "errors": "surrogateescape"}
 SECONDS, WORD = re.compile(r"\d+(\.\d*)?s?"), re.compile(r"\s*(\w+|\})?")

@@ -1,29 +1,75 @@
 """Prints the diagnosis of a recording, and all that is known of the run where that is asked for; of several processes
-of MPI of the one with the most work, and of the others a line each."""
+of MPI of the one with the most work or for which the others wait, and of the others a line each.
+"""
 import os
 import shlex
+import statistics
+from typing import NamedTuple
 
 from spanprof.answers import Answers
-from spanprof.breakdown_lines import lines_of
-from spanprof.command import show
-from spanprof.diagnosis.compare import compared, lines as comparison_lines
-from spanprof.diagnosis.output import output_of
-from spanprof.errors import Fault
-from spanprof.record.asleep import asleep_in
-from spanprof.record.console import tell
-from spanprof.record.counters import words_of
-from spanprof.record.facts import processor_time
-from spanprof.record.meta import old_meta
-from spanprof.record.ranks import is_child, rank_in
-from spanprof.record.summary import named, other_region, summary
-from spanprof.record.waits import waited_for, waits_line, waits_of
+from spanprof.command import Fault, show
+from spanprof.diagnosis.calls import IN_CALLS, is_of_ranks, samples_in
+from spanprof.diagnosis.output import compared, comparison_lines, output_of
+from spanprof.head import lasting
+from spanprof.record.folder import is_child, old_meta, rank_in
+from spanprof.record.run import processor_time, tell
 from spanprof.recording import open_recording
-from spanprof.regions import program_of
-from spanprof.run_json import run_json, write_json
-from spanprof.time_breakdown import recorded_breakdown
+from spanprof.time_breakdown import lines_of, recorded_breakdown
 
+MUCH = 0.05     # of a rank's sampled time
+LONGER = 1.5    # than the rank that is waited for
 MORE = "spanprof-report %s"
 OF_SEVERAL = "%s used the most processor time of %d recorded processes"
+
+
+class Waits(NamedTuple):
+    """Of one rank, in microseconds of its samples."""
+    rank: int
+    time: int
+    sampled: int
+
+    @property
+    def shown(self):
+        return lasting(1000 * self.time)
+
+
+def waits_of(recording):
+    """None of a process that is no rank, or without samples."""
+    rank, time, sampled = rank_in(recording.folder), 0, 0
+    for _, did, one, calls in samples_in(recording.file("calls")):
+        if did in IN_CALLS:
+            sampled += one
+            time += one * is_of_ranks(calls)
+    return Waits(rank, time, sampled) if rank is not None and sampled else None
+
+
+def halves(waits):
+    """The one that waits least, and the others, the shortest first."""
+    first, *others = sorted(waits, key=lambda one: one.time)
+    return first, others
+
+
+def waited_for(waits):
+    """The rank for which the others wait; None where no rank waits much less than they do."""
+    if len(waits) < 2:
+        return None
+    first, others = halves(waits)
+    usual = statistics.median(one.time for one in others)
+    sampled = statistics.median(one.sampled for one in others)
+    return first if usual - first.time > MUCH * sampled and usual > LONGER * first.time else None
+
+
+def waits_line(waits):
+    """In one line; empty where they do not wait much."""
+    first = waited_for(waits)
+    if first:
+        _, others = halves(waits)
+        return "the others wait for rank %d: %s to %s in calls of MPI, it %s" % (
+            first.rank, others[0].shown, others[-1].shown, first.shown)
+    if len(waits) < 2 or sum(one.time for one in waits) <= MUCH * sum(one.sampled for one in waits):
+        return ""
+    first, others = halves(waits)
+    return "each waits in calls of MPI: %s to %s, none much less than the others" % (first.shown, others[-1].shown)
 
 
 def answered(recording):
@@ -32,6 +78,7 @@ def answered(recording):
 
 
 def rank_line(recording, answers):
+    from spanprof.record.summary import other_region    # only ranks have other recordings
     waits = waits_of(recording)
     return other_region(answers) + (", waits %s in calls of MPI" % waits.shown if waits else "")
 
@@ -67,11 +114,11 @@ def print_summary(session, recording, answers, others, news, is_cut):
         return
     account, no_breakdown = recorded_breakdown(answers)
     if options.all or not (diagnosis or is_cut):
-        show(summary(answers, news + list(filter(None, [session.others, why])), others, lines_of(account, no_breakdown),
-                     program_of(recording.text), asleep_in(recording, answers)))
-        show(named("losses", diagnosis.sum_lines() if diagnosis else []) +
-             named("counters", words_of(recording.meta.get("counters") or {})))
+        from spanprof.record.summary import all_lines   # only --all has these
+        show(all_lines(recording, answers, diagnosis, lines_of(account, no_breakdown),
+                       news + list(filter(None, [session.others, why])), others))
     if options.json:
+        from spanprof.run_json import run_json, write_json
         write_json(options.json, run_json(answers, diagnosis, account, no_breakdown))
 
 

@@ -3,7 +3,7 @@
 A source is written in a few words that the tests read again: `span work`, `curve 4 end`, `place 3 cost`. `A - B` is a
 difference, `A / B` a quotient, `percent A / B` the same in per cent.
 """
-from spanprof.proof import proved
+from spanprof.client import proved
 from spanprof.report.markup import join, tag
 from spanprof.report.units import grouped
 

@@ -1,9 +1,9 @@
 """The runs of a long text as timelines: of each thread so many bins, with how busy it is there and with what most."""
 from operator import sub
 
-from spanprof.report.timeline_data import DIGITS
+from spanprof.recording import times_in
 from spanprof.report.colours import BARS
-from spanprof.times_file import times_in
+from spanprof.report.timeline_data import DIGITS
 
 COLOURS = len(BARS)
 MOST_BINS = 32768           # of a thread
@@ -42,13 +42,12 @@ class Levels:
 
     def words_of(self, thread):
         """Two digits for each bin: how busy, to a 35th, and with the tasks of which colour."""
-        out, first = [], thread * self.bins * COLOURS
-        for at in range(first, first + self.bins * COLOURS, COLOURS):
-            parts = self.busy[at:at + COLOURS]
-            whole = min(sum(parts), self.width)
-            share = -(-FULL * whole // self.width)
-            out.append(DIGITS[share] + DIGITS[parts.index(max(parts))])
-        return "".join(out)
+        first, last = (row * self.bins * COLOURS for row in (thread, thread + 1))
+        busy = {colour: column for colour in range(COLOURS)
+                if any(column := self.busy[first + colour:last:COLOURS]) or not colour}
+        marks, width = [DIGITS[colour] for colour in busy], self.width
+        return "".join(DIGITS[-(-FULL * min(sum(parts), width) // width)] + marks[parts.index(max(parts))]
+                       for parts in zip(*busy.values()))
 
     def data(self, scale=1):
         """For the script: its times are so many times those of the page's unit."""

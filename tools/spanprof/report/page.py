@@ -3,7 +3,7 @@ import json
 import os
 from string import Template
 
-from spanprof.progress import Progress, each
+from spanprof.command import Progress, each
 from spanprof.report.colours import colour_rules
 from spanprof.report.markup import join, markup
 from spanprof.report.part_changes import changes_part

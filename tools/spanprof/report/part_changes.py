@@ -2,7 +2,7 @@
 import shlex
 
 from spanprof.diagnosis.sentences import after_words, change_sentence
-from spanprof.durations import lasting
+from spanprof.head import lasting
 from spanprof.report.markup import note, section, tag
 from spanprof.report.tables import table
 

@@ -1,8 +1,8 @@
 """The speedup on more and more threads, between `least` and `bound`, with the point that the run reached."""
+from spanprof.head import gain_may_be_less, gain_may_be_more, least_end, why_not_of_more_threads
 from spanprof.report.figures import MEASURED, PROVED, badges
 from spanprof.report.markup import join, note, section, tag
 from spanprof.report.true_times import SAID as TRUE, marks as true_marks, shown_points
-from spanprof.validity import gain_may_be_less, gain_may_be_more, least_end, why_not_of_more_threads
 
 WIDTH, HEIGHT = 720, 380
 COLUMNS = (("end", "the greedy schedule ends at"), ("least", "no run before"), ("bound", "no greedy schedule after"))

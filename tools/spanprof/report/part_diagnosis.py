@@ -1,9 +1,9 @@
 """The first screen: a sentence, three times, where the threads' time went, the change as a diff, the plan, how sure."""
 from spanprof.diagnosis.causes import AT_BEST
+from spanprof.diagnosis.names import diff
 from spanprof.diagnosis.sentences import (after_words, change_sentence, loss_name, lost_sentence, several, speed_words,
                                           sure_words, unsure, word_of_best, words_of_threads)
-from spanprof.diagnosis.source_change import diff
-from spanprof.durations import lasting
+from spanprof.head import lasting
 from spanprof.report.figures import PROVED, badge
 from spanprof.report.markup import join, tag
 

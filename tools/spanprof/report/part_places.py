@@ -1,5 +1,4 @@
 """One table of places: work, part of the critical path, slack, the idle time that they cause, and tasks."""
-from statistics import median_low
 
 from spanprof.report.figures import MEASURED, PROVED, badges, percent
 from spanprof.report.markup import join, note, section, tag
@@ -7,7 +6,7 @@ from spanprof.report.tables import bar, place_cell, table
 
 MOST_PLACES = 40
 HEADS = ("place", "work", "of the work", "on the critical path", "least slack", "idle while it ran",
-         "scheduling delay while it was ready", "tasks", "the median task")
+         "scheduling delay while it was ready", "tasks", "a task on average")
 
 
 def share_cell(show, part, whole, source, kind):
@@ -25,13 +24,13 @@ def idle_cells(view, place):
 
 
 def task_cells(view, place):
-    """Of the place where tasks begin: how many, and what the median one costs with all its segments."""
+    """Of the place where tasks begin: how many, and what one costs on average with all its segments."""
     kind, made = view.answers.code.kinds[place.kinds[0]], view.task_place_at(place)
     if kind.after or kind.is_root:
         return ["", ""]
     named = "task-place %d " % made.number
-    return [view.figures.number(len(made.tasks), named + "count", view.shape_kind),
-            view.figures.time(median_low(made.tasks), named + "median", view.cost_kind)]
+    return [view.figures.number(made.tasks, named + "count", view.shape_kind),
+            view.figures.time(made.cost / made.tasks, "%scost / %scount" % (named, named), view.cost_kind)]
 
 
 def row(view, place):

@@ -1,5 +1,5 @@
 """The timelines: the run as it was, above the greedy schedule on the same threads. The page's script draws them."""
-from spanprof.regions import UNKNOWN, program_of
+from spanprof.recording import UNKNOWN, program_of
 from spanprof.report.figures import MEASURED, PROVED, RECORDED, badge, badges
 from spanprof.report.markup import details, join, note, section, tag
 from spanprof.report.view import COLOURS

@@ -1,5 +1,4 @@
 """Sums over the segments, or over the tasks, that stand at one place in the source."""
-from array import array
 from dataclasses import dataclass, field
 from typing import Sequence
 
@@ -18,7 +17,7 @@ class Place:
     slack: int = 0
     number: int = 0
     kinds: Sequence[int] = field(default_factory=list)  # of its segments
-    tasks: Sequence[int] = field(default_factory=lambda: array("Q"))     # what each costs with all its segments
+    tasks: int = 0      # how many begin there
 
 
 def by_name(answers, names):
@@ -48,7 +47,7 @@ def task_places(answers):
     code, root = answers.code, ROOTS[bool(answers.head.whole)]
     names = [kind.task_place or (root if kind.is_root else "a task") for kind in code.kinds]
     found = by_name(answers, names)
-    add = [found[name].tasks.append for name in names]
-    for kind, cost in zip(map(code.of.__getitem__, code.firsts()), code.task_costs()):
-        add[kind](cost)
+    for (kind, _), (count, *_) in code.sums.items():
+        if not code.kinds[kind].after:
+            found[names[kind]].tasks += count
     return numbered(found.values(), lambda place: (-place.cost, place.name))

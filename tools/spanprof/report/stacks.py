@@ -1,8 +1,8 @@
 """Samples of calls for other viewers, as folded stacks (flamegraph.pl, speedscope.app)."""
 from collections import Counter
 
+from spanprof.command import Fault, reading
 from spanprof.diagnosis.calls import IN_CALLS
-from spanprof.errors import Fault, reading
 
 ASLEEP = ";[asleep]"
 

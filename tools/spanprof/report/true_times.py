@@ -1,7 +1,7 @@
 """The true speedup of the program: its unrecorded runs on several numbers of threads, next to the text's curve."""
 from typing import List, NamedTuple
 
-from spanprof.errors import DAMAGE
+from spanprof.command import DAMAGE
 from spanprof.recording import scale_of
 from spanprof.report.markup import join, tag
 

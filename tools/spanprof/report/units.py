@@ -50,7 +50,7 @@ class Units:
 
     def exact(self, value):
         """The number of the text with its unit."""
-        return grouped(value) + (" " + self.name if self.name else "")
+        return grouped(value, int(value % 1 > 0)) + (" " + self.name if self.name else "")
 
     def plain(self, value):
         """The same without a unit that is a number too."""
@@ -63,5 +63,5 @@ class Units:
             scale = size / self.nanoseconds
             if size <= self.nanoseconds or round(rounded(abs(value) / scale, DIGITS, way), DIGITS) >= 1:
                 break
-        digits = 0 if scale == 1 else digits_of(value / scale, way)
+        digits = int(value % 1 > 0) if scale == 1 else digits_of(value / scale, way)
         return Shown("%s %s" % (grouped(rounded(value / scale, digits, way), digits), name), scale)

@@ -13,8 +13,7 @@ from spanprof.report.levels import levels_in, levels_of_greedy
 from spanprof.report.places import places, task_places
 from spanprof.report.true_times import true_times_beside
 from spanprof.report.units import Units
-from spanprof.source import Sources
-from spanprof.source_lines import OF_A_STATEMENT, line_of, stretches
+from spanprof.source_lines import OF_A_STATEMENT, Sources, line_of, stretches
 from spanprof.time_breakdown import recorded_breakdown, times_name
 
 COLOURS = len(BARS)

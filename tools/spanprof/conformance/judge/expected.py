@@ -11,10 +11,10 @@ import pathlib
 import shlex
 from dataclasses import dataclass
 
-from spanprof.conformance.generate.constructs import constructs
+from spanprof.command import Fault
 from spanprof.conformance.data import DATA
+from spanprof.conformance.generate.constructs import constructs
 from spanprof.conformance.run.mutants import family_of
-from spanprof.errors import Fault
 
 USUAL = DATA / "expected.txt"
 NAMES = ("family", "runtime", "kind", "rule", "tasks", "program", "setting", "threads", "has")

@@ -5,8 +5,8 @@ import shutil
 import subprocess
 from dataclasses import dataclass
 
+from spanprof.command import Fault
 from spanprof.conformance.judge.exclusion import first_overlap
-from spanprof.errors import Fault
 
 BUILT = pathlib.Path(__file__).resolve().parents[4] / "crates" / "spanprof" / "out" / "spanprof"
 

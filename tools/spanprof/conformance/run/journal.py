@@ -7,7 +7,7 @@ import hashlib
 import json
 import pathlib
 
-from spanprof.errors import Fault
+from spanprof.command import Fault
 
 
 class OtherCampaign(Fault):

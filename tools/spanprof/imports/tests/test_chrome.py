@@ -4,7 +4,7 @@ import json
 import os
 import unittest
 
-from spanprof.errors import Fault
+from spanprof.command import Fault
 from spanprof.imports.chrome import read
 from spanprof.imports.tasks import in_order
 from spanprof.report.tests import worked

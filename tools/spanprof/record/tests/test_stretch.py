@@ -1,7 +1,7 @@
 """Parts of a recorded run as recordings of their own."""
 import os
 
-from spanprof.errors import Fault
+from spanprof.command import Fault
 from spanprof.record.stretch import by_segment, cut, moment, region_lines, write_part
 from spanprof.recording import open_recording
 from spanprof.tests.in_folder import InFolder

@@ -9,10 +9,9 @@ from unittest import mock
 
 from spanprof.answers import take_runs
 from spanprof.record import summaries
-from spanprof.record.messages import Messages
 from spanprof.record.session import Recorded
 from spanprof.record.tests.made_up import Answers, Head
-from spanprof.remarks import remark_of
+from spanprof.remarks import Messages, remark_of
 from spanprof.tests.in_folder import InFolder
 from spanprof.tests.recordings import recording
 

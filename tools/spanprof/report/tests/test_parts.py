@@ -4,7 +4,7 @@ import unittest
 from html import unescape
 from unittest.mock import patch
 
-from spanprof.regions import Program, Region
+from spanprof.recording import Program, Region
 from spanprof.remarks import remark_of
 from spanprof.report.part_curve import curve_part, step_of
 from spanprof.report.part_diagnosis import first_part
@@ -94,7 +94,7 @@ class OfOneProgram(Patched):
     def test_places(self):
         words = seen(places_part(self.view))
         self.assertIn("6 segments are on the critical path", words)
-        self.assertRegex(words, r"task at mesh.c:10 #pragma omp task depend\(in: x\) 14 µs 34.1 % 19.4 % 0 µs 2 7 µs")
+        self.assertRegex(words, r"task at mesh.c:10 #pragma omp task depend\(in: x\) 14 µs 34.1 % 19.4 % 0 µs 2 7.5 µs")
         self.assertNotIn("idle while it ran", words)
 
     def test_idle_time_by_place(self):

@@ -9,7 +9,7 @@ import os
 import sys
 from unittest import mock
 
-from spanprof.errors import Fault
+from spanprof.command import Fault
 from spanprof.report.tests.worked_files import FOLDER, path
 from spanprof.report.true_times import NAMES, Point
 
