@@ -78,7 +78,8 @@ def changed(made, one):
     asked = changes(list(requests(made, lines)), seen, costs_for(read_head(one.text), seen))
     head = ["# %s\n" % line for line in comments(one.text) if line.startswith(("recorded: ", "region: "))]
     text = "".join(head) + as_text(applied(statements(lines), asked))
-    around = {name: getattr(one, name) for name in ("outside", "held", "is_timed", "arrivals", "dispatch")}
+    kept = ("outside", "held", "is_timed", "arrivals", "dispatch", "runtime")
+    around = {name: getattr(one, name) for name in kept}
     return replace(recorded_as(text, one.name), is_changed=True, **around)
 
 
