@@ -2,6 +2,7 @@
 import argparse
 import os
 import shutil
+import struct
 import sys
 
 from spanprof.command import Console, Fault, Version, end_with, naming, unit, writing
@@ -19,6 +20,7 @@ NAME.tasks, and NAME.timed with its times."""
 AFTER = "Exit status 1: a log that cannot be converted, or a text that cannot be written; 2: wrong arguments."
 MOST_LINES, LONGEST = 1000, 1000    # of the comments before a text's first word
 OF_A_PART = ("threads", "processors", "arguments", "unit", "runtime")     # what a recording tells of all its run
+OF_PROGRAM = "=56xq80x256s"      # of a log's head: the time of the day in nanoseconds, and the program's path
 WANTED = "; a recording is the folder NAME.spanprof that spanprof-record leaves"
 
 
@@ -71,6 +73,18 @@ def log_of(path):
     if not found:
         raise Fault("%s: there is no log in this folder%s" % (path, WANTED))
     return found
+
+
+def warn_of_newer_program(log):
+    """Its places are read from the program's file as it is now."""
+    try:
+        with open(os.path.join(log, "head"), "rb") as file:
+            began, path = struct.unpack(OF_PROGRAM, file.read(struct.calcsize(OF_PROGRAM)))
+        path = os.fsdecode(path.partition(b"\0")[0])
+        if began < os.stat(path).st_mtime_ns:
+            CONSOLE.say("warning: %s was built after this run: functions and lines may be wrong" % path)
+    except (OSError, struct.error):
+        pass
 
 
 def variables(chosen, folder):
@@ -174,6 +188,7 @@ def answer(chosen):
         print_text(open_recording(chosen.recording).text)
         return
     log = log_of(chosen.recording)
+    warn_of_newer_program(log)
     program = converter(CONSOLE.say)
     if chosen.region or chosen.text:
         write_part(chosen, program, log)
