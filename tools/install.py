@@ -11,7 +11,8 @@ import sys
 from contextlib import suppress
 
 from spanprof.command import Fault, commit_of
-from spanprof.folders import SUFFIX, other_places_of
+from spanprof.checksums import SUFFIX
+from spanprof.folders import other_places_of
 
 TOOLS = os.path.dirname(os.path.abspath(__file__))
 SPANPROF = os.path.join(TOOLS, "..", "crates", "spanprof", "out", "spanprof")

@@ -10,7 +10,7 @@ import functools
 import os
 
 from spanprof import MOST_THREADS
-from spanprof.folders import is_proved
+from spanprof.checksums import is_proved
 
 KINDS = ("TooLong", "BadHeader", "BadByte", "BadWord", "BadNumber", "Unclosed", "Unopened", "TooDeep", "TooManyTasks",
          "TooManySegments", "TooManyItems", "WorkTooLarge", "OutOfMemory", "TooManyTurns", "ThreadCount", "CostCount",

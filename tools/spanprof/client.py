@@ -14,8 +14,9 @@ from contextlib import contextmanager
 from functools import lru_cache
 from itertools import chain
 
+from spanprof.checksums import is_proved
 from spanprof.command import Fault
-from spanprof.folders import is_proved, other_places_of, places_of, shown_program, words_for
+from spanprof.folders import other_places_of, places_of, shown_program, words_for
 from spanprof.program_text import DIVIDER, PIECE, Document, TextFile, opened, read_once
 
 LARGE = "spanprof_large"

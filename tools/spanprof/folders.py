@@ -1,8 +1,4 @@
-"""Where programs and folders are: in the repository, or where `make install` has put them; and whether a program or a
-library is one that was proved: its checksum stands beside it, in NAME.sha256, which the gate, tools/prove_program.sh
-and tools/library.sh write.
-"""
-import hashlib
+"""Where programs and folders are: in the repository, or where `make install` has put them."""
 import os
 import shlex
 import shutil
@@ -17,7 +13,6 @@ INSTALLED_BUILDS = os.path.join(PREFIX, "lib", "spanprof")
 FRONTS = os.path.join(TOOLS, "bin", "spanprof"), *(os.path.join(PREFIX, "bin", program)
                                                    for program in ("spanprof", "spanprof_large"))
 REFERENCE = os.path.join(TOP, "reference")
-SUFFIX = ".sha256"
 
 
 def places_of(program):
@@ -62,12 +57,3 @@ def words_for(program, places):
 def builds_in(folder):
     """Where make leaves what it builds in a folder of the tools, and where that is installed."""
     return [os.path.join(TOOLS, folder), INSTALLED_BUILDS]
-
-
-def is_proved(path):
-    """Whether the checksum beside this file, as `sha256sum` writes it, is that of its bytes, under its name."""
-    try:
-        with open(path + SUFFIX, encoding="ascii") as beside, open(path, "rb") as file:
-            return beside.read().split() == [hashlib.sha256(file.read()).hexdigest(), os.path.basename(path)]
-    except (OSError, UnicodeDecodeError):
-        return False

@@ -1,4 +1,5 @@
 """In tools/: python3 -m unittest discover -s tests -t ."""
+import ast
 import contextlib
 import io
 import os
@@ -6,6 +7,7 @@ import unittest
 from unittest import mock
 
 import install
+import wheel
 from spanprof.command import Fault
 from spanprof.tests.in_folder import InFolder
 
@@ -24,6 +26,15 @@ class Plan(unittest.TestCase):
                      "share/spanprof/VERSION"):
             self.assertIn(path, places)
         self.assertEqual(len(places), len(set(places)))
+
+    def test_the_module_of_the_wheel_imports_nothing_that_it_lacks(self):
+        folder = wheel.TOP / "tools/spanprof"
+        for name in wheel.MODULE:
+            for node in ast.walk(ast.parse((folder / name).read_text())):
+                if isinstance(node, ast.ImportFrom) and node.module.startswith("spanprof"):
+                    modules = [node.module.partition(".")[2]] if "." in node.module else \
+                        [one.name for one in node.names if (folder / (one.name + ".py")).exists()]
+                    self.assertLessEqual({module + ".py" for module in modules}, {*wheel.MODULE})
 
     def test_names_with_hyphens_are_links(self):
         self.assertEqual(install.links(large="no such program")[:2],

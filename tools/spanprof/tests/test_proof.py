@@ -3,7 +3,7 @@ import os
 import unittest
 from unittest import mock
 
-from spanprof import client, folders
+from spanprof import checksums, client
 from spanprof.tests.in_folder import InFolder
 
 CLAIM = "proved of the text"
@@ -46,12 +46,12 @@ class Programs(InFolder):
     def test_the_checksum_of_another_name(self):
         for name in ("spanprof_large", "spanprof more"):
             self.checksum(name)
-            self.assertFalse(folders.is_proved(self.path), name)
+            self.assertFalse(checksums.is_proved(self.path), name)
 
     def test_what_is_no_checksum(self):
         for words in ("", "\x00\x7f", "é", "0 1 2"):
             self.write("spanprof.sha256", words)
-            self.assertFalse(folders.is_proved(self.path), words)
+            self.assertFalse(checksums.is_proved(self.path), words)
 
     def test_a_stub_that_asks_the_program(self):
         self.checksum()
