@@ -1,7 +1,7 @@
 import io
 import unittest
 
-from spanprof.path.table import HEADS, MOST_ROWS, lines, write_csv
+from spanprof.path.command import HEADS, MOST_ROWS, lines, write_csv
 from spanprof.report.places import Place
 
 
