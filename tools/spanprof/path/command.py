@@ -5,12 +5,11 @@ import argparse
 import csv
 import sys
 
-from spanprof.answers import Answers
+from spanprof.answers import Answers, Place, places
 from spanprof.client import proved
 from spanprof.command import Console, Version, check_files, end_with
 from spanprof.head import head_text, warning_lines
 from spanprof.recording import text_of
-from spanprof.report.places import Place, places
 
 MOST_ROWS = 100
 HEADS = "%8s %8s %9s  %s" % ("of span", "of work", "segments", "place")

@@ -1,8 +1,8 @@
 import io
 import unittest
 
+from spanprof.answers import Place
 from spanprof.path.command import HEADS, MOST_ROWS, lines, write_csv
-from spanprof.report.places import Place
 
 
 def place(span, work, segments, name):
