@@ -13,7 +13,6 @@ from spanprof.diagnosis.losses import (CROWDED, FINE, NO_CAUSE, OF_SHAPE, Loss, 
                                        is_in_a_row, kind_of_task, least_of, losses, made_by_one, merged, most_shared,
                                        share_of_start, slowed_lines)
 from spanprof.diagnosis.names import is_of_programs, threads_for_sleep
-from spanprof.diagnosis.one_thread import on_one
 from spanprof.diagnosis.places import SERIAL, TASK
 from spanprof.program_text import BEGINNING, where
 
@@ -167,6 +166,26 @@ def bounds(facts, now, found, bench=None):
     is_crowded = any(loss.kind == "too_many_threads" for loss in found)
     steps = [while_asleep(facts, bench, step, is_crowded) if bench and step.kind == "sleep" else step for step in steps]
     return [on_processors(facts, step) if facts.scheduled and step.kind in CROWDED else step for step in steps]
+
+
+def code_of_region(facts, region):
+    """Of all threads, but for what the runtime takes to start them."""
+    return region.code - sum(loss.time for loss in in_code_losses(facts) if loss.kind == "small_regions")
+
+
+def on_one(facts, step):
+    """In place of a step for small regions, or for barriers in one: the same on one thread, which has no barriers. To
+    start two threads takes about as long as to start four, so that some of them are no faster than all. None where the
+    code of all threads together is longer than the regions, or other programs took processors."""
+    region = next((one for one in facts.regions if one.place == step.place), None)
+    if step.kind != "small_regions" or not region or region.threads < 2 or facts.taken:
+        return []
+    elapsed = region.elapsed - facts.recorder       # all wait while one records
+    code = code_of_region(facts, region)
+    if not 0 < code <= elapsed:
+        return []
+    after = step.before - int((elapsed - code) * step.before / max(facts.elapsed, 1))
+    return [replace(step, after=after, low=after, threads=1, is_instead=True, is_between=False)]
 
 
 def holder(facts, name):
