@@ -4,13 +4,11 @@ Threads x elapsed time = code as on one thread + the losses.
 """
 from typing import NamedTuple
 
-from spanprof.diagnosis.allocation import allocating, most_allocating
-from spanprof.diagnosis.calls import A_SAMPLE, AT_START, RUNTIME, in_system, shares
+from spanprof.diagnosis.calls import (A_FAULT, A_SAMPLE, AT_START, RUNTIME, allocating, begun, faults_again, in_system,
+                                      lock_of_switches, most_allocating, of_interpreter, serial_places, shares,
+                                      system_locking, system_time)
 from spanprof.diagnosis.causes import BUSY, BY_KIND, SECOND
-from spanprof.diagnosis.kernel import A_FAULT, begun, faults_again, system_time
-from spanprof.diagnosis.own_code import of_interpreter, serial_places
 from spanprof.diagnosis.places import A_START, AROUND_REGIONS, OF_THREADS, OWN, SERIAL, SHARE
-from spanprof.diagnosis.system_locks import lock_of_switches, system_locking
 from spanprof.program_text import BEGINNING, TURNS, where
 
 SMALL = 5000            # nanoseconds of code in a task, below which creating and starting it costs much beside it

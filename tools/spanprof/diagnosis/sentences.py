@@ -2,19 +2,17 @@
 import re
 from collections import Counter
 
-from spanprof.diagnosis.allocation import allocating, parallel_code
-from spanprof.diagnosis.calls import NO_NAME, OFFSET, ONE_AT_A_TIME, SHARES, innermost, together
+from spanprof.diagnosis.calls import (NO_NAME, OFFSET, ONE_AT_A_TIME, SHARES, allocating, copying_at, has_many_faults,
+                                      innermost, interpreted_share, is_interpreter, maps_memory, parallel_code,
+                                      together, words_of_interpreter)
 from spanprof.diagnosis.causes import ABOUT, AT_BEST, BY_KIND, NAMES, SECOND
+from spanprof.diagnosis.diagnose import holder
 from spanprof.diagnosis.facts import Region
-from spanprof.diagnosis.kernel import copying_at, has_many_faults, maps_memory
 from spanprof.diagnosis.losses import (A_TASK, MANY, average_task, holds_neighbours, is_bandwidth, is_in_a_row,
                                        is_maker, losses, missing_threads, most_shared, useful_time)
-from spanprof.diagnosis.own_code import interpreted_share, is_interpreter, words_of_interpreter
+from spanprof.diagnosis.names import place_of_sleep, sleeper, sooner, words_of_sleep
 from spanprof.diagnosis.places import AFTER_REGION, OWN, SERIAL, SHARE
-from spanprof.diagnosis.plan import holder
-from spanprof.diagnosis.sleeps import place_of_sleep, sleeper, sooner, words_of_sleep
-from spanprof.durations import lasting
-from spanprof.head import grouped
+from spanprof.head import grouped, lasting
 from spanprof.program_text import SECTION, where
 from spanprof.source_lines import line_of
 

@@ -1,8 +1,8 @@
 import unittest
 from types import SimpleNamespace
 
-from spanprof.diagnosis.bounds import bound_of, bounds
 from spanprof.diagnosis.calls import Sampled
+from spanprof.diagnosis.diagnose import bound_of, bounds
 from spanprof.diagnosis.losses import Loss
 from spanprof.diagnosis.places import OF_THREADS
 from spanprof.diagnosis.tests.worked import MS, facts, place
@@ -92,14 +92,17 @@ class Bounds(unittest.TestCase):
 class Sleep(unittest.TestCase):
     """Tasks that sleep for nine tenths of their time."""
 
-    def step(self, ends, **more):
+    def step(self, ends, *others, **more):
         run = facts([place(TASKS)], asleep=360 * MS, asleep_by={TASKS: 360 * MS}, **more)
         bench = SimpleNamespace(end=lambda _: ends[4], end_on=ends.__getitem__)
-        return next(step for step in bounds(run, 100 * MS, [Loss("sleep", TASKS, 360 * MS)], bench))
+        return next(step for step in bounds(run, 100 * MS, [Loss("sleep", TASKS, 360 * MS), *others], bench))
 
     def test_more_threads_run_meanwhile(self):
         step = self.step({4: 90, 20: 27})
         self.assertEqual((step.after, step.threads, step.at_best), (30 * MS, 20, False))
+
+    def test_none_more_where_threads_wait_for_processors_already(self):
+        self.assertEqual(self.step({4: 90, 20: 27}, Loss("too_many_threads", TASKS, 40 * MS)).threads, 0)
 
     def test_they_need_processors_for_the_code(self):
         self.assertEqual(self.step({4: 90, 20: 0}).after, 10 * MS)

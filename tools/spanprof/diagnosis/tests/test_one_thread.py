@@ -1,12 +1,10 @@
 import unittest
 
-from spanprof.diagnosis.diagnose import diagnose
+from spanprof.diagnosis.diagnose import Step, diagnose, on_one
 from spanprof.diagnosis.facts import Region
 from spanprof.diagnosis.names import Names
-from spanprof.diagnosis.one_thread import on_one
 from spanprof.diagnosis.places import OF_THREADS, OWN
 from spanprof.diagnosis.sentences import change_sentence
-from spanprof.diagnosis.step import Step
 from spanprof.diagnosis.tests.worked import MS, facts, place
 
 AT = "image.c:20"

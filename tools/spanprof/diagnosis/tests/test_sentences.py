@@ -6,14 +6,12 @@ from types import SimpleNamespace
 from spanprof.diagnosis.calls import RUNTIME, Sampled
 from spanprof.diagnosis.causes import TABLE
 from spanprof.diagnosis.changes import single
-from spanprof.diagnosis.diagnose import Diagnosis, diagnose
-from spanprof.diagnosis.facts import Region
-from spanprof.diagnosis.lock_times import Held
+from spanprof.diagnosis.diagnose import Diagnosis, Step, diagnose
+from spanprof.diagnosis.facts import Held, Region
 from spanprof.diagnosis.losses import Loss
 from spanprof.diagnosis.names import Names, Suspect, block_end, items_in
+from spanprof.diagnosis.output import as_json
 from spanprof.diagnosis.places import AFTER_REGION, OF_THREADS, OWN, SERIAL, SHARE, TASK, Place
-from spanprof.diagnosis.step import Step
-from spanprof.diagnosis.schema import as_json
 from spanprof.diagnosis.sentences import (WIDTH, after_words, change_sentence, first_digits, joined, less_locking,
                                           lost_sentence, short_lines, shortened, speed_words, sum_lines, times_of,
                                           waits, who_asked)
