@@ -12,7 +12,7 @@ from spanprof.diagnosis.places import ALLOCATION, OF_THREADS, OWN, SERIAL, lines
 from spanprof.program_text import BEGINNING, where
 from spanprof.source_lines import (COMMENT, DIRECTIVE, LONGEST, STRING, after_directive, code_lines, code_of,
                                    construct_of, directive_above, directive_line, is_needless, line_of, meets_at_end,
-                                   own_item, statement_end)
+                                   own_item, statement_below, statement_end)
 
 FUNCTION = re.compile(r"^[A-Za-z_][\w\s:*&<>,~]*\b%s\s*\(")
 CALL = re.compile(r"^(?:[\w.\[\]>-]+\s*[-+*/]?=\s*)?([A-Za-z_]\w*)\s*\(")
@@ -180,12 +180,14 @@ class Names:
         return " ".join(COMMENT.sub("", one).strip().rstrip("\\") for one in lines[number - 1:end - 1])
 
     def loops_inside(self, name):
-        """The loops and sections of a region at whose ends its threads meet."""
+        """The loops and sections of a region at whose ends its threads meet; of directives that stand above one statement,
+        as in `#if` and `#else`, the last one."""
         region = self.begin(name, name)
         lines = self.lines_of(region.file) if region else []
         begin = after_directive(lines, region.number) if lines else 0
         inside = range(begin, statement_end(lines, begin) + 1) if lines else ()
-        return [region._replace(number=here) for here in inside if meets_at_end(lines, here)]
+        of_statements = {statement_below(lines, here): here for here in inside if meets_at_end(lines, here)}
+        return [region._replace(number=here) for here in of_statements.values()]
 
     def stretch(self, place):
         """File, first and last line of a place's code, as far as they are known."""

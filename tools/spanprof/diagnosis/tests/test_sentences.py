@@ -449,6 +449,12 @@ class Sentences(unittest.TestCase):
                 ("!$OMP PARALLEL DO", "schedule(dynamic) at image.c:9, or smaller chunks")):
             sources = SimpleNamespace(lines_of=lambda name, directive=directive: [directive] * 9)
             self.assertEqual(change_sentence(run, Names(run, sources), step), change)
+        region = ["#pragma omp parallel", "{", "#pragma omp for", "for (int i = 0; i < n; i++)", "f(i);", "}"]
+        for more, change in (([], "schedule(dynamic) at image.c:11, or smaller chunks"),
+                             (region[2:5], "divide the longest work at image.c:9, or start it first")):
+            lines = [""] * 8 + region[:-1] + more + region[-1:]
+            sources = SimpleNamespace(lines_of=lambda name, lines=lines: lines)
+            self.assertEqual(change_sentence(run, Names(run, sources), step), change)
         run.places[OWN + " at image.c:9"].uneven = run.places[OWN + " at image.c:9"].by_a_turn = MS
         self.assertEqual(change_sentence(run, Names(run, SOURCES), step),
                          "schedule(dynamic) at image.c:9, or collapse loops")
