@@ -14,6 +14,7 @@ from spanprof.source_lines import (COMMENT, DIRECTIVE, LONGEST, STRING, after_di
                                    construct_of, directive_above, directive_line, is_needless, line_of, meets_at_end,
                                    own_item, statement_below, statement_end)
 
+LONG_ITEM = 20
 FUNCTION = re.compile(r"^[A-Za-z_][\w\s:*&<>,~]*\b%s\s*\(")
 CALL = re.compile(r"^(?:[\w.\[\]>-]+\s*[-+*/]?=\s*)?([A-Za-z_]\w*)\s*\(")
 DEPEND = re.compile(r"depend\s*\(\s*(\w+)\s*:\s*((?:[^()]|\([^()]*\))*)\)")
@@ -93,14 +94,19 @@ class Suspect(NamedTuple):
     def __str__(self):
         if self.is_atomic:
             return "the atomic at " + self.at
-        return "%s next to others' (%s)" % self[:2] if self.item else "what %s writes" % self.at
+        return "%s next to others' (%s)" % (self.short, self.at) if self.item else "what %s writes" % self.at
+
+    @property
+    def short(self):
+        """The item, where it is long without its index."""
+        return self.item if len(self.item) <= LONG_ITEM else re.sub(r"\[.*\]", "[..]", self.item)
 
     @property
     def instead(self):
         """What to write in its place."""
         if self.is_atomic:
             return "a reduction in place of the atomic at " + self.at
-        what = "%s (%s)" % self[:2] if self.item else str(self)
+        what = "%s (%s)" % (self.short, self.at) if self.item else str(self)
         return "keep %s in a local variable" % what
 
 
