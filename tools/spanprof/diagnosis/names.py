@@ -138,8 +138,8 @@ class Names:
             return self.ordered(line)
         if not line or not self.facts.is_of_gcc or lock and lock.kind != "critical" or name.startswith(ALLOCATION):
             return line
-        construct = lock.kind if lock else construct_of(name)
-        return line._replace(number=directive_line(self.lines_of(line.file), line.number, construct))
+        construct, is_inside = lock.kind if lock else construct_of(name), self.facts.is_on_gcc
+        return line._replace(number=directive_line(self.lines_of(line.file), line.number, construct, is_inside))
 
     def ordered_loops(self):
         """The lines and the directives of loops with such turns."""
