@@ -1,14 +1,14 @@
 """A program text of any size with what the proved program answers of it. Each command is run once, when its answer is
-first needed; what it tells of each segment is read as it comes, and kept in columns of numbers. And work, span, and
-least, end and bound on some threads of any other text, such as a changed one.
+first needed; what it tells of each segment is read as it comes, kept in columns of numbers, and summed by place. And
+work, span, and least, end and bound on some threads of any other text, such as a changed one.
 """
 from array import array
 from collections import Counter
-from dataclasses import dataclass
+from dataclasses import dataclass, field
 from functools import cached_property
 from itertools import compress, repeat
 from operator import add
-from typing import Dict, NamedTuple, Optional
+from typing import Dict, NamedTuple, Optional, Sequence
 
 from spanprof import MOST_THREADS, client
 from spanprof.client import is_long
@@ -22,6 +22,7 @@ THREADS_WITHOUT_RECORDING = 4
 LONGEST_CURVE = 64
 SLACK = ("start", "slack", "chain")
 FEW = 6     # threads: a curve of so many schedules is made in less time than a table of one is written and read
+ROOTS = ("the root", "serial code")     # as the first task is named; in the whole program it runs all serial code
 
 
 class Rows(NamedTuple):
@@ -267,3 +268,51 @@ def numbers_of(text, threads):
     long = is_long(found)
     on = of_long(text, threads) if long else on_threads(curve(text, max(threads)), threads)
     return Numbers("spanprof_large" if long else "spanprof", found["segments"], found["work"], found["span"], on)
+
+
+@dataclass
+class Place:
+    """The segments at one place, which follow a construct, or begin a task; or those of all tasks of a place. The sums
+    are those of `places`."""
+    name: str
+    segments: int = 0
+    cost: int = 0
+    critical_segments: int = 0
+    critical_cost: int = 0
+    slack: int = 0
+    number: int = 0
+    kinds: Sequence[int] = field(default_factory=list)  # of its segments
+    tasks: int = 0      # how many begin there
+
+
+def by_name(answers, names):
+    """Of each kind of segments one of these names."""
+    found = {name: Place(name, *sums) for name, sums in answers.sums(names).items()}
+    for kind, name in enumerate(names):
+        found[name].kinds.append(kind)
+    return found
+
+
+def numbered(places, order):
+    """The places in an order, which numbers them."""
+    ordered = sorted(places, key=order)
+    for number, place in enumerate(ordered):
+        place.number = number
+    return ordered
+
+
+def places(answers):
+    """By their part of the span, then of the work."""
+    found = by_name(answers, answers.code.names).values()
+    return numbered(found, lambda place: (-place.critical_cost, -place.cost, place.name))
+
+
+def task_places(answers):
+    """The tasks that one construct has created, by their cost; the root is one of its own."""
+    code, root = answers.code, ROOTS[bool(answers.head.whole)]
+    names = [kind.task_place or (root if kind.is_root else "a task") for kind in code.kinds]
+    found = by_name(answers, names)
+    for (kind, _), (count, *_) in code.sums.items():
+        if not code.kinds[kind].after:
+            found[names[kind]].tasks += count
+    return numbered(found.values(), lambda place: (-place.cost, place.name))

@@ -14,7 +14,6 @@ from contextlib import contextmanager
 from functools import lru_cache
 from itertools import chain
 
-from spanprof.checksums import is_proved
 from spanprof.command import Fault
 from spanprof.folders import other_places_of, places_of, shown_program, words_for
 from spanprof.program_text import DIVIDER, PIECE, Document, TextFile, opened, read_once
@@ -214,6 +213,7 @@ def is_long(numbers):
 def not_proved():
     """What is said, in place of `proved`, of what the program computes that the tools ask; empty of a proved one with
     nothing else. It is read once in a run."""
+    from spanprof.checksums import is_proved    # only what says `proved` needs it
     words = program()
     found = shutil.which(words[0]) if len(words) == 1 else None
     return "" if found and is_proved(os.path.realpath(found)) else NOT_VERIFIED % " ".join(map(shown_program, words))

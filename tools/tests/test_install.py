@@ -16,7 +16,7 @@ class Plan(unittest.TestCase):
     def test_what_goes_where(self):
         places = [path for _, path in install.plan()]
         for path in ("bin/spanprof", "libexec/spanprof/spanprof", "lib/spanprof/librecorder.so",
-                     "lib/spanprof/convert_log", "lib/spanprof/calibrate", "share/spanprof/spanprof/path/table.py",
+                     "lib/spanprof/convert_log", "lib/spanprof/calibrate", "share/spanprof/spanprof/path/command.py",
                      "share/spanprof/spanprof/whatif/command.py", "share/man/man1/spanprof-path.1",
                      "share/man/man1/spanprof.1", "share/bash-completion/completions/spanprof-report",
                      "share/zsh/site-functions/_spanprof", "share/spanprof/spanprof/record/command.py",

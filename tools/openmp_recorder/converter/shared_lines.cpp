@@ -23,6 +23,7 @@ struct Found {
   uint64_t time = 0, end = 0;
   std::vector<size_t> samples;
   size_t instructions = 0;  // from the first to the last that a sample interrupted
+  bool synchronises = false;
 };
 
 uint64_t in_file(const Interrupted &one, const ModuleOfRun &module) { return one.code - module.base; }
@@ -82,6 +83,15 @@ std::map<uint64_t, const void *> waiting(const Instructions &code, const Found &
     out[at] = looking ? reinterpret_cast<const void *>(module.base + *looking + 1) : nullptr;
   }
   return out;
+}
+
+// Whether the function has an atomic operation, up to where it returns behind its last sample.
+bool synchronises(const Instructions &code, const Found &function) {
+  for (auto &[at, instruction] : code) {
+    if (std::optional<MemoryUse> use = memory_use(instruction); use && use->is_atomic) return true;
+    if (at + most_bytes >= function.end && !instruction.rfind("ret", 0)) return false;
+  }
+  return false;
 }
 
 // Of a function; an atomic operation goes as a whole where nothing is shared.
@@ -191,6 +201,7 @@ std::vector<Contended> contending(const Stacks &stacks, const ModulesOfRun &modu
     const ModuleOfRun &module = *function.first;
     Instructions code = disassembled(module, function.second, found.end);
     found.instructions = between(code, found, stacks, module);
+    found.synchronises = synchronises(code, found);
     std::map<uint64_t, const void *> waited = waiting(code, found, stacks, module);
     Strides strides(code, caches_of_machine());
     for (size_t i : found.samples) {
@@ -214,7 +225,10 @@ std::vector<Contended> contending(const Stacks &stacks, const ModulesOfRun &modu
   for (size_t i = all.size(); i-- > 0;)
     if (contended[i]) out[all[i].sample] = {all[i].place, 1, all[i].is_atomic};
   add_unmet(all, stacks, out);
-  for (auto &[function, found] : functions) set_beyond(found, stacks, out);
+  for (auto &[function, found] : functions) {
+    set_beyond(found, stacks, out);
+    for (size_t i : found.samples) out[i].synchronises = found.synchronises;
+  }
   for (auto [sample, loop] : loops) out[sample].loop = loop;
   return out;
 }

@@ -9,8 +9,8 @@ from spanprof.diagnosis.calls import (SHARES, called_code, innermost, interprete
                                       parallel_places)
 from spanprof.diagnosis.causes import AT_BEST, BUSY, BY_KIND, EFFICIENT, ESTIMATED, SECOND, WORTH_A_CHANGE
 from spanprof.diagnosis.changes import Change
-from spanprof.diagnosis.losses import (FINE, NO_CAUSE, OF_SHAPE, Loss, code_on_one, in_code_losses, is_in_a_row,
-                                       kind_of_task, least_of, losses, made_by_one, merged, most_shared,
+from spanprof.diagnosis.losses import (CROWDED, FINE, NO_CAUSE, OF_SHAPE, Loss, code_on_one, in_code_losses,
+                                       is_in_a_row, kind_of_task, least_of, losses, made_by_one, merged, most_shared,
                                        share_of_start, slowed_lines)
 from spanprof.diagnosis.names import is_of_programs, threads_for_sleep
 from spanprof.diagnosis.places import SERIAL, TASK
@@ -19,6 +19,7 @@ from spanprof.program_text import BEGINNING, where
 FOR_CODE = (*OF_SHAPE, "undeferred", "loop_schedule")   # in which threads wait while others run it
 SHORTER = (*ESTIMATED, "system")    # causes without which the same code is shorter
 BOUND_LEAST = 0.3   # of the gain of a bound: less is rare
+A_RECORDED = 200    # nanoseconds that recording takes of a task (What recording costs, in the recorder's manual)
 HIDDEN = 0.5        # of what sleep costs, that more threads win back at least which are advised
 STEPS = 3
 SPREAD = 0.16       # of a predicted time: nine of ten were within
@@ -91,10 +92,12 @@ def waiting_for(facts, found, loss):
 
 def waiting_for_recorder(facts, loss):
     """What the others wait for one thread while it records: that a small region begins or ends; or that it makes a
-    task, where it makes all of them, while others record that these begin and end, which takes as long."""
+    task, where it makes all of them, while others record that these begin and end, which takes as long. Of tasks what
+    recording them takes between two pieces of code, too, is among what they lose."""
     recorder = facts.recorder if loss.kind == "small_regions" else \
         facts.recorder // 2 if loss.kind in FINE and made_by_one(facts) else 0
-    return min(loss.time, (facts.threads - 1) * recorder)
+    between = max(0, A_RECORDED * facts.tasks - facts.recorder) if loss.kind in FINE else 0
+    return min(loss.time, max(between, (facts.threads - 1) * recorder))
 
 
 def left(facts, now, loss, found):
@@ -147,13 +150,42 @@ def while_asleep(facts, bench, step, is_crowded=False):
     return replace(step, after=after, low=after, threads=number)
 
 
+def on_processors(facts, step):
+    """The same step where each processor runs one thread: no sooner than the greedy run of the text ends on as many, in
+    which threads wait at each barrier for the largest piece before it. What the recorder takes is part of neither
+    time."""
+    unrecorded = facts.elapsed - facts.recorder // facts.usable
+    return replace(step, after=min(step.before, max(step.after, predicted(step.before, unrecorded, facts.scheduled))))
+
+
 def bounds(facts, now, found, bench=None):
     """Of the losses for which no change of the text is tried."""
     least = {kind: least_of(facts, found, kind) for kind, cause in BY_KIND.items() if cause.is_bound}
     steps = [bound_of(facts, now, loss, found) for loss in found
              if loss.kind in least and loss.time >= least[loss.kind]]
     is_crowded = any(loss.kind == "too_many_threads" for loss in found)
-    return [while_asleep(facts, bench, step, is_crowded) if bench and step.kind == "sleep" else step for step in steps]
+    steps = [while_asleep(facts, bench, step, is_crowded) if bench and step.kind == "sleep" else step for step in steps]
+    return [on_processors(facts, step) if facts.scheduled and step.kind in CROWDED else step for step in steps]
+
+
+def code_of_region(facts, region):
+    """Of all threads, but for what the runtime takes to start them."""
+    return region.code - sum(loss.time for loss in in_code_losses(facts) if loss.kind == "small_regions")
+
+
+def on_one(facts, step):
+    """In place of a step for small regions, or for barriers in one: the same on one thread, which has no barriers. To
+    start two threads takes about as long as to start four, so that some of them are no faster than all. None where the
+    code of all threads together is longer than the regions, or other programs took processors."""
+    region = next((one for one in facts.regions if one.place == step.place), None)
+    if step.kind != "small_regions" or not region or region.threads < 2 or facts.taken:
+        return []
+    elapsed = region.elapsed - facts.recorder       # all wait while one records
+    code = code_of_region(facts, region)
+    if not 0 < code <= elapsed:
+        return []
+    after = step.before - int((elapsed - code) * step.before / max(facts.elapsed, 1))
+    return [replace(step, after=after, low=after, threads=1, is_instead=True, is_between=False)]
 
 
 def holder(facts, name):
@@ -402,4 +434,5 @@ def diagnose(facts, bench=None):
     if first and bench:
         first = as_scheduled(facts, bench, first)
     plan = steps_after(facts, bench, found, first, steps) if first and bench else [first] if first else []
+    plan = (plan[:1] + on_one(facts, first) + plan[1:])[:STEPS] if first else plan
     return Diagnosis(facts, found, causes, plan, steps, code)

@@ -18,7 +18,7 @@ from spanprof.answers import numbers_of
 from spanprof.command import reading
 from spanprof.diagnosis.calls import (AT_START, ONE_AT_A_TIME, RUNTIME, Sampled, calls_of, in_system, interpreter_of,
                                       is_loading, is_of_ranks, is_start, plain, shares)
-from spanprof.diagnosis.losses import divided
+from spanprof.diagnosis.losses import divided, is_crowded
 from spanprof.diagnosis.places import A_START, AROUND_REGIONS, TASK, in_text, needless_barriers, read_places
 from spanprof.head import head_of, number, words
 from spanprof.program_text import BEGINNING, TextFile, read_once
@@ -32,6 +32,8 @@ MOST_SEGMENTS = 300000       # segments of a text whose schedule is asked for: s
 RUNTIMES = {"llvm": "LLVM", "gnu": "gcc"}
 EXCLUDING = "mutexinoutset"     # the remark of a text that has inoutset in its place
 OWN_CLOCK = "own"               # by which costs are without the time in which a thread was preempted
+# Nanoseconds: gcc's runtime keeps no threads for regions inside others, and makes them for each: 63 to 100 us in all.
+A_TEAM = 80000
 OF_GCC = "lines of gcc"         # that of a text whose tasks or waits are of gcc's code
 
 
@@ -139,6 +141,7 @@ class Region:
     together: int = 1       # at most so many at a time
     teams: Dict[int, int] = field(default_factory=dict)     # what elapsed with so many threads
     added: int = 0          # the time of threads that regions inside it had besides
+    code: int = 0           # of all threads
 
     @property
     def sizes(self):
@@ -189,6 +192,7 @@ class Facts:
     is_of_gcc: bool = False             # some constructs have the line of a statement before them
     barriers: dict = field(default_factory=dict)    # by place: that of a needless barrier, and its share of the waits
     interpreter: str = ""               # the file of that which runs the program
+    scheduled: Optional[int] = None     # the end of the text's greedy run on `usable` threads, where more shared these
     is_imported: bool = False           # of another tool's tasks
     needless: set = field(default_factory=set)      # waits that may be, by the source
     rewriting: dict = field(default_factory=dict)   # by place: what its tasks write again and again that others read
@@ -458,15 +462,16 @@ def regions_inside(program, is_meant):
     return within.values()
 
 
-def denied_time(program, usable):
+def denied_time(program, usable, a_team=0):
     """By place of regions inside others that asked for several threads and got one: the time of threads that no order
-    of these wins back, since the longest one lasts longer than all of them would divided, or the team is small."""
+    of these wins back, since the longest one lasts longer than all of them would divided, or the team is small. With
+    more threads each region takes `a_team` longer to start."""
     found = Counter()
     for around, *inner in regions_inside(program, lambda region: region.threads == 1 < region.asked):
         longest = max(inner, key=lambda region: region.elapsed)
         missing = (usable - around.threads) * union((region.begin, region.end) for region in inner)
         uneven = usable * longest.elapsed - sum(region.elapsed for region in inner)
-        found[longest.place] += max(0, missing, uneven)
+        found[longest.place] += max(0, max(missing, uneven) - len(inner) * a_team * usable // around.threads)
     return dict(+found)
 
 
@@ -484,7 +489,8 @@ def regions_at(place, added):
     for region in outer:
         teams[region.threads] += region.elapsed
     asked = max(region.asked for region in outer if region.threads == min(teams))
-    return Region(place.name, max(teams), place.outermost, asked or None, len(outer), teams=dict(teams), added=added)
+    return Region(place.name, max(teams), place.outermost, asked or None, len(outer), teams=dict(teams), added=added,
+                  code=sum(region.code for region in outer))
 
 
 def regions_of(program):
@@ -520,7 +526,7 @@ def facts_of(recording, end_of=greedy_end):
     set_meta(facts, meta)
     facts.locks, regions = locks_of(recording.file("locks"), head), program_of(path)
     facts.regions, facts.inner = regions_of(regions), inner_regions(regions)
-    facts.denied = denied_time(regions, facts.usable)
+    facts.denied = denied_time(regions, facts.usable, A_TEAM if facts.is_on_gcc else 0)
     facts.tasks_in_regions = not regions or any(region.tasks for region in regions.regions)
     set_off(facts, off, program)
     facts.calls = calls_of(recording.file("calls"), code.of, program.kinds)
@@ -536,4 +542,6 @@ def facts_of(recording, end_of=greedy_end):
         set_by_greedy(facts, head, end_of(path, facts.threads))
     set_waiting(facts)
     set_library_locks(facts)
+    if is_crowded(facts):
+        facts.scheduled = end_of(path, facts.usable) * (head.nanoseconds or 1)
     return facts

@@ -32,6 +32,7 @@ TRIED = {
     "defer": "defer more tasks at {at}: change its if or final",
     "outside": "create the tasks of {at} inside parallel and single",
     "task": "make {where} a task of its own"}
+ON_ONE = "one thread at {at} is faster: if or num_threads(1)"
 REWRITES = "tasks of {where} wait until others have read {written}"
 BOUNDS = {ABOUT: "about %s", AT_BEST: "%s"}     # the first of several holds for all
 DIVIDED = r"\b(for|do|sections|loop|taskloop|workshare)\b"
@@ -395,6 +396,8 @@ def kind_of_parts(step, place):
 
 def change_sentence(facts, names, step):
     """What to do, of a change that was tried or of a bound."""
+    if step.kind == "small_regions" and step.threads == 1:
+        return ON_ONE.format(at=names.at(step.place))
     if not step.change:
         return BY_KIND[step.kind].change.format(**words(facts, names, step.place),
                                                 sooner=sooner(facts, step.place, step.threads))

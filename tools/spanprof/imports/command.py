@@ -2,7 +2,7 @@
 import argparse
 import os
 
-from spanprof.answers import Answers, numbers_of
+from spanprof.answers import Answers, numbers_of, places
 from spanprof.command import Console, Fault, Version, end_with
 from spanprof.diagnosis.sentences import shortened
 from spanprof.head import counted, lasting
@@ -10,7 +10,6 @@ from spanprof.imports.folder import write
 from spanprof.imports.formats import FORMATS, format_of, read
 from spanprof.program_text import TextFile, where
 from spanprof.recording import ENDING, TEXT, given_text
-from spanprof.report.places import places
 
 CONSOLE = Console("spanprof-import")
 DESCRIPTION = """Makes a recording of what another tool has written: a log of ninja with the output of `ninja -t graph`,

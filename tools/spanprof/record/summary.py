@@ -7,6 +7,7 @@ from array import array
 from itertools import repeat
 
 from spanprof import client
+from spanprof.answers import places
 from spanprof.client import proved
 from spanprof.command import Fault
 from spanprof.diagnosis.facts import off_by_segment
@@ -16,9 +17,7 @@ from spanprof.head import (CLOCKS, OTHERWISE, against_parallelism, against_span,
                            with_function)
 from spanprof.record.run import counter_words
 from spanprof.recording import program_of
-from spanprof.report.figures import rounded_down, rounded_up
-from spanprof.report.places import places
-from spanprof.report.units import Units
+from spanprof.report.figures import Units, rounded_down, rounded_up
 
 LEAST = 0.01    # of the work, or of the program's time, from which on a part of it is reported
 MOST_TOLD = 3

@@ -2,8 +2,7 @@
 from spanprof.head import (CLOCKS, against_parallelism, against_span, gain_may_be_less, least_end, lock_binds,
                            share_covered, speaks_of, tasks_made, why_not_of_more_threads)
 from spanprof.report.figures import MEASURED, PROVED, badge
-from spanprof.report.markup import join, note, section, tag
-from spanprof.report.tables import table
+from spanprof.report.markup import join, note, section, table, tag
 from spanprof.time_breakdown import proved_sums
 
 PARTS = {"code": "in your code", "recorder": "in the recorder", "preempted": "preempted in code",

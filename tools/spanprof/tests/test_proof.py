@@ -71,7 +71,7 @@ class Programs(InFolder):
 
     def test_it_is_read_once_in_a_run(self):
         self.checksum()
-        with mock.patch("spanprof.client.is_proved", return_value=True) as read:
+        with mock.patch("spanprof.checksums.is_proved", return_value=True) as read:
             self.assertEqual([self.said(self.path) for _ in range(3)], [CLAIM] * 3)
         self.assertEqual(read.call_count, 1)
 

@@ -241,6 +241,8 @@ class Starting(unittest.TestCase):
         few = [outer._replace(threads=2),
                *(inner[0]._replace(number=i, begin=i * 10, end=i * 10 + 9) for i in range(8))]
         self.assertEqual(denied_time(Program(100, few), 4), {"a.c:9": 2 * 72})
+        self.assertEqual(denied_time(Program(100, few), 4, 3), {"a.c:9": 2 * 72 - 8 * 3 * 4 // 2})
+        self.assertEqual(denied_time(Program(100, few), 4, 9), {})      # to start them takes longer than they win
         self.assertEqual(denied_time(None, 4), {})
 
 

@@ -1,6 +1,6 @@
 import unittest
 
-from spanprof.report.places import Place
+from spanprof.answers import Place
 from spanprof.report.tests import worked
 
 

@@ -3,7 +3,7 @@ import unittest
 
 from spanprof.command import Fault
 from spanprof.recording import open_recording
-from spanprof.report.stacks import folded, stacks
+from spanprof.report.exports import folded, stacks
 from spanprof.tests.in_folder import InFolder
 from spanprof.tests.recordings import recording
 

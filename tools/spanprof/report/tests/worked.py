@@ -10,8 +10,8 @@ import sys
 from unittest import mock
 
 from spanprof.command import Fault
+from spanprof.report.part_curve import NAMES, Point
 from spanprof.report.tests.worked_files import FOLDER, path
-from spanprof.report.true_times import NAMES, Point
 
 KEPT = path("answers.json")
 TEXTS = ("mesh", "split", "plain", "odd")

@@ -1,13 +1,19 @@
-"""The runs in Chrome's trace format, for ui.perfetto.dev: threads, flows for what waits.
+"""The runs for other viewers: in Chrome's trace format, for ui.perfetto.dev: threads, flows for what waits; and samples
+of calls as folded stacks (flamegraph.pl, speedscope.app).
 
-Times of a trace are microseconds. Where the text names a unit they are true; else a cost of 1 shows as 1 microsecond.
+Times of a trace are microseconds. Where the text names a unit they are true; else a cost of 1 shows as 1
+microsecond.
 """
 import json
+from collections import Counter
 from typing import NamedTuple, Sequence
 
-from spanprof.report.timeline_data import or_none
+from spanprof.command import Fault, reading
+from spanprof.diagnosis.calls import IN_CALLS
+from spanprof.report.timeline import or_none
 
 FLOWS_OF_A_RUN = 10 ** 7    # numbers of flows are of one run each
+ASLEEP = ";[asleep]"
 
 
 class Run(NamedTuple):
@@ -79,3 +85,20 @@ def trace_text(view):
             events += part
     return json.dumps({"traceEvents": events, "displayTimeUnit": "ns",
                        "metadata": {"program": view.name, "costs": head.unit_of_costs, "remarks": head.remarks}}) + "\n"
+
+
+def stacks(recording):
+    """Microseconds by lists of calls, such as `main;sort;compare`."""
+    path, found = recording.file("calls"), Counter()
+    if not path:
+        raise Fault("%s: it has no samples of calls" % recording.name)
+    with reading(path), open(path, encoding="utf-8", errors="replace") as lines:
+        for line in lines:
+            _, did, time, calls = line.rstrip("\n").split(" ", 3)
+            if did in IN_CALLS:
+                found[calls + ASLEEP * (did == "slept")] += int(time)
+    return found
+
+
+def folded(found):
+    return "".join("%s %d\n" % pair for pair in sorted(found.items()))
