@@ -186,8 +186,8 @@ class Names:
         return " ".join(COMMENT.sub("", one).strip().rstrip("\\") for one in lines[number - 1:end - 1])
 
     def loops_inside(self, name):
-        """The loops and sections of a region at whose ends its threads meet; of directives above one statement, as in `#if`
-        and `#else`, the last one."""
+        """The loops and sections of a region at whose ends its threads meet; of directives above one statement, as in
+        `#if` and `#else`, the last one."""
         region = self.begin(name, name)
         lines = self.lines_of(region.file) if region else []
         begin = after_directive(lines, region.number) if lines else 0
