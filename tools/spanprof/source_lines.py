@@ -193,6 +193,14 @@ def meets_at_end(lines, number):
     return (has(text, "for") or has(text, "sections")) and not has(text, "(parallel|nowait|distribute)")
 
 
+def statement_below(lines, number):
+    """The first line of code below a directive, and below what the preprocessor reads."""
+    number = after_directive(lines, number)
+    while number < len(lines) and lines[number - 1].lstrip()[:1] in ("", "#"):
+        number = after_directive(lines, number)
+    return number
+
+
 def directive_before(lines, number, construct):
     """Where the function has none after a line, the last before it; the line itself where there is none."""
     for here in range(min(number, len(lines)), max(number - LONGEST, 0), -1):

@@ -13,8 +13,9 @@ from spanprof.diagnosis.places import ALLOCATION, OF_THREADS, OWN, SERIAL, lines
 from spanprof.program_text import BEGINNING, where
 from spanprof.source_lines import (COMMENT, DIRECTIVE, LONGEST, STRING, after_directive, code_lines, code_of,
                                    construct_of, directive_above, directive_line, is_needless, line_of, meets_at_end,
-                                   own_item, statement_end)
+                                   own_item, statement_below, statement_end)
 
+LONG_ITEM = 20
 FUNCTION = re.compile(r"^[A-Za-z_][\w\s:*&<>,~]*\b%s\s*\(")
 CALL = re.compile(r"^(?:[\w.\[\]>-]+\s*[-+*/]?=\s*)?([A-Za-z_]\w*)\s*\(")
 DEPEND = re.compile(r"depend\s*\(\s*(\w+)\s*:\s*((?:[^()]|\([^()]*\))*)\)")
@@ -97,14 +98,19 @@ class Suspect(NamedTuple):
     def __str__(self):
         if self.is_atomic:
             return "the atomic at " + self.at
-        return "%s next to others' (%s)" % self[:2] if self.item else "what %s writes" % self.at
+        return "%s next to others' (%s)" % (self.short, self.at) if self.item else "what %s writes" % self.at
+
+    @property
+    def short(self):
+        """The item, where it is long without its index."""
+        return self.item if len(self.item) <= LONG_ITEM else re.sub(r"\[.*\]", "[..]", self.item)
 
     @property
     def instead(self):
         """What to write in its place."""
         if self.is_atomic:
             return "a reduction in place of the atomic at " + self.at
-        what = "%s (%s)" % self[:2] if self.item else str(self)
+        what = "%s (%s)" % (self.short, self.at) if self.item else str(self)
         return "keep %s in a local variable" % what
 
 
@@ -184,12 +190,14 @@ class Names:
         return " ".join(COMMENT.sub("", one).strip().rstrip("\\") for one in lines[number - 1:end - 1])
 
     def loops_inside(self, name):
-        """The loops and sections of a region at whose ends its threads meet."""
+        """The loops and sections of a region at whose ends its threads meet; of directives above one statement, as in
+        `#if` and `#else`, the last one."""
         region = self.begin(name, name)
         lines = self.lines_of(region.file) if region else []
         begin = after_directive(lines, region.number) if lines else 0
         inside = range(begin, statement_end(lines, begin) + 1) if lines else ()
-        return [region._replace(number=here) for here in inside if meets_at_end(lines, here)]
+        of_statements = {statement_below(lines, here): here for here in inside if meets_at_end(lines, here)}
+        return [region._replace(number=here) for here in of_statements.values()]
 
     def is_repeated(self, name):
         """The same of a region whose source is known, and neither asks for its threads' numbers nor has constructs by

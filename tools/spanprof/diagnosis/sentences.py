@@ -102,13 +102,17 @@ def in_words(several):
 
 
 def words_of_schedule(names, name, place):
-    """gcc's chunks are those that threads take one by one. No schedule divides an iteration."""
+    """gcc's chunks are those that threads take one by one; no schedule divides an iteration. What is uneven in a region
+    of gcc's code with one loop is that."""
     at, is_share = names.at(name), place and place.kind == SHARE
     directive = names.directive(name, place.at) if place else ""
     if few_turns(names.facts, name, place):
         return "collapse the loops at %s, or parallelise inside them" % at
     if not is_share and re.search(r"\bparallel\b", directive) and not DIVIDED.search(directive):
-        return "divide the longest work at %s, or start it first" % at
+        loops = names.loops_inside(name)
+        if len(loops) != 1:
+            return "divide the longest work at %s, or start it first" % at
+        at = "%s:%d" % loops[0]     # gcc's code divides it without a call
     if is_share and SECTION in name:
         return "smaller sections at %s, the longest first" % at
     if is_share and (names.facts.is_of_gcc or re.search(ONE_BY_ONE, directive)):

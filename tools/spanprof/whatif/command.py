@@ -34,9 +34,6 @@ def parse(words):
     add("--threads", type=count(1, 1024), metavar="P", help="numbers for P threads (default: as many as were recorded)")
     add("--creating", type=count(0, 10 ** 12), metavar="COST",
         help="the cost of creating a task (default: as in the text)")
-    add("--least", type=count(0, 10 ** 12), metavar="COST",
-        help="neither split code that costs less nor make it a task (default: where a part would cost less than its "
-        "creation)")
     add("-o", "--output", metavar="CHANGED.tasks",
         help="write the changed text to this file; - is standard output, and the numbers go to standard error then")
     add("--places", action="store_true", help="list the places and depend items that can be changed")
@@ -55,7 +52,7 @@ def compare(chosen, text, before, path):
     threads = list(before.on)
     found = text.statements()
     seen = survey(found)
-    costs = costs_for(text.head, seen, chosen.creating, chosen.least)
+    costs = costs_for(text.head, seen, chosen.creating)
 
     def asked():
         return changes(chosen.requests, seen, costs)

@@ -137,13 +137,13 @@ class Sentences(unittest.TestCase):
 
     def test_page_faults_are_reported_where_they_are_most_of_it(self):
         at = " in image.c:9 (tone)"
-        for faults, reported in ((90000, "85 % of the processor time is spent in the kernel: 90,000 page faults" + at),
-                                 (600, "85 % of the processor time is spent in the kernel: system calls" + at)):
+        for faults, reported in ((90000, "85 % of processor time is in the kernel: 90,000 page faults" + at),
+                                 (600, "85 % of processor time is in the kernel: system calls" + at)):
             run = found(usage={"user_ns": 60 * MS, "system_ns": 340 * MS, "minor_faults": faults})
             self.assertEqual(lost_sentence(run, Names(run, SOURCES), Loss("system", TASKS, 1)), reported)
         run.calls = Sampled({TASKS: {("main", "tone", "munmap@libc.so.6"): 9000, ("main", "read@libc.so.6"): 5000}}, {})
         self.assertEqual(lost_sentence(run, Names(run, SOURCES), Loss("system", TASKS, 1)),
-                         "85 % of the processor time is spent in the kernel: mapping memory" + at)
+                         "85 % of processor time is in the kernel: mapping memory" + at)
 
     def test_page_faults_in_the_copies_of_data_that_tasks_have(self):
         after, reuse = "after creating a task at image.c:9", "reuse memory: no large malloc, mmap or free in each task"
@@ -201,6 +201,7 @@ class Sentences(unittest.TestCase):
     def test_in_place_of_what_is_contended(self):
         found = [Suspect("", "a.c:9", True), Suspect("part[me]", "a.c:9")]
         self.assertEqual(list(map(str, found)), ["the atomic at a.c:9", "part[me] next to others' (a.c:9)"])
+        self.assertEqual(str(Suspect("part[omp_get_thread_num()]", "a.c:9")), "part[..] next to others' (a.c:9)")
         self.assertEqual([one.instead for one in found + [Suspect("", "a.c:9")]], [
             "a reduction in place of the atomic at a.c:9", "keep part[me] (a.c:9) in a local variable",
             "keep what a.c:9 writes in a local variable"])
@@ -468,6 +469,12 @@ class Sentences(unittest.TestCase):
                 ("#pragma omp parallel for", "schedule(dynamic) at image.c:9, or smaller chunks"),
                 ("!$OMP PARALLEL DO", "schedule(dynamic) at image.c:9, or smaller chunks")):
             sources = SimpleNamespace(lines_of=lambda name, directive=directive: [directive] * 9)
+            self.assertEqual(change_sentence(run, Names(run, sources), step), change)
+        region = ["#pragma omp parallel", "{", "#pragma omp for", "for (int i = 0; i < n; i++)", "f(i);", "}"]
+        for more, change in (([], "schedule(dynamic) at image.c:11, or smaller chunks"),
+                             (region[2:5], "divide the longest work at image.c:9, or start it first")):
+            lines = [""] * 8 + region[:-1] + more + region[-1:]
+            sources = SimpleNamespace(lines_of=lambda name, lines=lines: lines)
             self.assertEqual(change_sentence(run, Names(run, sources), step), change)
         run.places[OWN + " at image.c:9"].uneven = run.places[OWN + " at image.c:9"].by_a_turn = MS
         self.assertEqual(change_sentence(run, Names(run, SOURCES), step),
