@@ -25,6 +25,7 @@ STARTED = 5000000       # nanoseconds that a program and its runtime take to sta
 SIBLINGS = 2            # times as much that code costs at most where two threads share a core
 BEYOND_CACHES = 1 << 27     # bytes
 OF_ITS_LINE = 7 / 8     # of the uses of numbers of 8 bytes one after the other, those whose line was used before
+SAME = 0.1              # of a cost, by which runs of the same code differ
 UNSHARED = 0.02         # of the samples of code, below which it uses no line that other threads use
 NO_CAUSE = ("recorder", "startup")
 CROWDED = ("too_many_threads", "affinity")      # threads share processors
@@ -427,9 +428,29 @@ def is_bandwidth(facts, name):
     """Whether code costs so much more than on one thread since all use the memory at once: more than two threads of one
     core slow each other, with more memory than caches hold, and in lines that no two threads use."""
     place, alone = facts.places.get(name), (facts.cost_on_one or {}).get(name)
+    return bool(place and alone) and is_large(facts) and place.cost > SIBLINGS * alone and is_unshared(facts, name)
+
+
+def is_large(facts):
+    """Whether it had more memory than caches hold."""
+    return ((facts.usage or {}).get("peak_bytes") or 0) >= BEYOND_CACHES
+
+
+def is_unshared(facts, name):
+    """Whether code was sampled, and hardly ever in lines that other threads use."""
     shared, ran = (sum(found.get(name, {}).values()) for found in (facts.calls.shares, facts.calls.ran))
-    is_large = ((facts.usage or {}).get("peak_bytes") or 0) >= BEYOND_CACHES
-    return bool(place and alone and ran) and is_large and place.cost > SIBLINGS * alone and shared < UNSHARED * ran
+    return bool(ran) and shared < UNSHARED * ran
+
+
+def is_repeated(facts, name):
+    """Whether it is as if each thread of a region ran all of their own code: all take the same time, together as many
+    times what it costs on one thread. Code that shares lines, or may lack bandwidth, is none of it."""
+    place, alone = facts.places.get(name), (facts.cost_on_one or {}).get(name)
+    region = next((one for one in facts.regions if name == "%s at %s" % (OWN, one.place)), None)
+    if not (place and alone and region) or region.threads < 2 or is_large(facts) or not is_unshared(facts, name):
+        return False
+    is_even = place.uneven < SAME * place.cost
+    return is_even and abs(place.cost - region.threads * alone) < SAME * place.cost
 
 
 def lock_name(lock):

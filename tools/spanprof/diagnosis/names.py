@@ -8,6 +8,7 @@ from typing import NamedTuple
 
 from spanprof.diagnosis.calls import (A_SAMPLE, LEAST, NO_NAME, OF_SYSTEM, OFFSET, called_code, caller_of, innermost,
                                       is_of_program, plain)
+from spanprof.diagnosis.losses import is_repeated
 from spanprof.diagnosis.places import ALLOCATION, OF_THREADS, OWN, SERIAL, lines_between
 from spanprof.program_text import BEGINNING, where
 from spanprof.source_lines import (COMMENT, DIRECTIVE, LONGEST, STRING, after_directive, code_lines, code_of,
@@ -21,6 +22,9 @@ DEPEND = re.compile(r"depend\s*\(\s*(\w+)\s*:\s*((?:[^()]|\([^()]*\))*)\)")
 LINE = re.compile(r"[^\s:/]+:\d+$")
 LONGEST_CALLED = 50     # columns of a function and its caller
 ATOMIC = re.compile(r"omp\s+atomic|\bstd::atomic\b|\bfetch_(add|sub|or|and|xor)\b|__atomic_|__sync_", re.I)
+DIVIDED = re.compile(r"\b(for|do|sections|loop|taskloop|workshare)\b", re.IGNORECASE)
+BY_NUMBER = re.compile(r"omp_get_(thread_num|num_threads)|#\s*pragma\s+omp\s+(single|ma(ster|sked)|critical|task|"
+                       r"ordered)|\batomic|\bfetch_", re.IGNORECASE)
 ORDERED = re.compile(r"\bordered\b")
 OF_TURNS = re.compile(r"\s*#\s*pragma\s+omp\s+ordered\b")
 MUCH_CODE = 0.2         # of all code, from which on a place is looked at
@@ -194,6 +198,16 @@ class Names:
         inside = range(begin, statement_end(lines, begin) + 1) if lines else ()
         of_statements = {statement_below(lines, here): here for here in inside if meets_at_end(lines, here)}
         return [region._replace(number=here) for here in of_statements.values()]
+
+    def is_repeated(self, name):
+        """The same of a region whose source is known, and neither asks for its threads' numbers nor has constructs by
+        which one of them does more than the others."""
+        region = self.begin(name, name) if is_repeated(self.facts, name) else None
+        lines = self.lines_of(region.file) if region else []
+        begin = after_directive(lines, region.number) if lines else 0
+        code = [COMMENT.sub("", line) for line in lines[begin - 1:statement_end(lines, begin)]] if lines else []
+        is_divided = DIVIDED.search(self.directive(name, name)) or any(map(BY_NUMBER.search, code))
+        return bool(code) and not is_divided
 
     def stretch(self, place):
         """File, first and last line of a place's code, as far as they are known."""

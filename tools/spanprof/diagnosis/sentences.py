@@ -10,7 +10,7 @@ from spanprof.diagnosis.diagnose import holder
 from spanprof.diagnosis.facts import Region
 from spanprof.diagnosis.losses import (A_TASK, MANY, average_task, holds_neighbours, is_bandwidth, is_in_a_row,
                                        is_maker, losses, missing_threads, most_shared, useful_time)
-from spanprof.diagnosis.names import place_of_sleep, sleeper, sooner, words_of_sleep
+from spanprof.diagnosis.names import DIVIDED, place_of_sleep, sleeper, sooner, words_of_sleep
 from spanprof.diagnosis.places import AFTER_REGION, OWN, SERIAL, SHARE
 from spanprof.head import grouped, lasting
 from spanprof.program_text import SECTION, where
@@ -36,7 +36,6 @@ TRIED = {
 ON_ONE = "one thread at {at} is faster: if or num_threads(1)"
 REWRITES = "tasks of {where} wait until others have read {written}"
 BOUNDS = {ABOUT: "about %s", AT_BEST: "%s"}     # the first of several holds for all
-DIVIDED = r"\b(for|do|sections|loop|taskloop|workshare)\b"
 ONE_EACH = re.compile(r"schedule\s*\(\s*(\w+\s*:\s*)?(dynamic|(static|dynamic)\s*,\s*1)\s*\)", re.IGNORECASE)
 ONE_BY_ONE = r"schedule\s*\(\s*(\w+\s*:\s*)?(dynamic|guided)"
 SPLIT = {"serial": "parallelise {where}: loop or tasks", "imbalance": "divide the longest tasks at {where}",
@@ -71,6 +70,9 @@ def words_of_memory(facts, names, place):
     """What its code costs more than on one thread, or by samples its lines that use memory which threads share."""
     alone = (facts.cost_on_one or {}).get(place.name)
     if alone:
+        if names.is_repeated(place.name):
+            return "each of %d threads seems to do all of %s: %.1f times what it costs on one" % (
+                facts.threads, names.place(place.name), place.cost / alone)
         return "%s costs %.1f times as much on %d threads as on one: memory %s" % (
             names.place(place.name), place.cost / alone, facts.threads,
             "bandwidth" if is_bandwidth(facts, place.name) else "is contended")
@@ -107,7 +109,7 @@ def words_of_schedule(names, name, place):
     directive = names.directive(name, place.at) if place else ""
     if few_turns(names.facts, name, place):
         return "collapse the loops at %s, or parallelise inside them" % at
-    if not is_share and re.search(r"\bparallel\b", directive) and not re.search(DIVIDED, directive, re.IGNORECASE):
+    if not is_share and re.search(r"\bparallel\b", directive) and not DIVIDED.search(directive):
         loops = names.loops_inside(name)
         if len(loops) != 1:
             return "divide the longest work at %s, or start it first" % at
@@ -349,6 +351,8 @@ def words_of_line(facts):
 
 def instead(names, place, name):
     """What to write in place of what threads contend for."""
+    if names.is_repeated(name):
+        return "divide it among the threads of %s, or do it once: single" % names.at(name)
     if is_bandwidth(names.facts, name):
         return "touch the data of %s once: fuse or block loops" % names.at(name)
     suspect = names.suspect([place]) if place else None

@@ -245,6 +245,26 @@ class Sentences(unittest.TestCase):
             self.assertNotIn("fuse", reported()[1])
             setattr(run, field, kept)
 
+    def test_what_costs_once_more_with_each_thread_seems_to_be_repeated(self):
+        """Four threads have 400 ms of their own code, which is 100 ms on one."""
+        name, begin = OWN + " at image.c:2", ["int main() {", "  #pragma omp parallel", "  {"]
+        step = Step("memory", name, 100 * MS, 50 * MS, 50 * MS, 60 * MS)
+
+        def reported(code="    fill(table);", directive=begin[1], alone=100, **more):
+            lines = [begin[0], directive, begin[2], code, "  }", "  omp_get_thread_num();", "}"]
+            run = facts([place(name, OF_THREADS, cost=400 * MS, pieces=4, **more)], cost_on_one={name: alone * MS},
+                        regions=[Region("image.c:2", 4, 99 * MS)])
+            run.calls = Sampled({name: {("main", "fill"): 400000}}, {})
+            names = Names(run, SimpleNamespace(lines_of=lambda _: lines))
+            return [lost_sentence(run, names, Loss("memory", name, 1)), change_sentence(run, names, step)]
+        self.assertEqual(reported(), [
+            "each of 4 threads seems to do all of fill (called by main): 4.0 times what it costs on one",
+            "divide it among the threads of image.c:2, or do it once: single"])
+        for code in ("    part(omp_get_thread_num());", "    #pragma omp single", "    next = count.fetch_add(1);"):
+            self.assertIn("memory is contended", reported(code)[0])
+        for other in ({"alone": 150}, {"alone": 50}, {"uneven": 80 * MS}, {"directive": "  #pragma omp parallel for"}):
+            self.assertIn("memory is contended", reported(**other)[0])
+
     def test_memory_is_allocated_at_a_line_of_a_function(self):
         run = found(is_of_gcc=True)
         run.functions = {"image.c:12": "tone"}
