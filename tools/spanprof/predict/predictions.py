@@ -1,5 +1,6 @@
 """Predictions of recordings, each with what no schedule of the burdened text passes."""
 import os
+import statistics
 
 from spanprof import client
 from spanprof.converting import region_text
@@ -11,7 +12,8 @@ from spanprof.predict.recorded import LLVM, RUNTIMES, recorded, with_text
 from spanprof.predict.words import changed_json, changed_words
 from spanprof.recording import folder_of, open_recording, text_of as plain_text
 
-SLOW = 1.15     # times as long as the quickest recording on as many threads
+SLOW = 1.15     # times as long as what undisturbed recordings on as many threads took
+NEAR = 1.03     # on a quiet machine the second quickest of five runs is within that of the quickest in nine of ten
 
 
 def text_of(path, tell=lambda words: None):
@@ -26,9 +28,12 @@ def text_of(path, tell=lambda words: None):
 
 
 def undisturbed(several):
-    """Of the recordings on one number of threads those that were made in no slow moment, as the quickest shows."""
-    quickest = min(one.elapsed for one in several)
-    return [one for one in several if one.elapsed <= SLOW * quickest or not quickest]
+    """Of the recordings on one number of threads those that were made in no slow moment. The quickest that another one
+    is near to shows it: where none is, the machine's own speed changes, or a schedule is luck, and the middle counts."""
+    times = sorted(one.elapsed for one in several)
+    pairs = (one for one, next_one in zip(times, times[1:]) if next_one <= NEAR * one)
+    undisturbed_time = next(pairs, statistics.median_low(times))
+    return [one for one in several if one.elapsed <= SLOW * undisturbed_time or not undisturbed_time]
 
 
 def by_threads(several):
