@@ -20,6 +20,7 @@ WIDTH, MOST_LINES = 100, 8
 LABEL = 6
 NO_FASTER = 1.1
 MOST_SHARED = 2
+ALIKE, MOST_REGIONS = 2, 3
 A_CHUNK = 50000        # nanoseconds that one lasts which is worth taking
 LEAST_TOLD = 0.005     # of the threads' time, from which on a part of it is reported
 MUCH_STOLEN = 0.02     # of the processors' time, from which on that of the machine's host is reported
@@ -141,7 +142,8 @@ def words_of_division(facts, name, place):
 def words_of_kernel(facts, names, usage):
     """Page faults only where they are most of it."""
     if has_many_faults(facts) or maps_memory(facts):
-        copying, reuse = copying_at(facts), "reuse memory: no large malloc, mmap or free in each task"
+        each = "task" if facts.tasks_in_regions else "iteration"
+        copying, reuse = copying_at(facts), "reuse memory: no large malloc, mmap or free in each " + each
         smaller = "smaller firstprivate data at %s: a pointer, or shared" % names.at("task at " + copying)
         return {"kernel": "%s page faults" % grouped(usage.get("minor_faults") or 0) if has_many_faults(facts) else
                 "mapping memory", "less_kernel": smaller if copying else reuse}
@@ -207,9 +209,26 @@ def words_of_barriers(facts, names, name):
         apart = lasting(region.elapsed // after.pieces)
         return {"short_regions": words % (several(after.pieces, "barrier"), at, apart),
                 "longer_regions": "fewer barriers at %s: nowait, or larger loops" % at}
-    words = "%s at %s take %s each: starting them"
-    return {"short_regions": words % (several(region.times, "region"), at, lasting(region.elapsed // region.times)),
+    alike = alike_regions(facts, region)
+    at, times = lines_of_regions(names, alike), sum(one.times for one in alike)
+    words, each = "%s at %s take %s each: starting them", lasting(sum(one.elapsed for one in alike) // times)
+    return {"short_regions": words % (several(times, "region"), at, each),
             "longer_regions": "move parallel at %s out of the loop around it" % at}
+
+
+def alike_regions(facts, region):
+    """Those that are about as many and as short, and the region itself."""
+    return [region] + [one for one in facts.regions if one.place != region.place and
+                       one.times * ALIKE >= region.times and
+                       one.elapsed * region.times <= ALIKE * region.elapsed * one.times]
+
+
+def lines_of_regions(names, regions):
+    """Of the first few."""
+    lines = [line_of(names.place(one.place)) for one in regions[:MOST_REGIONS]]
+    more = ", .." * (len(regions) > MOST_REGIONS)
+    several_lines = joined(lines).replace(" and ", ", ") + more if all(lines) else ""
+    return several_lines if len(lines) > 1 and several_lines else names.place(regions[0].place)
 
 
 def is_confined(facts):

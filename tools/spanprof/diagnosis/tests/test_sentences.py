@@ -302,6 +302,15 @@ class Sentences(unittest.TestCase):
         self.assertEqual(lost_sentence(run, Names(run, SOURCES), Loss("small_regions", "image.c:6", 1)),
                          "9,000 barriers at image.c:6, 10.0 us apart: waiting at them costs too much")
 
+    def test_regions_of_several_places_that_are_as_short(self):
+        run = found(regions=[Region("image.c:%d" % line, 4, elapsed * MS, times=times) for line, elapsed, times in (
+            (6, 90, 9000), (9, 46, 8000), (12, 90, 20), (15, 900, 9000))])
+        names = Names(run, SOURCES)
+        self.assertEqual(lost_sentence(run, names, Loss("small_regions", "image.c:6", 1)),
+                         "17,000 regions at image.c:6, 9 take 8.00 us each: starting them costs too much")
+        step = Step("small_regions", "image.c:6", 100 * MS, 50 * MS, 40 * MS, 60 * MS)
+        self.assertEqual(change_sentence(run, names, step), "move parallel at image.c:6, 9 out of the loop around it")
+
     def test_processors_that_the_program_may_not_use(self):
         run = found(threads=4, regions=[Region("image.c:6", 4, 90 * MS)])
         step = Step("too_many_threads", "image.c:6", 100 * MS, 50 * MS, 40 * MS, 60 * MS)
