@@ -220,14 +220,18 @@ def directive_above(lines, number):
 
 
 def directive_around(lines, number, construct):
-    """The innermost one whose statement has this line, and where that ends; 0 where there is none."""
+    """The innermost one whose statement has this line, and where that ends; 0 where there is none. Of several that may
+    be compiled for it, the line itself."""
+    conditions, found = 0, []
     for here in range(min(number, len(lines)), max(number - LONGEST, 0), -1):
         end = statement_end(lines, after_directive(lines, here)) if has(lines[here - 1], construct) else 0
-        if end >= number:
-            return here, end
-        if CONDITION.match(lines[here - 1]) or TOP_LEVEL.match(lines[here - 1]):
+        found += [(here, end)] * (end >= number)
+        condition = CONDITION.match(lines[here - 1])
+        if condition:
+            conditions = max(0, conditions + {"if": -1, "endif": 1}[condition[1]])
+        if found and not conditions or TOP_LEVEL.match(lines[here - 1]):
             break
-    return 0, 0
+    return (number, found[0][1]) if found[1:] else found[0] if found else (0, 0)
 
 
 def directive_line(lines, number, construct, is_inside=False):

@@ -53,6 +53,16 @@ class Directives(unittest.TestCase):
         # of gcc's code on another runtime the line may be that of the statement before the inner task
         self.assertEqual(directive_line(lines, 4, "task"), 5)
 
+    def test_a_line_inside_a_statement_with_a_directive_for_each_condition(self):
+        loop = ["  for (int i = 0; i < 9; i++) {", "#ifdef LESS", "    grow(1);", "#endif", "    grow(i);", "  }",
+                "#pragma omp for", "  for (;;) {", "  }", "}"]
+        either = ["void f() {", "#ifdef FIXED", "#pragma omp for nowait", "#else", "#pragma omp for", "#endif"]
+        for above, first in ((either, 0), (["void f() {", "#ifndef ONE", "#pragma omp for", "#endif"], 3),
+                             (["void f() {", "#pragma omp for"], 2)):
+            lines, begin = above + loop, len(above) + 1
+            self.assertEqual([directive_line(lines, begin + more, "for", True) for more in (0, 2, 4)],
+                             [first or begin, first or begin + 2, first or begin + 4])
+
     def test_the_directive_right_above_a_statement(self):
         lines = ["#pragma omp for \\", "    schedule(dynamic)", " // rows", "for (;;) work();", "more();", "for (;;) {"]
         self.assertEqual([directive_above(lines, number) for number in (4, 6)], [1, 6])
