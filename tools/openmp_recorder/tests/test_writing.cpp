@@ -45,7 +45,7 @@ TEST(a_large_text_is_told_piece_by_piece_and_not_indented) {
   EXPECT(words, "omptasks 1\ntask {\nwork 3\ntask {\nwork 4\n}\n}\n");
   EXPECT(region.numbers.empty(), true);
   print_program(region, {1, true, true}, Places(), [](std::string_view) {});
-  EXPECT(region.numbers == std::vector<uint32_t>({0, 4, 1, 3, 2}), true);  // of the root, its child, and the child's
+  EXPECT(std::vector<uint32_t>(region.numbers.begin(), region.numbers.end()) == std::vector<uint32_t>({0, 4, 1, 3, 2}), true);  // of the root, its child, and the child's
 }
 
 TEST(the_work_is_that_of_the_lines) {
