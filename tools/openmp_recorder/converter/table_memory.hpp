@@ -1,16 +1,16 @@
-// Memory for the tables of a run, of which there may be more than a process is to hold. What goes beyond some lies in a
-// file without a name beside the texts, which is mapped: its pages leave the process where too many are there, and come
-// back as they are read or written.
+// Memory for the tables of a run, of which there may be more than a process is to hold. Where too much is resident, what
+// was made first goes into a file without a name beside the texts, and is mapped from there: its pages come back as they
+// are read or written, and leave again.
 #pragma once
 #include <cstddef>
 #include <string>
 
 namespace table_memory {
 struct Most {  // bytes
-  std::size_t own = 128 << 20;  // of tables that are not in the file
-  std::size_t resident = 256 << 20;  // of the whole process, before pages are let go
+  std::size_t tables = 128 << 20;  // with fewer nothing goes into the file
+  std::size_t resident = 240 << 20;  // of the whole process
 };
-void stand_beside(const std::string &first_name, const Most &most = {});  // until then nothing is in a file
+void stand_beside(const std::string &first_name, const Most &most = {});  // of the file; until then all stays in memory
 void *get(std::size_t bytes);
 void give_back(void *memory, std::size_t bytes);
 // The same with more room, elsewhere, of which so many bytes are used.

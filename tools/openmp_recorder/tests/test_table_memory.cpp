@@ -93,7 +93,7 @@ TEST(tasks_in_a_file_keep_their_steps) {
   int64_t number = 0;
   for (const Task &t : list) {
     EXPECT(t.steps.size(), static_cast<uint32_t>(number % 9));
-    if (number % 9) EXPECT(t.steps.back().cost(), number + number % 9 - 1);
+    if (number % 9) EXPECT(t.steps[t.steps.size() - 1].cost(), number + number % 9 - 1);
     number++;
   }
   EXPECT(number, int64_t{100000});
