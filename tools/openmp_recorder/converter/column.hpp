@@ -2,6 +2,7 @@
 #pragma once
 #include <algorithm>
 #include <cstddef>
+#include <memory>
 #include <new>
 #include <type_traits>
 #include <utility>
@@ -48,6 +49,11 @@ class Column {
   void push_back(const T &value) {
     if (count == room) reserve(room ? 2 * room : 1);
     new (first + count++) T(value);
+  }
+  void append(const T *values, std::size_t more) {
+    if (count + more > room) reserve(std::max(count + more, 2 * room));
+    std::uninitialized_copy_n(values, more, first + count);
+    count += more;
   }
   void resize(std::size_t entries, const T &value) {
     if (entries > room) reserve(std::max(entries, 2 * room));
