@@ -4,13 +4,11 @@ Threads x elapsed time = code as on one thread + the losses.
 """
 from typing import NamedTuple
 
-from spanprof.diagnosis.allocation import allocating, most_allocating
-from spanprof.diagnosis.calls import A_SAMPLE, AT_START, RUNTIME, in_system, shares
+from spanprof.diagnosis.calls import (A_FAULT, A_SAMPLE, AT_START, RUNTIME, allocating, begun, faults_again, in_system,
+                                      lock_of_switches, most_allocating, of_interpreter, serial_places, shares,
+                                      system_locking, system_time)
 from spanprof.diagnosis.causes import BUSY, BY_KIND, SECOND
-from spanprof.diagnosis.kernel import A_FAULT, begun, faults_again, system_time
-from spanprof.diagnosis.own_code import of_interpreter, serial_places
 from spanprof.diagnosis.places import A_START, AROUND_REGIONS, OF_THREADS, OWN, SERIAL, SHARE
-from spanprof.diagnosis.system_locks import lock_of_switches, system_locking
 from spanprof.program_text import BEGINNING, TURNS, where
 
 SMALL = 5000            # nanoseconds of code in a task, below which creating and starting it costs much beside it
@@ -29,8 +27,9 @@ BEYOND_CACHES = 1 << 27     # bytes
 OF_ITS_LINE = 7 / 8     # of the uses of numbers of 8 bytes one after the other, those whose line was used before
 UNSHARED = 0.02         # of the samples of code, below which it uses no line that other threads use
 NO_CAUSE = ("recorder", "startup")
+CROWDED = ("too_many_threads", "affinity")      # threads share processors
 FINE = ("small_tasks", "creation")      # of all tasks together
-OF_WAITS = ("small_tasks", "small_regions", "exclusion", "system", "sleep", "spin", "too_many_threads", "affinity")
+OF_WAITS = ("small_tasks", "small_regions", "exclusion", "system", "sleep", "spin", *CROWDED)
 OF_SHAPE = ("too_few_tasks", "imbalance", "dependence", "wait")
 
 
@@ -115,11 +114,20 @@ def is_maker(place):
     return place.is_creating and place.kind in (SERIAL, OF_THREADS) and not place.tasks
 
 
+def makers(facts):
+    """The places of code that makes tasks one after the other, and begins none."""
+    return [place for place in facts.places.values() if place.is_creating and not place.tasks]
+
+
+def creating(facts):
+    """What code between two creations took, where it is so short that it is mostly the runtime's."""
+    return sum(place.cost for place in makers(facts) if place.cost < A_CREATION * place.pieces)
+
+
 def made_by_one(facts):
-    """The places of such code, where one thread makes nearly all tasks; else none."""
-    making = [place for place in facts.places.values() if place.is_creating and not place.tasks]
-    own = list(filter(is_maker, making))
-    made, all_made = (sum(place.pieces for place in some) for some in (own, making))
+    """The places of such code of threads, where one thread makes nearly all tasks; else none."""
+    own = list(filter(is_maker, makers(facts)))
+    made, all_made = (sum(place.pieces for place in some) for some in (own, makers(facts)))
     return own if made > MANY * facts.threads and 10 * made > 9 * all_made else []
 
 
@@ -442,7 +450,7 @@ def calls_of_runtime(facts, name):
 
 def handling(facts):
     """By kind and place, what the runtime took of code, by samples: chunks of loops, locks, small tasks. Without them,
-    as of texts of many chunks, taking short ones is up to half of it."""
+    as of texts of many chunks, taking short ones is up to half of it, and making small tasks all between two."""
     out = {}
     if not facts.calls.ran:
         out = {("small_chunks", "%s at %s" % (TURNS, at)): min(A_TAKING * times, facts.code // 2)
@@ -454,6 +462,9 @@ def handling(facts):
             time = int(share * max(0, facts.places[name].cost - facts.asleep_by.get(name, 0)))
             if times * A_TASK > time:
                 out[tuple(loss)] = out.get(tuple(loss), 0) + time
+    fine, time = (fine_kind(facts), finest_name(facts)), creating(facts)
+    if time:
+        out[fine] = max(out.get(fine, 0), time)
     lock, time = lock_of_switches(facts), sum(system_locking(facts).values())
     if lock and lock.times * A_TASK > time:     # else locks that no thread waits for take it
         out["lock", lock_name(lock)] = time
@@ -498,7 +509,7 @@ def losses(facts):
     found = idle_losses(facts) + off_losses(facts) + in_code_losses(facts) + \
         [Loss("recorder", "", facts.recorder), Loss("startup", "", facts.outside)]
     missing = missing_threads(facts)
-    one_place = {**dict.fromkeys(("too_many_threads", "affinity"), crowded_region(facts)),
+    one_place = {**dict.fromkeys(CROWDED, crowded_region(facts)),
                  **dict.fromkeys(FINE, finest_name(facts)),
                  "too_few_threads": max(missing, key=missing.get, default=""), "system": heaviest_name(facts),
                  "small_regions": most_often(facts, found)}
@@ -527,6 +538,11 @@ def of_denied(facts, found):
         out += [loss._replace(time=loss.time - part)]
         out += [Loss("too_few_threads", max(facts.denied, key=facts.denied.get), part)]
     return out or found
+
+
+def is_crowded(facts):
+    """Whether threads lost much while others had their processors."""
+    return any(loss.kind in CROWDED and facts.share(loss.time) >= BY_KIND[loss.kind].least for loss in losses(facts))
 
 
 def useful_time(facts, found):

@@ -2,19 +2,17 @@
 import re
 from collections import Counter
 
-from spanprof.diagnosis.allocation import allocating, parallel_code
-from spanprof.diagnosis.calls import NO_NAME, OFFSET, ONE_AT_A_TIME, SHARES, innermost, together
+from spanprof.diagnosis.calls import (NO_NAME, OFFSET, ONE_AT_A_TIME, SHARES, allocating, copying_at, has_many_faults,
+                                      innermost, interpreted_share, is_interpreter, maps_memory, parallel_code,
+                                      together, words_of_interpreter)
 from spanprof.diagnosis.causes import ABOUT, AT_BEST, BY_KIND, NAMES, SECOND
+from spanprof.diagnosis.diagnose import holder
 from spanprof.diagnosis.facts import Region
-from spanprof.diagnosis.kernel import copying_at, has_many_faults, maps_memory
 from spanprof.diagnosis.losses import (A_TASK, MANY, average_task, holds_neighbours, is_bandwidth, is_in_a_row,
                                        is_maker, losses, missing_threads, most_shared, useful_time)
-from spanprof.diagnosis.own_code import interpreted_share, is_interpreter, words_of_interpreter
+from spanprof.diagnosis.names import place_of_sleep, sleeper, sooner, words_of_sleep
 from spanprof.diagnosis.places import AFTER_REGION, OWN, SERIAL, SHARE
-from spanprof.diagnosis.plan import holder
-from spanprof.diagnosis.sleeps import place_of_sleep, sleeper, sooner, words_of_sleep
-from spanprof.durations import lasting
-from spanprof.head import grouped
+from spanprof.head import grouped, lasting
 from spanprof.program_text import SECTION, where
 from spanprof.source_lines import line_of
 
@@ -34,6 +32,7 @@ TRIED = {
     "defer": "defer more tasks at {at}: change its if or final",
     "outside": "create the tasks of {at} inside parallel and single",
     "task": "make {where} a task of its own"}
+ON_ONE = "one thread at {at} is faster: if or num_threads(1)"
 REWRITES = "tasks of {where} wait until others have read {written}"
 BOUNDS = {ABOUT: "about %s", AT_BEST: "%s"}     # the first of several holds for all
 DIVIDED = r"\b(for|do|sections|loop|taskloop|workshare)\b"
@@ -101,13 +100,17 @@ def in_words(several):
 
 
 def words_of_schedule(names, name, place):
-    """gcc's chunks are those that threads take one by one. No schedule divides an iteration."""
+    """gcc's chunks are those that threads take one by one; no schedule divides an iteration. What is uneven in a region
+    of gcc's code with one loop is that."""
     at, is_share = names.at(name), place and place.kind == SHARE
     directive = names.directive(name, place.at) if place else ""
     if few_turns(names.facts, name, place):
         return "collapse the loops at %s, or parallelise inside them" % at
     if not is_share and re.search(r"\bparallel\b", directive) and not re.search(DIVIDED, directive, re.IGNORECASE):
-        return "divide the longest work at %s, or start it first" % at
+        loops = names.loops_inside(name)
+        if len(loops) != 1:
+            return "divide the longest work at %s, or start it first" % at
+        at = "%s:%d" % loops[0]     # gcc's code divides it without a call
     if is_share and SECTION in name:
         return "smaller sections at %s, the longest first" % at
     if is_share and (names.facts.is_of_gcc or re.search(ONE_BY_ONE, directive)):
@@ -397,6 +400,8 @@ def kind_of_parts(step, place):
 
 def change_sentence(facts, names, step):
     """What to do, of a change that was tried or of a bound."""
+    if step.kind == "small_regions" and step.threads == 1:
+        return ON_ONE.format(at=names.at(step.place))
     if not step.change:
         return BY_KIND[step.kind].change.format(**words(facts, names, step.place),
                                                 sooner=sooner(facts, step.place, step.threads))

@@ -7,22 +7,15 @@ import tempfile
 from functools import partial
 
 from spanprof import client
-from spanprof.answers import Answers
-from spanprof.command import Console, check_files, count, end_with
-from spanprof.errors import Fault
-from spanprof.marks import as_text, statements
+from spanprof.answers import Answers, numbers_of
+from spanprof.command import Console, Fault, Version, check_files, count, end_with
 from spanprof.predict.predictions import changed_reported
+from spanprof.program_text import TextFile, as_text, statements
 from spanprof.recording import text_of
-from spanprof.text_file import TextFile
-from spanprof.version import Version
-from spanprof.whatif.creating import costs_for
 from spanprof.whatif.listing import listing
-from spanprof.whatif.numbers import numbers_of
 from spanprof.whatif.output import as_json, lines, notes
 from spanprof.whatif.relaxation import proof_of
-from spanprof.whatif.requests import OPTIONS, Request, applied, changes
-from spanprof.whatif.survey import survey
-from spanprof.whatif.texts import Text, version_of, write
+from spanprof.whatif.requests import OPTIONS, Request, Text, applied, changes, costs_for, survey, version_of, write
 
 DESCRIPTION = """Changes a recorded program text as one might change the program, and compares work, span, and the
 bounds and end of greedy schedules before and after. Changes are made in the order of the arguments."""

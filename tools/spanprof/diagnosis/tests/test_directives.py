@@ -1,7 +1,7 @@
 import unittest
 
-from spanprof.diagnosis.directives import (block_around, construct_of, directive_above, directive_line, ends_a_turn,
-                                           is_between_halves, is_of_some_turns, own_item)
+from spanprof.source_lines import (block_around, construct_of, directive_above, directive_line, ends_a_turn,
+                                   is_between_halves, is_of_some_turns, own_item)
 
 BATCHES = """int main() {
     for (int i = 0; i < 50; i++) {

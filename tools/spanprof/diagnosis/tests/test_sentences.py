@@ -6,14 +6,12 @@ from types import SimpleNamespace
 from spanprof.diagnosis.calls import RUNTIME, Sampled
 from spanprof.diagnosis.causes import TABLE
 from spanprof.diagnosis.changes import single
-from spanprof.diagnosis.diagnose import Diagnosis, diagnose
-from spanprof.diagnosis.facts import Region
-from spanprof.diagnosis.lock_times import Held
+from spanprof.diagnosis.diagnose import Diagnosis, Step, diagnose
+from spanprof.diagnosis.facts import Held, Region
 from spanprof.diagnosis.losses import Loss
 from spanprof.diagnosis.names import Names, Suspect, block_end, items_in
+from spanprof.diagnosis.output import as_json
 from spanprof.diagnosis.places import AFTER_REGION, OF_THREADS, OWN, SERIAL, SHARE, TASK, Place
-from spanprof.diagnosis.step import Step
-from spanprof.diagnosis.schema import as_json
 from spanprof.diagnosis.sentences import (WIDTH, after_words, change_sentence, first_digits, joined, less_locking,
                                           lost_sentence, short_lines, shortened, speed_words, sum_lines, times_of,
                                           waits, who_asked)
@@ -450,6 +448,12 @@ class Sentences(unittest.TestCase):
                 ("#pragma omp parallel for", "schedule(dynamic) at image.c:9, or smaller chunks"),
                 ("!$OMP PARALLEL DO", "schedule(dynamic) at image.c:9, or smaller chunks")):
             sources = SimpleNamespace(lines_of=lambda name, directive=directive: [directive] * 9)
+            self.assertEqual(change_sentence(run, Names(run, sources), step), change)
+        region = ["#pragma omp parallel", "{", "#pragma omp for", "for (int i = 0; i < n; i++)", "f(i);", "}"]
+        for more, change in (([], "schedule(dynamic) at image.c:11, or smaller chunks"),
+                             (region[2:5], "divide the longest work at image.c:9, or start it first")):
+            lines = [""] * 8 + region[:-1] + more + region[-1:]
+            sources = SimpleNamespace(lines_of=lambda name, lines=lines: lines)
             self.assertEqual(change_sentence(run, Names(run, sources), step), change)
         run.places[OWN + " at image.c:9"].uneven = run.places[OWN + " at image.c:9"].by_a_turn = MS
         self.assertEqual(change_sentence(run, Names(run, SOURCES), step),

@@ -1,9 +1,7 @@
 import unittest
 
-from spanprof.marks import as_text, statements
-from spanprof.whatif.creating import Costs
-from spanprof.whatif.requests import Request, applied, changes
-from spanprof.whatif.survey import survey
+from spanprof.program_text import as_text, statements
+from spanprof.whatif.requests import Costs, Request, applied, changes, survey
 
 TEXT = """omptasks 1
 task depend(in: b) depend(inout: a) {  # m.c:3

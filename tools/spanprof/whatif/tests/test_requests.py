@@ -1,11 +1,9 @@
 import unittest
 from collections import Counter
 
-from spanprof.errors import Fault
-from spanprof.whatif.creating import Costs
+from spanprof.command import Fault
 from spanprof.whatif.listing import listing
-from spanprof.whatif.requests import Request, changes, find
-from spanprof.whatif.survey import survey
+from spanprof.whatif.requests import Costs, Request, changes, find, survey
 from spanprof.whatif.tests.made_up import LOOPS, ROW, SORT, read
 
 SEEN = survey(read(SORT))
