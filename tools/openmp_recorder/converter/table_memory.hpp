@@ -1,6 +1,6 @@
-// Memory for the tables of a run, of which there may be more than a process is to hold. Where too much is resident, what
-// was made first goes into a file without a name beside the texts, and is mapped from there: its pages come back as they
-// are read or written, and leave again.
+// Memory for the tables of a run, of which there may be more than a process is to hold. Where too much is resident,
+// what was made first goes into a file without a name next to the texts, and is mapped from there: its pages come back
+// as they are read or written, and leave again.
 #pragma once
 #include <cstddef>
 #include <string>
