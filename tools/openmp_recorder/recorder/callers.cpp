@@ -4,6 +4,7 @@
 #include <execinfo.h>
 #include <link.h>
 
+#include <atomic>
 #include <cstdint>
 #include <cstring>
 
@@ -21,14 +22,20 @@ int find_segment(dl_phdr_info *module, size_t, void *range) {
   return 0;
 }
 
-// Whether it lies in a function of the runtime that passes on an address inside itself, and not its caller's: the calls
-// of gcc's code, and a taskloop.
-// `dladdr` locks the loader: not in a handler.
-bool is_in_called_function(const void *code) {
+// Whether it lies in a function of the runtime whose name begins so. `dladdr` locks the loader: not in a handler.
+bool is_in_function(const void *code, const char *name) {
   Dl_info info;
-  if (!dladdr(const_cast<void *>(code), &info) || !info.dli_sname) return false;
-  return !strncmp(info.dli_sname, "GOMP_", 5) || !strncmp(info.dli_sname, "__kmpc_taskloop", 15);
+  return dladdr(const_cast<void *>(code), &info) && info.dli_sname && !strncmp(info.dli_sname, name, strlen(name));
 }
+
+// Functions that pass on an address inside themselves, and not their caller's: the calls of gcc's code, and a taskloop.
+constexpr const char *call_of_gcc = "GOMP_", *taskloop = "__kmpc_taskloop", *taskloop_of_gcc = "GOMP_taskloop";
+bool is_in_called_function(const void *code) {
+  return is_in_function(code, call_of_gcc) || is_in_function(code, taskloop);
+}
+
+// The last places inside the runtime at which a task of a taskloop was made, and another one.
+std::atomic<const void *> in_taskloop{nullptr}, elsewhere{nullptr};
 }  // namespace
 
 CodeRange runtime_code, recorder_code;
@@ -50,7 +57,15 @@ const void *nearest_in_program() {
   return nullptr;
 }
 
-// The caller of such a call, from the stack. After a tail call of the program the told place is in no such function,
+bool makes_tasks_of_loop(const void *code) {
+  if (!runtime_code.has(code) || code == elsewhere.load(std::memory_order_relaxed)) return false;
+  if (code == in_taskloop.load(std::memory_order_relaxed)) return true;
+  bool is_of_loop = is_in_function(code, taskloop) || is_in_function(code, taskloop_of_gcc);
+  (is_of_loop ? in_taskloop : elsewhere).store(code, std::memory_order_relaxed);
+  return is_of_loop;
+}
+
+// The caller of such a call, from the stack. After a tail call of the program the place is in no such function,
 // and the caller is lost; a taskloop has too many arguments for one.
 const void *caller_in_program(const void *code) {
   return !recorder_code.has(code) && is_in_called_function(code) ? nearest_in_program() : nullptr;

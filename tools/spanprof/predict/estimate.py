@@ -5,7 +5,7 @@ from dataclasses import dataclass, replace
 from math import exp, log
 from typing import List, NamedTuple, Tuple
 
-from spanprof.errors import Fault
+from spanprof.command import Fault
 from spanprof.predict.burden import burdened
 from spanprof.predict.gnu import LOCK, GnuSimulation
 from spanprof.predict.growth import Growth

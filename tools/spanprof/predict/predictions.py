@@ -4,8 +4,8 @@ import statistics
 from dataclasses import replace
 
 from spanprof import client
+from spanprof.command import Fault
 from spanprof.converting import region_text
-from spanprof.errors import Fault
 from spanprof.predict.burden import burdened_text
 from spanprof.predict.estimate import estimate
 from spanprof.predict.machine import machine_file, read_machine

@@ -4,17 +4,15 @@ from dataclasses import dataclass, replace
 from typing import Optional, Tuple
 
 from spanprof import client
-from spanprof.errors import Fault, reading
-from spanprof.head import Head, comments, read_head
+from spanprof.command import Fault, reading
+from spanprof.head import Head, comments, is_divided, read_head
 from spanprof.predict.burden import text_with
 from spanprof.predict.program import Program, read_program
 from spanprof.predict.replay import replayed
 from spanprof.predict.times import times_of
 from spanprof.program_text import has_loops
-from spanprof.recording import open_recording
+from spanprof.recording import open_recording, times_in
 from spanprof.segment_table import read_code
-from spanprof.times_file import times_in
-from spanprof.validity import is_divided
 
 RUNTIMES = LLVM, GNU = "llvm", "gnu"
 

@@ -1,10 +1,10 @@
 """Predictions as lines and as JSON."""
 from math import exp
 
-from spanprof.durations import lasting
+from spanprof.client import proved
+from spanprof.head import lasting
 from spanprof.predict.gnu import LOCK
 from spanprof.predict.recorded import GNU, LLVM
-from spanprof.proof import proved
 
 MODEL = "predicted: by a model of LLVM's scheduling, not proved; its intervals are as wide as nine of ten cases of " \
     "14 programs need that nothing else was fitted to, on 4 threads"

@@ -3,8 +3,8 @@ import os
 import tempfile
 import unittest
 
-from spanprof.errors import Fault
-from spanprof.regions import program_of, read_regions
+from spanprof.command import Fault
+from spanprof.recording import program_of, read_regions
 
 TABLE = """\
 number,text,begin_ns,end_ns,threads,tasks,loops,code_ns,inside,place

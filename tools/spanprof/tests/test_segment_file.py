@@ -5,8 +5,8 @@ import tempfile
 import unittest
 from unittest import mock
 
-from spanprof import segment_file
-from spanprof.errors import Fault
+from spanprof import segment_table
+from spanprof.command import Fault
 from spanprof.segment_table import Code, Kind, code_in, read_code
 from spanprof.tests.recordings import TEXT as OF_A_RECORDING, recording
 from spanprof.tests.test_segment_table import TEXT
@@ -22,7 +22,7 @@ LAST = {"segments": 7, "kinds": KINDS, "long": [6, 1 << 33], "sums": SUMS, "own"
 ROWS = [(0, 0, 7), (1, 1, 5), (2, 1, 6), (3, 0, 0), (4, 2, 1), (5, 0, 0), (6, 0, 0)]    # kind, task, cost
 
 
-def table(rows, reported, of_a_block=segment_file.OF_A_BLOCK):
+def table(rows, reported, of_a_block=segment_table.OF_A_BLOCK):
     """As the converter writes it."""
     out = b""
     for first in range(0, len(rows), of_a_block):
@@ -36,7 +36,7 @@ def read(data):
         path = os.path.join(folder, "segments")
         with open(path, "wb") as file:
             file.write(data)
-        return segment_file.read_into(Code(), path, Kind)
+        return segment_table.read_into(Code(), path, Kind)
 
 
 class OfARecording(unittest.TestCase):
@@ -52,7 +52,7 @@ class OfARecording(unittest.TestCase):
         self.check(read(table(ROWS, {name: value for name, value in LAST.items() if name != "sums"})))
 
     def test_block_by_block(self):
-        with mock.patch("spanprof.segment_file.OF_A_BLOCK", 3):
+        with mock.patch("spanprof.segment_table.OF_A_BLOCK", 3):
             self.check(read(table(ROWS, LAST, 3)))
 
     def test_damage(self):

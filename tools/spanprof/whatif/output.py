@@ -1,9 +1,8 @@
 """What is reported of a text and its changed text, in lines and as JSON."""
 import json
 
-from spanprof.head import grouped
-from spanprof.proof import proved
-from spanprof.validity import speaks_of, why_not_of_more_threads
+from spanprof.client import proved
+from spanprof.head import grouped, speaks_of, why_not_of_more_threads
 from spanprof.whatif.requests import OPTIONS
 
 HEADS = "%-22s %18s %18s %9s"

@@ -7,7 +7,7 @@ import tempfile
 import unittest
 from unittest import mock
 
-from spanprof.errors import Fault
+from spanprof.command import Fault
 from spanprof.predict import command, predictions
 from spanprof.predict.estimate import Estimate
 from spanprof.predict.machine import Machine, Measured, write_machine

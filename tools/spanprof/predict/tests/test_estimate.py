@@ -2,7 +2,7 @@ import unittest
 from math import exp, log
 from unittest.mock import Mock
 
-from spanprof.errors import Fault
+from spanprof.command import Fault
 from spanprof.predict import estimate as estimating
 from spanprof.predict.burden import burdened, burdened_text
 from spanprof.predict.estimate import estimate

@@ -2,7 +2,7 @@ import os
 import unittest
 from unittest import mock
 
-from spanprof.errors import Fault
+from spanprof.command import Fault
 from spanprof.tests.in_folder import InFolder
 from spanprof.tests.proofs import with_a_proved_program
 from spanprof.whatif.changes import Defer, DropDepend, Factor
