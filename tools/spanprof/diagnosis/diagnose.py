@@ -114,10 +114,11 @@ def left(facts, now, loss, found):
 
 
 def meets_at(facts, loss, place):
-    """Whether threads meet in this code for what they lose: at a region, or to spin or wait for a lock."""
+    """Whether threads meet in this code for what they lose: at a region, in chunks so small that neighbouring turns use
+    the same lines, or to spin or wait for a lock."""
     if loss.kind == "lock":
         return loss.place in facts.calls.at.get(place, {})
-    return {"small_regions": where(place), "spin": place}.get(loss.kind) == loss.place
+    return {"small_regions": where(place), "small_chunks": place, "spin": place}.get(loss.kind) == loss.place
 
 
 def freed_with(facts, loss, found):

@@ -305,12 +305,21 @@ def idle_losses(facts):
     add_idle(kinds, divided(starved, facts.starved_by or at_serial(facts)), kind_of_starved, facts, starved_off_share,
              for_sleep=True)
     delayed = divided(facts.delayed - short_delayed, facts.delayed_by or {"": 1})
-    starting = {name: int(time * starting_share(facts, name)) for name, time in delayed.items()}
+    starting = starting_times(facts, delayed)
     add_idle(kinds, starting, lambda *_: "small_regions", facts, delayed_off_share)
     add_idle(kinds, {name: time - starting[name] for name, time in delayed.items()}, kind_of_delayed, facts,
              delayed_off_share)
     return start_of(facts, [Loss(*key, time) for key, time in kinds.items()]) + \
         by_place("too_few_threads", short, missing)
+
+
+def starting_times(facts, delayed):
+    """Of the delays by place, those while regions start and end: what a runtime takes, and what other programs did not
+    run for meanwhile."""
+    found = {name: int(time * starting_share(facts, name)) for name, time in delayed.items()}
+    longer = sum(delayed[name] - time for name, time in found.items() if time)
+    unseen = 1 - facts.others / longer if facts.others is not None and longer > facts.others else 0
+    return {name: time + int(unseen * (delayed[name] - time)) * bool(time) for name, time in found.items()}
 
 
 def starting_share(facts, name):

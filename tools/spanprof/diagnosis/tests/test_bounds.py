@@ -48,6 +48,13 @@ class Bounds(unittest.TestCase):
             self.assertEqual((step.after, step.low), (after * MS, low * MS))
         self.assertEqual(bound_of(run, 100 * MS, lost._replace(kind="lock"), [shared, waits]).after, 75 * MS)
 
+    def test_neighbouring_turns_write_the_same_lines_where_chunks_are_small(self):
+        name = "turns of the loop at image.c:9"
+        lost, run = Loss("small_chunks", name, 120 * MS), facts([place(name, "share")], code=200 * MS)
+        for at, after, low in ((name, 50, 0), ("task at image.c:40", 70, 70)):
+            step = bound_of(run, 100 * MS, lost, [lost, Loss("memory", at, 80 * MS)])
+            self.assertEqual((step.after, step.low), (after * MS, low * MS))
+
     def test_what_the_recorder_takes_is_part_of_neither_time(self):
         lost, run = Loss("small_regions", "image.c:25", 124 * MS), facts(code=200 * MS, recorder=8 * MS)
         self.assertEqual(bound_of(run, 92 * MS, lost).after, 67 * MS)   # of 400, 32 while threads wait for the recorder
