@@ -51,7 +51,10 @@ void OffTimes::take_back(std::size_t stretch, const std::vector<Task *> &tasks) 
 }
 
 void OffTimes::number(const Region &region) {
-  for (OffTime &one : all) {
+  constexpr size_t at_once = 64;  // their tasks lie anywhere
+  for (size_t i = 0; i < all.size(); i++) {
+    OffTime &one = all[i];
+    if (i % at_once == 0) table_memory::stay_within();
     if (!one.task) continue;
     if (uint32_t number = number_in_text(*one.task, one.segment, region); number != none)
       one.number = number, one.pieces = tasks_for(*one.task);

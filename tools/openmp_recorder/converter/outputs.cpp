@@ -45,10 +45,9 @@ class Reporter {
   Size measure(Region &region);
   std::string head(Region &region, int64_t work);
   void report_remarks(const Region &region, const std::string &name);
-  void write_times(Region &region, Events &events, const std::string &name, const std::string &head, Style style,
-                   Object &line);
+  void write_times(Region &region, Events &events, const std::string &name, Object &line);
   bool write_text(Region &region, const std::string &file, const std::string &head, const Style &style,
-                  SegmentTable *table, const PartTaker &behind_part, const std::function<void(const Taker &)> &behind);
+                  SegmentTable *table, const PartTaker &behind_part);
   bool write_whole(Region &region, const std::string &name, const std::string &head, const Style &style,
                    const PartTaker &behind_part);
   Object &put_size(Object &line, const std::string &file, const Size &size, int64_t work);
@@ -102,28 +101,25 @@ void Reporter::report_remarks(const Region &region, const std::string &name) {
 }
 
 // Those of a region stand behind its text once more, and those of the whole program alone.
-void Reporter::write_times(Region &region, Events &events, const std::string &name, const std::string &head,
-                           Style style, Object &line) {
+void Reporter::write_times(Region &region, Events &events, const std::string &name, Object &line) {
   if (!options.times) return;
   if (!region.has_events || !events.are_whole()) {
     line.put("no times", region.has_events ? "unfinished" : "whole");
     return;
   }
   std::string file = name + (recording.whole ? ".times" : ".timed");
-  style.numbered = false;
-  auto times = [&](const Taker &taker) { events.print(region, taker); };
-  auto behind = [&](const Taker &taker) { taker("---\n"), times(taker); };
-  if (recording.whole ? write_file(file, times) : write_text(region, file, head, style, nullptr, nullptr, behind))
-    line.put("times", file);
+  bool is_written = write_file(file, [&](const Taker &taker) {
+    if (!recording.whole) read_file(name + ".tasks", taker), taker("---\n");
+    events.print(region, taker);
+  });
+  if (is_written) line.put("times", file);
 }
 
 bool Reporter::write_text(Region &region, const std::string &file, const std::string &head, const Style &style,
-                          SegmentTable *table, const PartTaker &behind_part,
-                          const std::function<void(const Taker &)> &behind) {
+                          SegmentTable *table, const PartTaker &behind_part) {
   return write_file(file, [&](const Taker &taker) {
     taker(head);
     print_program(region, style, places, taker, table, behind_part);
-    if (behind) behind(taker);
   });
 }
 
@@ -133,7 +129,7 @@ bool Reporter::write_whole(Region &region, const std::string &name, const std::s
   std::string file = name + ".segments";
   NewFile out(file);
   SegmentTable table([&](std::string_view piece) { out.put(piece); });
-  bool is_text = write_text(region, name + ".tasks", head, style, &table, behind_part, nullptr);
+  bool is_text = write_text(region, name + ".tasks", head, style, &table, behind_part);
   bool has_room = table.finish();
   bool is_table = out.end();
   if (!has_room) remove(file.c_str());
@@ -163,11 +159,11 @@ void Reporter::write(Region &region, const std::string &name) {
     if (recording.whole) static_cast<WholeProgram &>(region).off.number(region);
   };
   if (!(recording.whole ? write_whole(region, name, words, style, take_part)
-                        : write_text(region, file, words, style, nullptr, take_part, nullptr)))
+                        : write_text(region, file, words, style, nullptr, take_part)))
     return;
   report_remarks(region, name);
   Message line("text");
-  write_times(region, events, name, words, style, put_size(line, file, size, work));
+  write_times(region, events, name, put_size(line, file, size, work));
 }
 
 void Reporter::report_outside(const Occurrences &outside) {

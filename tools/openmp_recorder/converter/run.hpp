@@ -129,7 +129,7 @@ struct Region {
   Seldom<std::vector<Preempted>> preempted;  // by the wall clock, where its clocks differ; not of the whole program
   int64_t untimed = 0;  // the wall clock in segments that were left in their midst, until they were
   Seldom<std::map<Divided, MostOccurrences>> divided;  // of the thread that met the most
-  std::vector<uint32_t> numbers;  // of the segments in the text, task by task; none where one is part of a later one
+  Column<uint32_t> numbers;  // of the segments in the text, task by task; none where one is part of a later one
 
   // where the whole program is one text
   Region *whole = nullptr;  // that its tasks stand in

@@ -3,12 +3,8 @@
 #include <memory>
 #include <new>
 
-namespace {
-constexpr uint32_t least_room = 2, most_room = 512;  // each region begins a block, and most have few tasks
-}  // namespace
-
 TaskList::Block TaskList::new_block(uint32_t room) {
-  return {static_cast<Task *>(::operator new(room * sizeof(Task))), 0, room};
+  return {static_cast<Task *>(table_memory::get(room * sizeof(Task))), 0, room};
 }
 
 Task &TaskList::emplace_back() {
@@ -44,7 +40,8 @@ TaskList &TaskList::operator=(TaskList &&other) noexcept {
 void TaskList::clear() {
   for (Block &block : blocks) {
     std::destroy_n(block.first, block.count);
-    ::operator delete(block.first);
+    table_memory::give_back(block.first, block.room * sizeof(Task));
+    if (block.room == most_room) table_memory::stay_within();
   }
   blocks = std::vector<Block>();
   many = 0;

@@ -22,7 +22,7 @@ std::vector<const void *> open_groups_of(const Task &t) {
 }  // namespace
 
 void Reader::begin_group(Task *t, const void *code) {
-  constexpr uint32_t usual = 7;  // with a group there are more than three
+  constexpr uint32_t usual = 8;  // with a group there are more than three
   t->steps.reserve(usual);
   t->steps.push_back(Step::at(Kind::GroupBegin, code));
   t->open_groups++;

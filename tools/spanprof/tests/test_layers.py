@@ -7,7 +7,7 @@ import unittest
 
 PACKAGE = os.path.dirname(os.path.dirname(os.path.abspath(__file__)))
 ENDS = {"command.py", "convert_command.py", "run.py"}  # run.py ends as the recorded program did
-MOST_FILES = 36     # of which a reader of one summary has to know
+MOST_FILES = 36     # that a reader of one summary has to know
 SHARED = ""     # the modules of the package itself
 # Each may import those before it.
 LAYERS = (SHARED, "conformance", "predict", "whatif", "diagnosis", "report", "path", "record", "graph", "imports",

@@ -12,9 +12,7 @@ from spanprof.command import Console, Fault, Version, check_files, count, end_wi
 from spanprof.predict.predictions import changed_reported
 from spanprof.program_text import TextFile, as_text, statements
 from spanprof.recording import text_of
-from spanprof.whatif.listing import listing
-from spanprof.whatif.output import as_json, lines, notes
-from spanprof.whatif.relaxation import proof_of
+from spanprof.whatif.output import as_json, lines, listing, notes, proof_of
 from spanprof.whatif.requests import OPTIONS, Request, Text, applied, changes, costs_for, survey, version_of, write
 
 DESCRIPTION = """Changes a recorded program text as one might change the program, and compares work, span, and the

@@ -9,6 +9,7 @@ from unittest import mock
 
 from spanprof.command import Fault
 from spanprof.predict import command, predictions
+from spanprof.predict.estimate import Estimate
 from spanprof.predict.machine import Machine, Measured, write_machine
 from spanprof.predict.recorded import recorded
 from spanprof.remarks import in_words
@@ -141,6 +142,14 @@ class Command(InAFolder):
                             ([0, 0], 2)):
             several = [mock.Mock(elapsed=time) for time in times]
             self.assertEqual(len(predictions.undisturbed(several)), left, times)
+
+    def test_no_time_is_less_than_the_least(self):
+        """As a run's may be, in which the recorder's time is no more."""
+        one = Estimate(mock.Mock(), 2, 70, 50, 90, [], 0)
+        for least, times in ((60, (70, 90)), (80, (80, 90)), (95, (95, 95))):
+            with mock.patch.object(predictions, "least_end", return_value=least):
+                found, reported = predictions.with_least(one)
+            self.assertEqual((found.time, found.high, reported), (*times, least))
 
     def test_two_regions(self):
         paths = [self.write("a.tasks", TEXT % 2), self.write("b.tasks", TEXT.replace("a.c:9", "b.c:7") % 1)]

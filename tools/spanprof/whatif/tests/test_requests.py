@@ -2,7 +2,7 @@ import unittest
 from collections import Counter
 
 from spanprof.command import Fault
-from spanprof.whatif.listing import listing
+from spanprof.whatif.output import listing
 from spanprof.whatif.requests import Costs, Request, changes, find, survey
 from spanprof.whatif.tests.made_up import LOOPS, ROW, SORT, read
 
