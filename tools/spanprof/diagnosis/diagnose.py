@@ -140,12 +140,20 @@ def bound_of(facts, now, loss, found=()):
                 is_between=0 < low < after)
 
 
+def queueing(facts, name, threads):
+    """Threads that sleep at once wake up at once: the last one waits while the others' code runs on the processors."""
+    place = facts.places.get(name)
+    code = max(0, place.cost - facts.asleep_by.get(name, 0)) // max(place.pieces, 1) if place else 0
+    return max(0, code * (threads - facts.usable) // facts.usable)
+
+
 def while_asleep(facts, bench, step, is_crowded=False):
     """The same step where other threads run meanwhile, if these win back much of what sleep costs; none where threads
     wait for processors already."""
     number = 0 if is_crowded or is_of_programs(facts, step.place) else threads_for_sleep(facts)
     least = least_time(facts, facts.code + facts.recorder)
-    after = max(least, predicted(step.before, bench.end([]), bench.end_on(number))) if number else step.before
+    end = predicted(step.before, bench.end([]), bench.end_on(number)) if number else step.before
+    after = min(step.before, max(least, end + queueing(facts, step.place, number)))
     if step.before - after < HIDDEN * step.gain:
         return replace(step, threads=0)
     return replace(step, after=after, low=after, threads=number)

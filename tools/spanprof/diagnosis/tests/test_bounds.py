@@ -2,7 +2,7 @@ import unittest
 from types import SimpleNamespace
 
 from spanprof.diagnosis.calls import Sampled
-from spanprof.diagnosis.diagnose import bound_of, bounds
+from spanprof.diagnosis.diagnose import bound_of, bounds, queueing
 from spanprof.diagnosis.losses import Loss
 from spanprof.diagnosis.places import OF_THREADS
 from spanprof.diagnosis.tests.worked import MS, facts, place
@@ -110,6 +110,12 @@ class Sleep(unittest.TestCase):
 
     def test_none_more_where_threads_wait_for_processors_already(self):
         self.assertEqual(self.step({4: 90, 20: 27}, Loss("too_many_threads", TASKS, 40 * MS)).threads, 0)
+
+    def test_they_wake_up_together(self):
+        """8 tasks of 1 ms of code: the last of 20 threads waits for 16 on four processors."""
+        run = facts([place(TASKS, cost=368 * MS)], asleep=360 * MS, asleep_by={TASKS: 360 * MS})
+        self.assertEqual([queueing(run, TASKS, threads) for threads in (20, 4, 0)], [4 * MS, 0, 0])
+        self.assertEqual(queueing(run, "", 20), 0)
 
     def test_they_need_processors_for_the_code(self):
         self.assertEqual(self.step({4: 90, 20: 0}).after, 10 * MS)
