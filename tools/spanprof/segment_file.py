@@ -5,17 +5,21 @@ It has a column each of the segments' kinds (two bytes), tasks and costs (four b
 what it follows and where, and of code around a region its place. `long` has segments and costs from 2^32 - 1 on, `own`
 the first segments of threads' own code and the groups around them. `sums` has two kinds, how many segments of the first
 stand before one of the second, what they cost together, and the most. `clauses` has kinds, words, how many tasks have
-them, and how many of these right behind another one.
+them, and how many of these right behind another one. `phases` has a kind for each place of code that is divided among
+threads, and of it what segment_table.Phases has. `delays`, which needs times, has kinds around regions, how long their
+segments waited in all, and of that what a runtime may take to start each.
 """
 import json
 import os
 from array import array
+from itertools import chain
 
 from spanprof.errors import reading
 from spanprof.recording import SEGMENTS, folder_of
 
 OF_A_BLOCK = 1 << 16
 COLUMNS = (("H", 2), ("I", 4), ("I", 4))     # kinds, tasks, costs
+ADDED_UP = {"phases": 7, "delays": 3}       # lists that older recordings do not have, and the numbers of a row
 
 
 def file_beside(text):
@@ -47,10 +51,18 @@ def widened(costs, exceptions):
     return out
 
 
+def of_numbers(row, count):
+    """A row that has so many."""
+    if len(row) != count:
+        raise ValueError("a row of %d numbers" % len(row))
+    return [number + 0 for number in row]
+
+
 def check(code):
     """That its numbers are of kinds and segments that it has."""
     kinds, segments = set(range(len(code.kinds))), range(len(code.of))
-    if set(code.of) != kinds or not {kind for kind, *_ in code.clauses} <= kinds | {None}:
+    named = {kind for kind, *_ in chain(code.clauses, code.phases or (), code.delays or ())}
+    if set(code.of) != kinds or not named <= kinds | {None}:
         raise ValueError("kinds that it does not have")
     counts, costs, _ = map(sum, zip(*code.sums.values()))
     if {kind for pair in code.sums for kind in pair} != kinds or (counts, costs) != (len(segments), sum(code.cost)):
@@ -73,6 +85,9 @@ def read_into(code, path, kind_of):
         if "sums" in reported:      # older recordings have none
             code.sums = {(kind, following): (count + 0, cost + 0, most + 0)
                          for kind, following, count, cost, most in reported["sums"]}
+        for name, count in ADDED_UP.items():
+            if name in reported:
+                setattr(code, name, [of_numbers(row, count) for row in reported[name]])
         code.clauses = [(kind, words.replace(" ", ""), count + 0, again + 0)
                         for kind, words, count, again in reported["clauses"]]
         check(code)

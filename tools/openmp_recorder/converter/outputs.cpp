@@ -4,6 +4,7 @@
 
 #include "chosen.hpp"
 #include "compose.hpp"
+#include "delays.hpp"
 #include "events.hpp"
 #include "files.hpp"
 #include "head.hpp"
@@ -49,8 +50,10 @@ class Reporter {
                    Object &line);
   bool write_text(Region &region, const std::string &file, const std::string &head, const Style &style,
                   SegmentTable *table, const PartTaker &behind_part, const std::function<void(const Taker &)> &behind);
-  bool write_whole(Region &region, const std::string &name, const std::string &head, const Style &style,
-                   const PartTaker &behind_part);
+  bool write_whole(WholeProgram &whole, const std::string &name, const std::string &head, const Style &style,
+                   Events &events);
+  bool write_parts(Region &region, const std::string &name, const std::string &head, const Style &style,
+                   Events &events);
   Object &put_size(Object &line, const std::string &file, const Size &size, int64_t work);
 };
 
@@ -128,16 +131,32 @@ bool Reporter::write_text(Region &region, const std::string &file, const std::st
 }
 
 // Of the whole program, with the table of its segments where that has room for all.
-bool Reporter::write_whole(Region &region, const std::string &name, const std::string &head, const Style &style,
-                           const PartTaker &behind_part) {
+bool Reporter::write_whole(WholeProgram &whole, const std::string &name, const std::string &head, const Style &style,
+                           Events &events) {
   std::string file = name + ".segments";
   NewFile out(file);
   SegmentTable table([&](std::string_view piece) { out.put(piece); });
-  bool is_text = write_text(region, name + ".tasks", head, style, &table, behind_part, nullptr);
-  bool has_room = table.finish();
+  Delays delays;
+  auto take_part = [&](Region &part, uint32_t first, uint32_t end) {
+    std::vector<SegmentTable::Around> around = table.take_around();
+    if (whole.has_events) events.take(whole, part, first, end), delays.take(whole, part, events, around);
+    whole.off.number(whole);
+  };
+  bool is_text = write_text(whole, name + ".tasks", head, style, &table, take_part, nullptr);
+  bool has_room = table.finish([&](Object &line) {
+    if (whole.has_events) delays.put(events, line);
+  });
   bool is_table = out.end();
   if (!has_room) remove(file.c_str());
   return is_text && is_table;
+}
+
+bool Reporter::write_parts(Region &region, const std::string &name, const std::string &head, const Style &style,
+                           Events &events) {
+  auto take_part = [&](Region &part, uint32_t first, uint32_t end) {
+    if (region.has_events) events.take(region, part, first, end);
+  };
+  return write_text(region, name + ".tasks", head, style, nullptr, take_part, nullptr);
 }
 
 Object &Reporter::put_size(Object &line, const std::string &file, const Size &size, int64_t work) {
@@ -158,12 +177,8 @@ void Reporter::write(Region &region, const std::string &name) {
   bool has_off = recording.whole && static_cast<WholeProgram &>(region).has_off;
   Style style{options.unit, size.tasks > most_tasks, region.has_events || has_off};
   Events events(name);
-  auto take_part = [&](const Region &part, uint32_t first, uint32_t end) {
-    if (region.has_events) events.take(region, part, first, end);
-    if (recording.whole) static_cast<WholeProgram &>(region).off.number(region);
-  };
-  if (!(recording.whole ? write_whole(region, name, words, style, take_part)
-                        : write_text(region, file, words, style, nullptr, take_part, nullptr)))
+  if (!(recording.whole ? write_whole(static_cast<WholeProgram &>(region), name, words, style, events)
+                        : write_parts(region, name, words, style, events)))
     return;
   report_remarks(region, name);
   Message line("text");

@@ -89,7 +89,7 @@ void Reader::release_until(const Placed &found) {
   }
   put_stretch(stretch, {begun.begin(), begun.begin() + static_cast<std::ptrdiff_t>(end.regions)}, end.chunks);
   before().finest.add(*stretch.root);
-  run.whole->off.release(before().count() - 1, *run.whole->root, *stretch.root);
+  run.whole->off.release(*run.whole->root, *stretch.root);
   take_from_placed(end);
   room = std::min(room, least_stretch);
 }

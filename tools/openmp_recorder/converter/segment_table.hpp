@@ -12,17 +12,26 @@
 #include <utility>
 #include <vector>
 
+#include "phases.hpp"
 #include "piece.hpp"
+
+class Object;
 
 class SegmentTable {
  public:
+  // A segment with which a thread begins in a region, or that comes behind a region's barrier.
+  struct Around {
+    uint32_t segment, kind;
+  };
   explicit SegmentTable(std::function<void(std::string_view)> to) : taker(std::move(to)) { open(Nothing, 0); }
   void work(uint64_t more) { cost += more, is_pending = is_pending && !more; }
   void task(std::string_view clauses, std::string_view place);
   void group(std::string_view place);
   void wait(std::string_view place);
   void end();
-  bool finish();  // whether it has room for all kinds
+  std::vector<Around> take_around() { return std::exchange(around, {}); }  // those since they were taken last
+  // Whether it has room for all kinds. `more` is put into its last line.
+  bool finish(const std::function<void(Object &)> &more = nullptr);
 
  private:
   enum After : uint8_t { Nothing, Creating, Group, Wait };
@@ -42,6 +51,11 @@ class SegmentTable {
     std::size_t length;  // without that
     uint64_t count = 0, again = 0;  // tasks, and those right behind another one with the same
   };
+  struct OfKind {  // what a segment of it is
+    uint32_t place;  // of what is divided among threads, by number; none of other code
+    uint32_t region;
+    bool is_own, is_behind;  // a thread begins with it; it comes behind a region's barrier
+  };
   struct Sums {  // of the segments of a kind before those of another one
     uint32_t kind, following;
     uint64_t count = 0, cost = 0, most = 0;
@@ -53,6 +67,10 @@ class SegmentTable {
   std::array<uint32_t, 64> recent{};  // of these, by their ends
   std::map<std::string, uint32_t, std::less<>> numbers{{"", 0}};
   std::vector<std::string> kinds;  // in JSON
+  std::vector<OfKind> of_kinds;
+  std::map<std::array<uint32_t, 3>, uint32_t> places;  // by their words
+  Phases phases;
+  std::vector<Around> around;
   std::unordered_map<uint64_t, uint32_t> kind_numbers;
   std::array<std::pair<uint64_t, uint32_t>, 64> recent_kinds{};  // of these, by their keys
   std::vector<Sums> sums;
@@ -69,7 +87,7 @@ class SegmentTable {
   uint32_t tasks = 0, begun = 0, closed = 0;
   std::vector<uint16_t> kinds_of;  // segments, as far as they are not handed on
   std::vector<uint32_t> tasks_of, costs;
-  uint64_t segments = 0, cost = 0;  // of the last one
+  uint64_t segments = 0, cost = 0, cost_before = 0;  // of the last one, and the one before
   uint32_t last = 0;  // its kind
   Piece long_costs, own;  // in JSON
 
@@ -77,7 +95,10 @@ class SegmentTable {
   uint32_t region() const;
   uint32_t kind(After after, uint32_t after_place);
   uint32_t open(After after, uint32_t after_place);  // the kind of the new segment
+  void describe(After after, uint32_t after_place, uint32_t of_region);  // a kind that is new
   void close(uint32_t following);
+  void begin_own(const OfKind &of, const OfKind &before_it);
+  std::string phases_in_lists();
   void hand_on();
   void name_barrier();
 };

@@ -200,7 +200,7 @@ void Reader::begin_chunk(ImplicitTask &own, uint64_t turns) {
   t->region->chunks++;
   own.loop->reported += turns;
   own.left = run.whole->events.size() - 1;
-  own.off = run.whole->off.all.size();
+  own.off = run.whole->off.seen();
   chunk->code = own.loop->code;
   chunk->of_loop = true;
   chunk->origin = own.loop->what == Divided::Sections ? Origin::Section : Origin::Turns;

@@ -1,10 +1,10 @@
 """Barriers between loops of a region at which threads wait for each other, though each has as much to do in all."""
 import itertools
 from collections import Counter, defaultdict
-from operator import itemgetter
 from typing import NamedTuple
 
-from spanprof.diagnosis.places import AFTER_REGION, ALONE, OF_THREADS, SHARE, kind_of
+from spanprof.diagnosis.places import OF_THREADS, SHARE, kind_of
+from spanprof.phases import ALONE, added_up, phases_in
 
 SELDOM = 0.1    # of a region's phases
 EVENED = 0.7    # of the waits in a region, from which on its barriers are their cause, and not how loops are divided
@@ -45,34 +45,26 @@ def part_of(kinds, costs):
     return found
 
 
-def phases_in(program):
-    """Of each phase its region, whether it goes on there, where no code stands behind the barrier, and its parts: their
-    first segments, and those behind them."""
-    code, before = program.code, ""
-    is_barrier = [name.startswith(AFTER_REGION) for name in program.kinds]
-    parts = zip(code.own, itertools.chain(code.own[1:], (len(code),)), code.groups)
-    for _, some in itertools.groupby(parts, itemgetter(2)):
-        some = list(some)
-        first = some[0][0]
-        region = code.kinds[code.of[first]].region
-        goes_on = region == before and is_barrier[code.of[first - 1]] and not program.costs[first - 1]
-        yield region, goes_on, [part[:2] for part in some]
-        before = region
+def regions_with_several(program):
+    """Those whose threads go on behind a barrier of theirs more than seldom."""
+    phases, further = Counter(), Counter()
+    for row in added_up(program.code):
+        region = program.code.kinds[row.kind].region
+        phases[region] += row.phases
+        further[region] += row.further
+    return {region for region, count in phases.items() if count and further[region] >= SELDOM * count}
 
 
 def times_of_regions(program, threads):
     """By region, of each time that it began its phases, and of these the parts by thread. Regions whose threads seldom
     go on behind a barrier are left out: there are many."""
-    found, phases, more = defaultdict(list), Counter(), Counter()
-    for region, goes_on, _ in phases_in(program):
-        phases[region] += 1
-        more[region] += goes_on
-    several = {region for region, count in phases.items() if more[region] >= SELDOM * count}
-    of, costs, name_of = program.code.of, program.costs, kinds_of(program).__getitem__
-    for region, goes_on, parts in phases_in(program) if several else ():
+    found, several = defaultdict(list), regions_with_several(program)
+    code, costs, name_of = program.code, program.costs, kinds_of(program).__getitem__
+    for kind, goes_on, parts in phases_in(code) if several else ():
+        region = code.kinds[kind].region
         if region in several:
             found[region] += [] if goes_on else [[]]
-            found[region][-1].append({threads[first]: part_of(map(name_of, of[first:end]), costs[first:end])
+            found[region][-1].append({threads[first]: part_of(map(name_of, code.of[first:end]), costs[first:end])
                                       for first, end in parts})
     return found
 

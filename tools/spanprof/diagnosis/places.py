@@ -1,23 +1,18 @@
 """The places of a program's code: of each what it cost, what kind of code it is, and which lines it has."""
 from array import array
-from bisect import bisect_right
-from collections import Counter, defaultdict
+from collections import Counter
 from dataclasses import dataclass, field
 from functools import cached_property
-from itertools import compress
 from typing import List, Tuple
 
 from spanprof.marks import CREATING
-from spanprof.program_text import BARRIER, OF_A_THREAD, construct, is_share, named
+from spanprof.phases import AFTER_REGION, OWN, added_up, names_with_regions
+from spanprof.program_text import OF_A_THREAD, construct, is_share
 from spanprof.segment_table import Code
 from spanprof.source_lines import line_of
 
 SERIAL, OF_THREADS, TASK, SHARE = "serial", "of threads", "task", "share"
-AFTER_REGION = "after the " + BARRIER
 ALLOCATION = "allocation at "       # before a line that allocates memory
-OWN = named("task", OF_A_THREAD)    # the name of a thread's own code, in a text the same in all regions
-ALONE = 0.05        # of the largest piece of a phase: where the others together have less, one thread runs it
-ABOUT = 0.25        # of a turn, by which those of one length differ
 A_START = 50000     # nanoseconds: a thread starts a region's code in less, or goes on after it
 LEAST_HOLDERS = 3   # tasks that hold an item to write
 AROUND_REGIONS = (OWN, AFTER_REGION)
@@ -148,77 +143,19 @@ def costs_of(code, unit):
     return code.cost if unit == 1 else array("Q", map(unit.__mul__, code.cost))
 
 
-def firsts(names):
-    """Of each name where it stands first."""
-    found = {}
-    return [found.setdefault(name, number) for number, name in enumerate(names)]
-
-
-def set_longest(program):
-    """Of threads' own code, by place, the largest pieces of the phases of a region, which run at once."""
-    code, width, largest, whole = program.code, len(program.kinds), {}, defaultdict(int)
-    numbers = firsts(program.kinds)
-    for segment, group in zip(code.own, code.groups):
-        phase, cost = group * width + numbers[code.of[segment]], program.costs[segment]
-        whole[phase] += cost
-        if cost >= largest.get(phase, 0):
-            largest[phase] = cost
-    for phase, cost in largest.items():
-        place = program.places[program.kinds[phase % width]]
-        place.longest += cost
-        place.alone += cost * (whole[phase] - cost < ALONE * cost)
-
-
-def are_turns(less, length):
-    """Whether each is about none of this length or one, and some are one."""
-    about = ABOUT * length
-    if 2 * max(less) <= length:
-        return False
-    for one in less:    # there are many: a generator of each takes three times as long
-        if one >= about and abs(length - one) >= about:
-            return False
-    return True
-
-
-def is_by_a_turn(costs, threads):
-    """Whether it is as if they had a turn of a loop, or none, and some of them one more."""
-    most, least = max(costs), min(costs) if len(costs) >= threads else 0
-    if 4 * (most - least) <= most:
-        return False
-    less = [most - one for one in costs] + [most] * (len(costs) < threads)
-    return are_turns(less, most) or are_turns(less, most / 2)
-
-
-def shares_of(program):
-    """What each part had of divided code, and of threads' own, by the number of its group and of the place."""
-    code, width, had, shares = program.code, len(program.kinds), defaultdict(int), defaultdict(list)
-    is_shared = [kind_of(kind) == SHARE or name.startswith(OWN) for kind, name in zip(code.kinds, program.kinds)]
-    numbers = firsts(program.kinds)
-    for segment in compress(range(len(code)), map(is_shared.__getitem__, code.of)):
-        part = bisect_right(code.own, segment) - 1
-        if part >= 0:
-            had[part, numbers[code.of[segment]]] += program.costs[segment]
-    for (part, number), cost in had.items():
-        shares[code.groups[part] * width + number].append(cost)
-    return shares
-
-
-def set_uneven(program):
-    """Of such code, by place: phase by phase, what the parts had less than that with the most."""
-    width, parts = len(program.kinds), Counter(program.code.groups)
-    places = [program.places.get(name) for name in program.kinds]
-    for share, costs in shares_of(program).items():
-        (group, number), most = divmod(share, width), max(costs)
-        less = parts[group] * most - sum(costs)
-        if less:
-            places[number].uneven += less
-            places[number].by_a_turn += less * is_by_a_turn(costs, parts[group])
+def set_phases(program, unit):
+    """Of code that is divided among threads, by place, what its phases tell."""
+    for row in added_up(program.code):
+        place = program.places[program.kinds[row.kind]]
+        place.longest += unit * row.longest
+        place.alone += unit * row.alone
+        place.uneven += unit * row.uneven
+        place.by_a_turn += unit * row.by_a_turn
 
 
 def read_places(code, unit=1):
-    """A program whose costs are in so many nanoseconds. Threads' own code has its regions in its names."""
-    names = ["%s at %s" % (OWN, kind.region) if name == OWN and kind.region else name
-             for name, kind in zip(code.names, code.kinds)]
+    """A program whose costs are in so many nanoseconds."""
+    names = names_with_regions(code)
     program = Program(code, costs_of(code, unit), names, {})
     for (number, following), (pieces, cost, most) in code.sums.items():
         kind = code.kinds[number]
@@ -228,8 +165,7 @@ def read_places(code, unit=1):
     for number, clauses, count, again in code.clauses:
         if number is not None:      # a thread's own code has none
             program.places[names[number]].add_tasks(count, clauses, again)
-    set_longest(program)
-    set_uneven(program)
+    set_phases(program, unit)
     return program
 
 
