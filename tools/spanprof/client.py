@@ -138,13 +138,14 @@ def numbers_in(cells):
         return []
 
 
-def places(path, numbers, wanted=SUMS, times=()):
+def places(path, numbers, wanted=SUMS, times=(), file_of_times=""):
     """Of the text in a file, of which each segment stands at the place of its number, these columns of `places`.
-    `times` are lines."""
+    `times` are lines, or all stand in a file."""
     numbers = list(numbers)
     words = {number: str(number) for number in set(numbers)}
     lines = [" ".join(map(words.__getitem__, numbers)) + "\n"]
-    return columns(["places"], Document(path, chain(lines, [DIVIDER + "\n"] * bool(times), times)), wanted)
+    divider = [DIVIDER + "\n"] * bool(times or file_of_times)
+    return columns(["places"], Document(path, chain(lines, divider, times), file_of_times), wanted)
 
 
 def named_numbers(lines):

@@ -3,7 +3,7 @@ too, and those of which no text is written."""
 import os
 from dataclasses import dataclass, field
 from functools import cached_property
-from operator import itemgetter
+from itertools import repeat
 from statistics import median_low
 from typing import List, NamedTuple
 
@@ -108,13 +108,12 @@ class Program:
 
 
 def rows_of(names, lines):
-    """A table of an older version does not say how many threads were asked for."""
+    """Column by column, since there may be a million. A table of an older version does not say how many threads were
+    asked for."""
     *numbers, place = (names.index(name) for name in COLUMNS)
-    asked = names.index("asked") if "asked" in names else None
-    chosen = itemgetter(*numbers)
-    for line in filter(None, lines):
-        row = line.split(",", len(names) - 1)
-        yield Region(*map(int, chosen(row)), row[place], int(row[asked]) if asked is not None else 0)
+    columns = list(zip(*(line.split(",", len(names) - 1) for line in filter(None, lines))))
+    asked = map(int, columns[names.index("asked")]) if "asked" in names else repeat(0)
+    return list(map(Region, *(map(int, columns[number]) for number in numbers), columns[place], asked))
 
 
 @read_once

@@ -54,7 +54,7 @@ class Code:
         self.own, self.groups = array("I"), array("I")  # segments that begin a thread's own code, and the group of each
         # Of tasks: the kind of the first segment, what is written, how often, and how often right behind the same.
         self.clauses = []
-        self.phases = self.delays = None    # rows of numbers, as the converter adds them up
+        self.phases = self.delays = self.barriers = self.regions = None     # as the converter adds them up
 
     def add(self, kind):
         self.numbers[kind] = len(self.kinds)

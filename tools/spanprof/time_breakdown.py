@@ -2,6 +2,7 @@
 the recording tells beside them. docs/MODEL.md has the words."""
 import os
 from array import array
+from collections import Counter
 from dataclasses import dataclass, field
 from functools import cached_property
 from heapq import heappop, heappush
@@ -44,8 +45,24 @@ def idle_by_place(path, rows, places, threads, elapsed):
     numbers = {name: number for number, name in enumerate(names)}
     times = chain(["times %d %d %d\n" % (threads, first, first + elapsed)],
                   map("%d %d %d %d\n".__mod__, zip(count(), rows.thread, rows.begin, rows.end)))
-    found = client.places(path, map(numbers.get, places), client.IDLE, times)
-    return [{name: part for part, name in sorted(zip(parts, names), reverse=True) if part} for parts in found]
+    return [longest_first(zip(parts, names))
+            for parts in client.places(path, map(numbers.get, places), client.IDLE, times)]
+
+
+def longest_first(parts):
+    return {name: part for part, name in sorted(parts, reverse=True) if part}
+
+
+def idle_by_kind(text, of, names, times):
+    """The same, where each segment has the number of a kind with a name, of which several may be alike, and all times
+    stand in a file."""
+    out = []
+    for parts in client.places(text, of, client.IDLE, file_of_times=times):
+        sums = Counter()
+        for name, part in zip(names, parts):
+            sums[name] += part
+        out.append(longest_first((part, name) for name, part in sums.items()))
+    return out
 
 
 @dataclass
@@ -77,6 +94,7 @@ class TimeBreakdown:
     path: str = ""          # of the document
     rows: Optional[Rows] = None
     places: List[str] = field(default_factory=list)     # of the segments
+    idle_parts: Optional[list] = None   # of idle time, where they are known without rows
 
     @property
     def whole(self):
@@ -96,6 +114,8 @@ class TimeBreakdown:
     @cached_property
     def idle(self):
         """Delayed and starved time by place: the parts add up to the sums. Without rows there are no places."""
+        if self.idle_parts:
+            return self.idle_parts
         if not self.rows:
             return {}, {}
         return idle_by_place(self.path, self.rows, self.places, self.threads, self.elapsed)

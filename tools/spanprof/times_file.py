@@ -4,6 +4,13 @@ from array import array
 PIECE = 1 << 20     # bytes that are read at a time
 
 
+def threads_in(path):
+    """Of such a file, by its first line."""
+    with open(path, encoding="utf-8", errors="replace") as file:
+        words = file.readline().split()
+    return int(words[1]) if words[:1] == ["times"] and len(words) == 4 else None
+
+
 def times_in(path):
     """Of such a file, or of a document with a text before them: the numbers of the first line, and the columns."""
     out = [array("q") for _ in range(4)]

@@ -107,7 +107,7 @@ void Delays::take(const Region &region, Region &part, const Events &events,
 }
 
 void Delays::put(const Events &events, Object &line) {
-  if (!are_known || !events.are_whole()) return;
+  if (!are_known) return;
   if (is_left) add(kind_left, events.times.back().begin - ready_left);
   std::string list;
   for (auto &[kind, sum] : sums)

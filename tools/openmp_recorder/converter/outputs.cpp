@@ -1,7 +1,9 @@
 #include "outputs.hpp"
 
 #include <algorithm>
+#include <optional>
 
+#include "barriers.hpp"
 #include "chosen.hpp"
 #include "compose.hpp"
 #include "delays.hpp"
@@ -42,6 +44,7 @@ class Reporter {
   const Options &options;
   Recording recording;
   Places places;
+  RegionSums of_regions;
 
   Size measure(Region &region);
   std::string head(Region &region, int64_t work);
@@ -130,21 +133,51 @@ bool Reporter::write_text(Region &region, const std::string &file, const std::st
   });
 }
 
+// What is added up of the segments of the whole program beside their table, where they have times.
+class TimedSums {
+ public:
+  TimedSums(WholeProgram &program, SegmentTable &of, Events &times, const RegionSums &regions)
+      : whole(program),
+        table(of),
+        events(times),
+        barriers(of, [&](std::string_view place) { return regions.most_threads(place); }) {}
+  void take(Region &part, uint32_t first, uint32_t end) {
+    events.take(whole, part, first, end);
+    std::vector<SegmentTable::Around> around = table.take_around();
+    delays.take(whole, part, events, around);
+    barriers.take(events, around);
+  }
+  void put(Object &line) {
+    if (!events.are_whole()) return;
+    delays.put(events, line);
+    barriers.put(line);
+  }
+
+ private:
+  WholeProgram &whole;
+  SegmentTable &table;
+  Events &events;
+  Delays delays;
+  Barriers barriers;
+};
+
 // Of the whole program, with the table of its segments where that has room for all.
 bool Reporter::write_whole(WholeProgram &whole, const std::string &name, const std::string &head, const Style &style,
                            Events &events) {
   std::string file = name + ".segments";
   NewFile out(file);
   SegmentTable table([&](std::string_view piece) { out.put(piece); });
-  Delays delays;
+  std::optional<TimedSums> sums;
+  if (whole.has_events) sums.emplace(whole, table, events, of_regions);
   auto take_part = [&](Region &part, uint32_t first, uint32_t end) {
-    std::vector<SegmentTable::Around> around = table.take_around();
-    if (whole.has_events) events.take(whole, part, first, end), delays.take(whole, part, events, around);
+    if (sums) sums->take(part, first, end);
+    else table.take_around();
     whole.off.number(whole);
   };
   bool is_text = write_text(whole, name + ".tasks", head, style, &table, take_part, nullptr);
   bool has_room = table.finish([&](Object &line) {
-    if (whole.has_events) delays.put(events, line);
+    of_regions.put(line);
+    if (sums) sums->put(line);
   });
   bool is_table = out.end();
   if (!has_room) remove(file.c_str());
@@ -197,6 +230,7 @@ void Reporter::write_regions(const Run &run, const WholeTime &time, const std::s
   if (run.regions.empty()) return;
   if (options.lines) places.look_up(codes_of_regions(run));
   write_file(name + ".regions", [&](const Taker &taker) { print_regions(run, time, places, taker); });
+  of_regions = sums_of_regions(run, time, places);
 }
 
 // All, or where one is asked for that of median work at its place, so that one that a busy machine held up stands for

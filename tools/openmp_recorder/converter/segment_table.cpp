@@ -83,13 +83,17 @@ uint32_t SegmentTable::kind(After after, uint32_t after_place) {
 
 // Kinds that have the same words but for the task that they are in are of one place.
 void SegmentTable::describe(After after, uint32_t after_place, uint32_t of_region) {
-  bool is_own = !after && are_of_regions[here.place];
-  OfKind of{no_place, of_region, is_own, after && begins_with(words[after_place], barrier)};
-  if (is_own || is_share(words[here.place])) {
+  std::string_view task = words[here.place];
+  bool is_own = !after && are_of_regions[here.place], is_divided = is_own || is_share(task);
+  OfKind of{no_place, of_region, here.is_root, is_divided, is_own, after && begins_with(words[after_place], barrier)};
+  if (is_divided || begins_with(task, of_a_thread)) {
     std::array<uint32_t, 3> key{after, after ? after_place : here.place, is_own ? of_region : 0};
-    auto [known, is_new] = places.try_emplace(key, 0);
-    if (is_new) known->second = phases.add_place(is_own, static_cast<uint32_t>(kinds.size() - 1));
+    auto [known, is_new] = places.try_emplace(key, kinds_of_places.size());
     of.place = known->second;
+    if (is_new) {
+      kinds_of_places.push_back(static_cast<uint32_t>(kinds.size() - 1));
+      phases.add_place(is_own, kinds_of_places.back());
+    }
   }
   of_kinds.push_back(of);
 }
@@ -108,7 +112,9 @@ void SegmentTable::close(uint32_t following) {
     add_number(long_costs, cost);
   }
   costs.push_back(static_cast<uint32_t>(cost < long_cost ? cost : 0));
-  if (uint32_t place = of_kinds[last].place; place != no_place) phases.add(place, cost);
+  const OfKind &of = of_kinds[last];
+  if (of.is_divided) phases.add(of.place, cost);
+  if (has_part) add_to_part(of);
   cost_before = std::exchange(cost, 0);
   if (costs.size() == of_a_block) hand_on();
 }
@@ -124,10 +130,10 @@ void SegmentTable::hand_on() {
 uint32_t SegmentTable::open(After after, uint32_t after_place) {
   is_pending = false;
   uint32_t found = kind(after, after_place);
-  const OfKind &of = of_kinds[found], &before_it = of_kinds[last];
+  const OfKind &of = of_kinds[found];
   if (segments) close(found);
   if (of.is_own || of.is_behind) around.push_back({static_cast<uint32_t>(segments), found});
-  if (of.is_own) begin_own(of, before_it);
+  if (of.is_own) begin_own(found, of_kinds[last]);
   last = found;
   segments++;
   kinds_of.push_back(static_cast<uint16_t>(found));
@@ -135,11 +141,32 @@ uint32_t SegmentTable::open(After after, uint32_t after_place) {
   return found;
 }
 
-void SegmentTable::begin_own(const OfKind &of, const OfKind &before_it) {
+void SegmentTable::begin_own(uint32_t number, const OfKind &before_it) {
+  const OfKind &of = of_kinds[number];
   uint32_t group = groups.empty() ? 0 : blocks[groups.back()].number;
+  bool is_behind = before_it.is_behind && !cost_before;
   add_number(own, segments);
   add_number(own, group);
-  phases.begin_part(group, of.place, of.region, before_it.is_behind && !cost_before);
+  phases.begin_part(group, of.place, of.region, is_behind);
+  if (!keeps_parts) return;
+  end_part();
+  part = {number, of.region, group, is_behind, false, {}};
+  has_part = true;
+}
+
+void SegmentTable::add_to_part(const OfKind &of) {
+  if (of.place == no_place) {
+    part.has_tasks = part.has_tasks || (cost && !of.is_root);
+    return;
+  }
+  auto same = std::find_if(part.shares.rbegin(), part.shares.rend(), [&](auto &one) { return one.place == of.place; });
+  if (same == part.shares.rend()) part.shares.push_back({of.place, cost});
+  else same->cost += cost;
+}
+
+void SegmentTable::end_part() {
+  if (has_part) parts.push_back(std::move(part));
+  has_part = false;
 }
 
 // A group around the code of a region's threads is the end of a barrier.
@@ -195,6 +222,7 @@ void SegmentTable::end() {
 std::string SegmentTable::phases_in_lists() {
   std::string list;
   for (const Phases::Sums &one : phases.finish()) {
+    if (!one.phases && !one.uneven) continue;
     list += list.empty() ? "[" : ", [";
     for (uint64_t number : {uint64_t{one.kind}, one.longest, one.alone, one.uneven, one.by_a_turn, one.phases})
       list += std::to_string(number) + ", ";
@@ -205,6 +233,7 @@ std::string SegmentTable::phases_in_lists() {
 
 bool SegmentTable::finish(const std::function<void(Object &)> &more) {
   close(0);
+  end_part();
   hand_on();
   std::string list;
   for (const std::string &kind : kinds) list += (list.empty() ? "[" : ", [") + kind + "]";

@@ -23,6 +23,15 @@ class SegmentTable {
   struct Around {
     uint32_t segment, kind;
   };
+  struct Share {  // of a place of code that is divided among threads, or each of them has
+    uint32_t place;
+    uint64_t cost;
+  };
+  struct OwnPart {  // what a thread does up to the next barrier, or to where another one begins in the text
+    uint32_t kind, region, group;
+    bool is_behind, has_tasks;  // right behind a barrier
+    std::vector<Share> shares;
+  };
   explicit SegmentTable(std::function<void(std::string_view)> to) : taker(std::move(to)) { open(Nothing, 0); }
   void work(uint64_t more) { cost += more, is_pending = is_pending && !more; }
   void task(std::string_view clauses, std::string_view place);
@@ -30,6 +39,11 @@ class SegmentTable {
   void wait(std::string_view place);
   void end();
   std::vector<Around> take_around() { return std::exchange(around, {}); }  // those since they were taken last
+  void keep_parts() { keeps_parts = true; }
+  std::vector<OwnPart> take_parts() { return std::exchange(parts, {}); }  // the same of those that are over
+  bool is_own(uint32_t kind) const { return of_kinds[kind].is_own; }
+  uint32_t kind_of(uint32_t place) const { return kinds_of_places[place]; }  // one of them
+  std::string_view words_of(uint32_t region) const { return words[region]; }
   // Whether it has room for all kinds. `more` is put into its last line.
   bool finish(const std::function<void(Object &)> &more = nullptr);
 
@@ -52,8 +66,9 @@ class SegmentTable {
     uint64_t count = 0, again = 0;  // tasks, and those right behind another one with the same
   };
   struct OfKind {  // what a segment of it is
-    uint32_t place;  // of what is divided among threads, by number; none of other code
+    uint32_t place;  // of code that is divided among threads, or each of them has; none of other code
     uint32_t region;
+    bool is_root, is_divided;
     bool is_own, is_behind;  // a thread begins with it; it comes behind a region's barrier
   };
   struct Sums {  // of the segments of a kind before those of another one
@@ -69,7 +84,12 @@ class SegmentTable {
   std::vector<std::string> kinds;  // in JSON
   std::vector<OfKind> of_kinds;
   std::map<std::array<uint32_t, 3>, uint32_t> places;  // by their words
+  std::vector<uint32_t> kinds_of_places;
   Phases phases;
+  bool keeps_parts = false;
+  std::vector<OwnPart> parts;
+  OwnPart part{};  // that is not over
+  bool has_part = false;
   std::vector<Around> around;
   std::unordered_map<uint64_t, uint32_t> kind_numbers;
   std::array<std::pair<uint64_t, uint32_t>, 64> recent_kinds{};  // of these, by their keys
@@ -97,7 +117,9 @@ class SegmentTable {
   uint32_t open(After after, uint32_t after_place);  // the kind of the new segment
   void describe(After after, uint32_t after_place, uint32_t of_region);  // a kind that is new
   void close(uint32_t following);
-  void begin_own(const OfKind &of, const OfKind &before_it);
+  void begin_own(uint32_t number, const OfKind &before_it);
+  void add_to_part(const OfKind &of);
+  void end_part();
   std::string phases_in_lists();
   void hand_on();
   void name_barrier();

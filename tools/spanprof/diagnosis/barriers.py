@@ -1,6 +1,7 @@
 """Barriers between loops of a region at which threads wait for each other, though each has as much to do in all."""
 import itertools
 from collections import Counter, defaultdict
+from operator import itemgetter
 from typing import NamedTuple
 
 from spanprof.diagnosis.places import OF_THREADS, SHARE, kind_of
@@ -55,12 +56,12 @@ def regions_with_several(program):
     return {region for region, count in phases.items() if count and further[region] >= SELDOM * count}
 
 
-def times_of_regions(program, threads):
+def times_of_regions(program, several, threads):
     """By region, of each time that it began its phases, and of these the parts by thread. Regions whose threads seldom
     go on behind a barrier are left out: there are many."""
-    found, several = defaultdict(list), regions_with_several(program)
+    found = defaultdict(list)
     code, costs, name_of = program.code, program.costs, kinds_of(program).__getitem__
-    for kind, goes_on, parts in phases_in(code) if several else ():
+    for kind, goes_on, parts in phases_in(code):
         region = code.kinds[kind].region
         if region in several:
             found[region] += [] if goes_on else [[]]
@@ -112,14 +113,33 @@ def barrier_of(times):
     return waits, max(behind, key=behind.get, default=""), less / max(1, sum(waits.values()))
 
 
-def needless_barriers(program, regions, threads):
-    """By place of code in regions whose barriers are the cause of its waits: the place before such a barrier, and the
-    share of the waits. `threads` has that of each segment."""
-    out, known = {}, {(one.place, one.times): one.threads for one in regions}
-    for region, times in times_of_regions(program, threads).items():
+def barriers_by_rows(program, several, known, threads):
+    """Of each region what barrier_of answers, with the threads of each segment."""
+    for region, times in times_of_regions(program, several, threads).items():
         team = known.get((region, len(times)), 0)
-        phases = [[phase_of(parts, team) for parts in one] for one in times]
-        waits, behind, share = barrier_of(phases) if team else ({}, "", 0)
+        if team:
+            yield barrier_of([[phase_of(parts, team) for parts in one] for one in times])
+
+
+def barriers_by_kind(program, several, known):
+    """The same, as the converter adds them up."""
+    names = {**dict(enumerate(program.kinds)), None: ""}
+    for kind, times, less, waits, behind in program.code.barriers:
+        region = program.code.kinds[kind].region
+        if region in several and known.get((region, times)):
+            waits = {names[place]: time for place, time in waits}
+            at = max(behind, key=itemgetter(1), default=(None, 0))
+            yield waits, names[at[0]], less / max(1, sum(waits.values()))
+
+
+def needless_barriers(program, regions, threads_of):
+    """By place of code in regions whose barriers are the cause of its waits: the place before such a barrier, and the
+    share of the waits. `threads_of` answers that of each segment."""
+    out, known = {}, {(one.place, one.times): one.threads for one in regions}
+    several = regions_with_several(program)
+    found = () if not several else barriers_by_kind(program, several, known) if program.code.barriers is not None else \
+        barriers_by_rows(program, several, known, threads_of())
+    for waits, behind, share in found:
         if share >= EVENED:
             out.update(dict.fromkeys(waits, (behind, share)))
     return out

@@ -21,10 +21,11 @@ from spanprof.errors import reading
 from spanprof.head import head_of
 from spanprof.program_text import BEGINNING
 from spanprof.recording import document
-from spanprof.regions import program_of, union
+from spanprof.regions import UNKNOWN, program_of, union
 from spanprof.segment_table import code_in
 from spanprof.text_file import TextFile, read_once
-from spanprof.time_breakdown import breakdown_of
+from spanprof.time_breakdown import breakdown_of, idle_by_kind
+from spanprof.times_file import threads_in, times_in
 from spanprof.whatif.numbers import numbers_of
 
 RUNTIMES = {"llvm": "LLVM", "gnu": "gcc"}
@@ -203,18 +204,48 @@ def starting_shares(found):
     return {name: starting[name] / time for name, time in whole.items() if time}
 
 
+def starting_of_kinds(delays, names):
+    """The same of kinds with these names, as the converter adds them up."""
+    whole, starting = Counter(), Counter()
+    for kind, delayed, part in delays:
+        whole[names[kind]] += delayed
+        starting[names[kind]] += part
+    return {name: starting[name] / time for name, time in whole.items() if time}
+
+
+def breakdown_by_kind(facts, recording, head, work, program):
+    """Without the rows of segments, of which there may be millions; None where the run's threads are to be numbered
+    anew, or the table of segments does not tell delays."""
+    code, times = program.code, recording.times
+    if code.delays is None or not recording.folder or threads_in(times) != facts.threads:
+        return None
+    found, idle = client.at_once(lambda ask: ask(), (
+        lambda: breakdown_of(head, work, document(recording)),
+        lambda: idle_by_kind(recording.text, code.of, program.kinds, times)))
+    found.idle_parts = idle
+    facts.starting_by = starting_of_kinds(code.delays, program.kinds)
+    facts.barriers = needless_barriers(program, facts.regions, lambda: times_in(times)[1][1])
+    return found
+
+
+def breakdown_by_rows(facts, timed, head, work, program):
+    found = of_those_at_once(breakdown_of(head, work, timed, program.names), facts.threads)
+    facts.starting_by = starting_shares(found)
+    facts.barriers = needless_barriers(program, facts.regions, lambda: found.rows.thread)
+    return found
+
+
 def set_breakdown(facts, recording, head, work, program):
     """By the times of the run."""
     timed = document(recording)
     if not timed:
         raise NoBreakdown("it has no times")
-    found = of_those_at_once(breakdown_of(head, work, timed, program.names), facts.threads)
+    found = breakdown_by_kind(facts, recording, head, work, program) or \
+        breakdown_by_rows(facts, timed, head, work, program)
     facts.threads = found.threads
     for name, part in found.parts.items():
         setattr(facts, name.replace(" ", "_"), part)
-    facts.starting_by = starting_shares(found)
     facts.delayed_by, facts.starved_by = found.idle
-    facts.barriers = needless_barriers(program, facts.regions, found.rows.thread)
 
 
 @read_once
@@ -398,6 +429,22 @@ def regions_of(program):
     return [regions_at(place, added[place.name]) for place in program.places if not place.is_inside] if program else []
 
 
+def regions_in_sums(places):
+    """The same of sums by place, where no region is inside another one."""
+    return [Region(place or UNKNOWN, max(threads for threads, *_ in teams), elapsed, min(teams)[2] or None, times,
+                   teams={threads: time for threads, time, _ in teams}) for place, times, elapsed, teams in places]
+
+
+def set_regions(facts, path, code):
+    if code.regions:
+        facts.tasks_in_regions, facts.regions = code.regions[0], regions_in_sums(code.regions[1])
+        return
+    regions = program_of(path)
+    facts.regions, facts.inner = regions_of(regions), inner_regions(regions)
+    facts.denied = denied_time(regions, facts.usable)
+    facts.tasks_in_regions = not regions or any(region.tasks for region in regions.regions)
+
+
 def of_text(head, program, numbers):
     """What the text alone tells: its head, its places, its work and span."""
     unit = head.nanoseconds or 1
@@ -423,10 +470,8 @@ def facts_of(recording, end_of=greedy_end):
     program, numbers = read_places(code, head.nanoseconds or 1), client.measured(path)
     facts = of_text(head, program, numbers)
     set_meta(facts, meta)
-    facts.locks, regions = locks_of(recording.file("locks"), head), program_of(path)
-    facts.regions, facts.inner = regions_of(regions), inner_regions(regions)
-    facts.denied = denied_time(regions, facts.usable)
-    facts.tasks_in_regions = not regions or any(region.tasks for region in regions.regions)
+    facts.locks = locks_of(recording.file("locks"), head)
+    set_regions(facts, path, code)
     set_off(facts, off, program)
     facts.calls = calls_of(recording.file("calls"), code.of, program.kinds)
     set_ranks(facts)

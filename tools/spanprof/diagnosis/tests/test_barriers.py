@@ -30,7 +30,7 @@ def barriers(phases, threads, times=1, **more):
     ran = [0] * len(one.code)
     for segment, thread in zip(one.code.own, threads):
         ran[segment] = thread
-    return needless_barriers(one, [Region("image.c:2", len(set(threads)), MS, times=times)], ran)
+    return needless_barriers(one, [Region("image.c:2", len(set(threads)), MS, times=times)], lambda: ran)
 
 
 class Barriers(unittest.TestCase):
