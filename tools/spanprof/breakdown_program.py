@@ -1,5 +1,6 @@
 """What spanprof_large account tells of a timed document."""
 import re
+from contextlib import contextmanager
 
 from spanprof import client
 from spanprof.command import naming
@@ -32,9 +33,16 @@ def in_words(line):
 
 def answered(read, words, path, *more):
     """What `read`, of the client, makes of `account` with these words and the timed document in a file."""
+    with timed(path), open(path, "rb") as document:
+        return read(["account", *words], document, *more)
+
+
+@contextmanager
+def timed(path):
+    """Has what the program refuses there, of a file of times or a document with them, be why there is no breakdown."""
     try:
-        with naming(path), open(path, "rb") as document:
-            return read(["account", *words], document, *more)
+        with naming(path):
+            yield
     except client.Refused as refused:
         raise NoBreakdown(in_words(refused.answer)) from refused
     except Fault as wrong:

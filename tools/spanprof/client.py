@@ -19,7 +19,7 @@ from spanprof.text_file import PIECE, Document, TextFile, opened, read_once
 
 LARGE = "spanprof_large"
 SUMS = ("segments", "work", "on_path", "path", "slack")    # of a place
-IDLE = ("delayed", "starved")       # of it in a run
+BUSY, IDLE = "busy", ("delayed", "starved")      # of it in a run
 
 
 def program():
@@ -73,6 +73,14 @@ def run(words, text):
     start = words_to_start(words)
     with opened(text) as file, starting(start):
         return subprocess.run(start, stdin=file, capture_output=True, text=True, errors="replace", check=False)
+
+
+def meanwhile(answer, *words):
+    """Begins to ask; what is answered then waits for it."""
+    pool = ThreadPoolExecutor(1)
+    asked = pool.submit(answer, *words)
+    pool.shutdown(wait=False)
+    return asked.result
 
 
 def at_once(answer, questions):

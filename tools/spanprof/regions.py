@@ -7,7 +7,7 @@ from itertools import repeat
 from statistics import median_low
 from typing import List, NamedTuple
 
-from spanprof.errors import Fault
+from spanprof.errors import Fault, reading
 from spanprof.recording import REGIONS, folder_of
 from spanprof.text_file import read_once
 
@@ -128,6 +128,17 @@ def read_regions(path):
     if [name for name in names if name != "asked"] != list(COLUMNS) or whole.number != 0 or not whole.elapsed > 0:
         raise Fault("%s is not a table of regions" % path)
     return Program(whole.elapsed, rest)
+
+
+def most_threads(text):
+    """Of a recording's regions; None where it has none."""
+    path = os.path.join(folder_of(text), REGIONS)
+    if not folder_of(text) or not os.path.exists(path):
+        return None
+    with reading(path), open(path, encoding="utf-8", errors="replace") as file:
+        at = next(file, "").rstrip("\n").split(",").index("threads")
+        next(file, "")      # of the program
+        return max((int(line.split(",", at + 1)[at]) for line in file if line.strip()), default=None)
 
 
 def program_of(text):

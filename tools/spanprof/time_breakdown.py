@@ -10,10 +10,11 @@ from itertools import chain, count
 from typing import List, NamedTuple, Optional
 
 from spanprof import client
-from spanprof.breakdown_program import NoBreakdown, answered
+from spanprof.breakdown_program import NoBreakdown, answered, timed
 from spanprof.errors import Fault
 from spanprof.recording import document, open_recording
 from spanprof.remarks import UNFINISHED
+from spanprof.times_file import head_in
 
 NO_TIMES_KEPT = "several of the program's threads meet regions, or it has more tasks and chunks than times are kept of"
 
@@ -53,16 +54,12 @@ def longest_first(parts):
     return {name: part for part, name in sorted(parts, reverse=True) if part}
 
 
-def idle_by_kind(text, of, names, times):
-    """The same, where each segment has the number of a kind with a name, of which several may be alike, and all times
-    stand in a file."""
-    out = []
-    for parts in client.places(text, of, client.IDLE, file_of_times=times):
-        sums = Counter()
-        for name, part in zip(names, parts):
-            sums[name] += part
-        out.append(longest_first((part, name) for name, part in sums.items()))
-    return out
+def by_name(names, parts):
+    """Sums of these parts, of which several names may be alike."""
+    sums = Counter()
+    for name, part in zip(names, parts):
+        sums[name] += part
+    return longest_first((part, name) for name, part in sums.items())
 
 
 @dataclass
@@ -166,12 +163,28 @@ def breakdown_of(head, work, path, places=()):
         found.rows = Rows(*answered(client.columns, ["--rows"], path, Rows._fields))
         if len(found.rows.thread) != len(places):
             raise NoBreakdown("there are times of %d segments, and not of %d" % (len(found.rows.thread), len(places)))
+    return divide(found, head, work)
+
+
+def divide(found, head, work):
+    """What the head of the text tells of the time in code."""
     # lines that are rounded to whole units may have less than the text covers
     found.blocked, found.recorder = divide_busy(found, head, max(work, head.covered or 0))
     found.by_processor = head.clock == "cpu"
     found.of_whole = bool(head.whole)
     found.left_out = (head.not_covered.get("of this region", 0) + head.untimed) * head.nanoseconds
     return found
+
+
+def breakdown_by_kind(head, work, text, of, names, times):
+    """The same of a recording's text, each segment of which has the number of a kind with a name, and all times stand
+    in a file: without rows, of which there may be millions."""
+    with timed(times):
+        busy, *idle = client.places(text, of, (client.BUSY, *client.IDLE), file_of_times=times)
+        (threads, first, last), parts = head_in(times), [sum(busy), *map(sum, idle)]
+    found = TimeBreakdown(threads, last - first, *parts, threads * (last - first) - sum(parts))
+    found.idle_parts = [by_name(names, one) for one in idle]
+    return divide(found, head, work)
 
 
 def times_name(path):

@@ -4,11 +4,13 @@ from array import array
 PIECE = 1 << 20     # bytes that are read at a time
 
 
-def threads_in(path):
-    """Of such a file, by its first line."""
+def head_in(path):
+    """Of such a file the numbers of the first line: its threads, and the first and the last moment."""
     with open(path, encoding="utf-8", errors="replace") as file:
-        words = file.readline().split()
-    return int(words[1]) if words[:1] == ["times"] and len(words) == 4 else None
+        word, threads, first, last = file.readline().split()
+    if word != "times":
+        raise ValueError("no times")
+    return int(threads), int(first), int(last)
 
 
 def times_in(path):

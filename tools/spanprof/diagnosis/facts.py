@@ -24,8 +24,8 @@ from spanprof.recording import document
 from spanprof.regions import UNKNOWN, program_of, union
 from spanprof.segment_table import code_in
 from spanprof.text_file import TextFile, read_once
-from spanprof.time_breakdown import breakdown_of, idle_by_kind
-from spanprof.times_file import threads_in, times_in
+from spanprof.time_breakdown import breakdown_by_kind, breakdown_of
+from spanprof.times_file import head_in, times_in
 from spanprof.whatif.numbers import numbers_of
 
 RUNTIMES = {"llvm": "LLVM", "gnu": "gcc"}
@@ -213,22 +213,22 @@ def starting_of_kinds(delays, names):
     return {name: starting[name] / time for name, time in whole.items() if time}
 
 
-def breakdown_by_kind(facts, recording, head, work, program):
-    """Without the rows of segments, of which there may be millions; None where the run's threads are to be numbered
-    anew, or the table of segments does not tell delays."""
+def has_sums(facts, recording, code):
+    """Whether the table of segments tells what rows of the times would tell: where the run's threads are numbered as it
+    had them at once."""
+    return code.delays is not None and head_in(recording.times)[0] == facts.threads
+
+
+def breakdown_of_sums(facts, recording, head, work, program):
+    """Without rows, of which there may be millions."""
     code, times = program.code, recording.times
-    if code.delays is None or not recording.folder or threads_in(times) != facts.threads:
-        return None
-    found, idle = client.at_once(lambda ask: ask(), (
-        lambda: breakdown_of(head, work, document(recording)),
-        lambda: idle_by_kind(recording.text, code.of, program.kinds, times)))
-    found.idle_parts = idle
+    found = breakdown_by_kind(head, work, recording.text, code.of, program.kinds, times)
     facts.starting_by = starting_of_kinds(code.delays, program.kinds)
     facts.barriers = needless_barriers(program, facts.regions, lambda: times_in(times)[1][1])
     return found
 
 
-def breakdown_by_rows(facts, timed, head, work, program):
+def breakdown_of_rows(facts, timed, head, work, program):
     found = of_those_at_once(breakdown_of(head, work, timed, program.names), facts.threads)
     facts.starting_by = starting_shares(found)
     facts.barriers = needless_barriers(program, facts.regions, lambda: found.rows.thread)
@@ -237,11 +237,12 @@ def breakdown_by_rows(facts, timed, head, work, program):
 
 def set_breakdown(facts, recording, head, work, program):
     """By the times of the run."""
-    timed = document(recording)
-    if not timed:
+    if not recording.times:
         raise NoBreakdown("it has no times")
-    found = breakdown_by_kind(facts, recording, head, work, program) or \
-        breakdown_by_rows(facts, timed, head, work, program)
+    if has_sums(facts, recording, program.code):
+        found = breakdown_of_sums(facts, recording, head, work, program)
+    else:
+        found = breakdown_of_rows(facts, document(recording), head, work, program)
     facts.threads = found.threads
     for name, part in found.parts.items():
         setattr(facts, name.replace(" ", "_"), part)
@@ -464,10 +465,11 @@ def of_text(head, program, numbers):
 def facts_of(recording, end_of=greedy_end):
     """Of a recording's folder, or of a plain text with what lies beside it. `end_of` is asked only without times."""
     path, meta = recording.text, recording.meta
+    measured = client.meanwhile(client.measured, path)
     code, head = code_in(path), head_of(path)
     off = {segment: times for segment, times in off_by_segment(recording.file("off"), head).items()
            if 0 <= segment < len(code)}
-    program, numbers = read_places(code, head.nanoseconds or 1), client.measured(path)
+    program, numbers = read_places(code, head.nanoseconds or 1), measured()
     facts = of_text(head, program, numbers)
     set_meta(facts, meta)
     facts.locks = locks_of(recording.file("locks"), head)

@@ -55,11 +55,6 @@ def threads_asked(variables):
     return int(first) if re.fullmatch(r"[0-9]{1,6}", first) and int(first) else None
 
 
-def facts_of_program(program):
-    """What the table of its regions tells, with the names of recording.json."""
-    return {"threads": {"most": max((region.threads for region in program.regions), default=None) if program else None}}
-
-
 def processor_time(usage):
     return usage.get("user_ns", 0) + usage.get("system_ns", 0)
 

@@ -5,10 +5,9 @@ import os
 from spanprof.command import writing
 from spanprof.errors import DAMAGE
 from spanprof.head import head_of
-from spanprof.record.facts import facts_of_program
 from spanprof.record.runtime_name import runtimes_of
 from spanprof.recording import LOG, META, SCHEMA, TEXT, checksum
-from spanprof.regions import program_of
+from spanprof.regions import most_threads
 
 
 def files_in(folder):
@@ -21,10 +20,10 @@ def files_in(folder):
 
 def of_text(text):
     """What the head of the text and the table of regions tell."""
-    head, program = head_of(text), program_of(text)
+    head = head_of(text)
     covered = head.covered / head.thread_time if head.thread_time and head.covered is not None else None
     return {"program": head.program, "date": head.date, "clock": head.clock, "unit": head.unit, "coverage": covered,
-            **facts_of_program(program)}
+            "threads": {"most": most_threads(text)}}
 
 
 def merged(old, new):

@@ -83,7 +83,8 @@ def print_measured(session, pairs, news, is_cut):
         return
     waits = list(filter(None, (waits_of(recording) for recording, _ in pairs)))
     late, ranks = waited_for(waits), waits_line(waits)
-    first = max(pairs, key=lambda pair: (late is not None and waits_of(pair[0]) == late, pair[1].work))
+    first = pairs[0] if len(pairs) == 1 else max(
+        pairs, key=lambda pair: (late is not None and waits_of(pair[0]) == late, pair[1].work))
     others = [rank_line(*pair) for pair in pairs if pair is not first]
     print_summary(session, *first, others, news, is_cut)
     show(["rank  " + ranks] if ranks else [])

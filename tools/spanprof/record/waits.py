@@ -24,11 +24,13 @@ class Waits(NamedTuple):
 def waits_of(recording):
     """None of a process that is no rank, or without samples."""
     rank, time, sampled = rank_in(recording.folder), 0, 0
+    if rank is None:
+        return None
     for _, did, one, calls in samples_in(recording.file("calls")):
         if did in IN_CALLS:
             sampled += one
             time += one * is_of_ranks(calls)
-    return Waits(rank, time, sampled) if rank is not None and sampled else None
+    return Waits(rank, time, sampled) if sampled else None
 
 
 def halves(waits):

@@ -1,7 +1,8 @@
 import unittest
 
-from spanprof.diagnosis.places import (OF_THREADS, OWN, SERIAL, SHARE, TASK, in_text, is_by_a_turn, lines_between)
+from spanprof.diagnosis.places import OF_THREADS, OWN, SERIAL, SHARE, TASK, in_text, lines_between
 from spanprof.diagnosis.tests.worked import TEXT, program
+from spanprof.phases import is_by_a_turn
 from spanprof.tests.columns import segments_of
 
 
