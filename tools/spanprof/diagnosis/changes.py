@@ -16,7 +16,7 @@ from spanprof.whatif.creating import costs_for
 from spanprof.whatif.numbers import greedy_end
 from spanprof.whatif.requests import Request, applied, changes
 from spanprof.whatif.survey import survey
-from spanprof.whatif.trials import best_first, seconds_for
+from spanprof.whatif.trials import best_first
 
 MOST = 4            # places of a kind that are tried
 MOST_TOGETHER = 8   # of one function
@@ -129,12 +129,12 @@ def candidates(facts, seen):
 
 
 class Bench:
-    """A text on which changes are tried, on as many threads as the run could have had. All have these seconds, or as
-    long as the run took and no less than ten seconds; `longest` is what one of them took."""
+    """A text on which changes are tried, on as many threads as the run could have had. All have these seconds, with
+    the reading of the text; `longest` is what one of them took."""
 
-    def __init__(self, text, facts, end_of, seconds=None):
+    def __init__(self, text, facts, end_of, seconds):
         self.facts, self.end_of, self.path = facts, end_of, text.path
-        self.until, self.longest = time.monotonic() + (seconds or seconds_for(facts.elapsed)), 0
+        self.until, self.longest = time.monotonic() + seconds, 0
         self.unit = text.head.nanoseconds or 1
         self.kept = text.statements()
         self.seen = survey(self.kept)
