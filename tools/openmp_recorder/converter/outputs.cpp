@@ -36,7 +36,7 @@ class Reporter {
   void write(Region &region, const std::string &name);
   void report_outside(const Occurrences &outside);
   void write_regions(const Run &run, const WholeTime &time, const std::string &name);
-  std::vector<Region *> chosen(const Run &run, std::vector<Region *> regions);
+  std::vector<Region *> chosen(std::vector<Region *> regions);
   void write_locks(const std::vector<Records *> &threads, const std::string &name);
   void write_off(WholeProgram &whole, const Stacks &stacks, const std::string &name);
 
@@ -227,7 +227,7 @@ void Reporter::report_outside(const Occurrences &outside) {
 
 // Of a run without regions there is no table.
 void Reporter::write_regions(const Run &run, const WholeTime &time, const std::string &name) {
-  if (run.regions.empty()) return;
+  if (run.rows.empty()) return;
   if (options.lines) places.look_up(codes_of_regions(run));
   write_file(name + ".regions", [&](const Taker &taker) { print_regions(run, time, places, taker); });
   of_regions = sums_of_regions(run, time, places);
@@ -235,10 +235,12 @@ void Reporter::write_regions(const Run &run, const WholeTime &time, const std::s
 
 // All, or where one is asked for that of median work at its place, so that one that a busy machine held up stands for
 // none.
-std::vector<Region *> Reporter::chosen(const Run &run, std::vector<Region *> regions) {
+std::vector<Region *> Reporter::chosen(std::vector<Region *> regions) {
   if (!options.one_region) return regions;
   if (!options.region.empty()) {
-    if (options.lines) places.look_up(codes_of_regions(run));
+    std::vector<const void *> codes;
+    for (const Region *region : regions) codes.push_back(region->code);
+    if (options.lines) places.look_up(codes);
     auto is_elsewhere = [&](const Region *region) { return places.at(region->code) != options.region; };
     regions.erase(std::remove_if(regions.begin(), regions.end(), is_elsewhere), regions.end());
   }
@@ -349,11 +351,12 @@ void report(const Job &job, Ending &ending) {
   Recording recording{job.program, job.date, with_tasks.size(), time, threads};
   Reporter reporter(job, std::move(recording));
   if (with_tasks.empty() && !job.may_be_empty) Message("no tasks").put("inside", ending.wall != 0);
-  std::vector<Region *> written = held(reporter.chosen(run, with_tasks), job, unread, run);
+  std::vector<Region *> written = held(reporter.chosen(with_tasks), job, unread, run);
   for (size_t i = 0; i < written.size(); i++) {
     written[i]->text = i + 1;
     for (Remark remark : job.unseen) written[i]->remarks[remark];
   }
+  list_regions(run);
   reporter.write_regions(run, {job.start, end, threads.outside}, job.out);
   for (size_t i = 0; i < written.size(); i++)
     reporter.write(*written[i], job.out + (i ? "." + std::to_string(i + 1) : ""));

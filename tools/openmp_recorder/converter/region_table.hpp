@@ -19,7 +19,7 @@ struct WholeTime {
 // Of the regions inside no other, by place.
 class RegionSums {
  public:
-  void add(const Region &region, const WholeTime &time, const std::string &place);
+  void add(const RegionRow &row, const WholeTime &time, const std::string &place);
   unsigned most_threads(std::string_view place) const;  // 0 where there are none
   void put(Object &line) const;  // where none is inside another one
 

@@ -59,6 +59,7 @@ void Reader::meet_region(Region &region) {
   release_beginning();
   Task *t = find(r->task), *root = run.whole->root;
   region.whole = run.whole.get();
+  run.whole->numbers.add(region.number);
   region.has_events = false;
   if (ImplicitTask *own = in_loop(); own && own->chunk && t && t->part) {
     t = own->chunk;  // whose turns are not told apart then

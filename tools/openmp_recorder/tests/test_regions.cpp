@@ -52,6 +52,7 @@ TEST(regions_are_told_in_the_order_of_time) {
     region.text = number == 2 ? 1 : 0;
   }
   run.regions[3]->divided[Divided::Loops].times = 2;
+  list_regions(run);
   Places places;
   places.put(&codes[0], "steps.c:9");
   EXPECT(codes_of_regions(run).size(), 2u);

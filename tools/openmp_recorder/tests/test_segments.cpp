@@ -41,7 +41,7 @@ TEST(segments_have_a_kind_a_task_and_a_cost) {
       "[true, \"\", \"taskgroup\", \"barrier of the region at a.c:8\", \"a.c:8\"]], "
       "\"long\": [6,4294967296], "
       "\"sums\": [[0, 1, 1, 7, 7], [1, 2, 1, 5, 5], [2, 3, 1, 6, 6], [3, 4, 1, 0, 0], [4, 5, 1, 1, 1], [5, 6, 1, 0, 0], "
-      "[6, 0, 1, 4294967296, 4294967296]], \"own\": [4,1], \"clauses\": [[1, \" depend(inout: x)\", 1, 0]]}\n");
+      "[6, 0, 1, 4294967296, 4294967296]], \"own\": [4,1], \"phases\": [[4, 1, 1, 0, 0, 1, 0]], \"clauses\": [[1, \" depend(inout: x)\", 1, 0]]}\n");
 }
 
 TEST(a_group_of_a_loop_is_no_barrier) {
