@@ -36,9 +36,8 @@ std::vector<const RegionRow *> rows_of_program(const Run &run) {
   std::vector<const RegionRow *> rows;
   for (const RegionRow &row : run.rows)
     if (row.of_program) rows.push_back(&row);
-  std::sort(rows.begin(), rows.end(), [](auto *a, auto *b) {
-    return std::pair(a->begin, a->number) < std::pair(b->begin, b->number);
-  });
+  auto is_before = [](auto *a, auto *b) { return std::pair(a->begin, a->number) < std::pair(b->begin, b->number); };
+  if (!std::is_sorted(rows.begin(), rows.end(), is_before)) std::sort(rows.begin(), rows.end(), is_before);
   return rows;
 }
 }  // namespace

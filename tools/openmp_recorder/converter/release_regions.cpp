@@ -6,6 +6,23 @@
 #include "auxiliary.hpp"
 #include "compose.hpp"
 #include "reader.hpp"
+#include "recycled.hpp"
+
+namespace {
+Recycled &memory_of_regions() {
+  static Recycled all(sizeof(Region));
+  return all;
+}
+}  // namespace
+
+void *Region::operator new(size_t bytes) {
+  return bytes == sizeof(Region) ? memory_of_regions().take() : ::operator new(bytes);
+}
+
+void Region::operator delete(void *memory, size_t bytes) {
+  if (bytes == sizeof(Region)) memory_of_regions().give_back(memory);
+  else ::operator delete(memory);
+}
 
 // No record that follows is of one of its tasks.
 bool Reader::is_ended(const Region &region) const {

@@ -96,6 +96,8 @@ class CallPaths;
 class Stretches;
 
 struct Region {
+  static void *operator new(size_t bytes);
+  static void operator delete(void *memory, size_t bytes);
   uint32_t number = 0;
   const void *code = nullptr;
   unsigned asked = 0;  // how many threads its program asked for; 0 where that is not told
