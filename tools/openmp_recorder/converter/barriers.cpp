@@ -6,7 +6,8 @@
 #include "json.hpp"
 
 namespace {
-constexpr double alone = 0.05;  // of the largest piece of a phase: where the others together have less, one thread runs it
+constexpr double alone =
+    0.05;  // of the largest piece of a phase: where the others together have less, one thread runs it
 
 struct Costs {
   int64_t most = 0, all = 0;

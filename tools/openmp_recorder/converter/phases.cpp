@@ -5,7 +5,8 @@
 #include <utility>
 
 namespace {
-constexpr double alone = 0.05;  // of the largest piece of a phase: where the others together have less, one thread runs it
+constexpr double alone =
+    0.05;  // of the largest piece of a phase: where the others together have less, one thread runs it
 constexpr double about = 0.25;  // of a turn, by which those of one length differ
 
 // What the parts of a group had of a place; those that had nothing need not be there.
@@ -99,8 +100,7 @@ template <class Share>
 bool are_turns(const Had &had, const Share *first, const Share *end, double length) {
   double largest = static_cast<double>(had.most - had.least_of_all());
   auto is_one = [&](uint64_t less) {
-    return static_cast<double>(less) < about * length ||
-           std::abs(length - static_cast<double>(less)) < about * length;
+    return static_cast<double>(less) < about * length || std::abs(length - static_cast<double>(less)) < about * length;
   };
   if (2 * largest <= length || (had.is_one_missing() && !is_one(had.most))) return false;
   return std::all_of(first, end, [&](const Share &share) { return is_one(had.most - share.cost); });

@@ -20,10 +20,9 @@ int64_t end_of(const RegionRow &row, const WholeTime &time) {
 }
 
 void put_row(Piece &piece, uint64_t number, const RegionRow &row, const WholeTime &time, const Places &places) {
-  for (int64_t value :
-       {static_cast<int64_t>(number), int64_t{row.text}, row.begin - time.start, end_of(row, time) - time.start,
-        int64_t{row.threads}, int64_t{row.asked}, int64_t{row.tasks}, int64_t{row.loops}, row.in_code,
-        int64_t{!row.is_outermost}}) {
+  for (int64_t value : {static_cast<int64_t>(number), int64_t{row.text}, row.begin - time.start,
+                        end_of(row, time) - time.start, int64_t{row.threads}, int64_t{row.asked}, int64_t{row.tasks},
+                        int64_t{row.loops}, row.in_code, int64_t{!row.is_outermost}}) {
     piece.number(value);
     piece.put(",");
   }
