@@ -117,9 +117,11 @@ void each_stretch(Region &region, bool numbered, const std::function<void(Region
   if (!region.before) return;
   auto &whole = static_cast<WholeProgram &>(region);
   bool timed = numbered && region.has_events;
+  if (numbered) whole.off.begin_again();
   whole.before->each(timed, [&](Region &stretch, std::size_t number, const std::vector<Task *> &tasks) {
     if (numbered) whole.off.take_back(number, tasks);
     put_pieces(whole, number, tasks, stretch.events);
     take(stretch);
   });
+  if (numbered) whole.off.go_on();
 }
