@@ -183,9 +183,9 @@ def code_of_region(facts, region):
 
 
 def on_one(facts, step):
-    """In place of a step for small regions, or for barriers in one: the same on one thread, which has no barriers. To
-    start two threads takes about as long as to start four, so that some of them are no faster than all. None where the
-    code of all threads together is longer than the regions, or other programs took processors."""
+    """In place of a step for small regions, or for barriers in one: the same on one thread, which has no barriers. How
+    starting grows with the number of threads one run does not tell, so none between is named. None where the code of
+    all threads together is longer than the regions, or other programs took processors."""
     region = next((one for one in facts.regions if one.place == step.place), None)
     if step.kind != "small_regions" or not region or region.threads < 2 or facts.taken:
         return []

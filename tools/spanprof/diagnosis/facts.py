@@ -32,7 +32,8 @@ MOST_SEGMENTS = 300000       # segments of a text whose schedule is asked for: s
 RUNTIMES = {"llvm": "LLVM", "gnu": "gcc"}
 EXCLUDING = "mutexinoutset"     # the remark of a text that has inoutset in its place
 OWN_CLOCK = "own"               # by which costs are without the time in which a thread was preempted
-# Nanoseconds: gcc's runtime keeps no threads for regions inside others, and makes them for each: 63 to 100 us in all.
+# Nanoseconds: gcc's runtime keeps no threads for regions inside others, and makes them for each. The least that was
+# measured, on a busy machine, was 63 and 96 us; on an idle one it may be less.
 A_TEAM = 80000
 OF_GCC = "lines of gcc"         # that of a text whose tasks or waits are of gcc's code
 
