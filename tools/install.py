@@ -10,10 +10,9 @@ import shutil
 import sys
 from contextlib import suppress
 
+from spanprof.command import Fault, commit_of
 from spanprof.checksums import SUFFIX
-from spanprof.errors import Fault
 from spanprof.folders import other_places_of
-from spanprof.version import commit_of
 
 TOOLS = os.path.dirname(os.path.abspath(__file__))
 SPANPROF = os.path.join(TOOLS, "..", "crates", "spanprof", "out", "spanprof")

@@ -23,10 +23,9 @@ sys.dont_write_bytecode = True
 import random_programs as drawn  # noqa: E402
 import whole_graph  # noqa: E402
 from plain_path import Wrong, check_rows, rows_of, sums_by_place  # noqa: E402
-from spanprof.answers import Answers  # noqa: E402
+from spanprof.answers import Answers, places  # noqa: E402
 from spanprof.client import program  # noqa: E402
-from spanprof.errors import Fault  # noqa: E402
-from spanprof.report.places import places  # noqa: E402
+from spanprof.command import Fault  # noqa: E402
 
 COMMAND = TOP / "tools" / "spanprof-path"
 RUN = """

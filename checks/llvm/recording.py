@@ -16,7 +16,7 @@ from versions import asked
 TOP = os.path.dirname(os.path.dirname(os.path.dirname(os.path.abspath(__file__))))
 sys.path.append(os.path.join(TOP, "tools"))
 from spanprof.converting import convert, converter, has_failed  # noqa: E402
-from spanprof.record.messages import in_words  # noqa: E402
+from spanprof.remarks import sentence_of  # noqa: E402
 
 RECORDER = os.path.abspath(os.environ.get("RECORDER", os.path.join(TOP, "tools/openmp_recorder/librecorder.so")))
 ENDING = ".spanprof"
@@ -76,7 +76,7 @@ def texts(name, settings=(), out=None):
     """Makes texts of all logs of a run, each with the name of its recording. What the converter says, and whether it
     failed."""
     reported = [one for each in names_of(name) for one in reported_of(log_of(each), out or each, dict(settings))]
-    said = [in_words(one) for one in reported]
+    said = [sentence_of(one) for one in reported]
     return "".join(line + "\n" for line in said), has_failed(reported)
 
 

@@ -4,9 +4,8 @@ import os
 import sys
 
 sys.path.append(os.path.join(os.path.dirname(os.path.abspath(__file__)), "..", "..", "tools"))
-from spanprof.marks import marks_of_file  # noqa: E402
-from spanprof.segment_file import read_into  # noqa: E402
-from spanprof.segment_table import Code, Kind, code_of  # noqa: E402
+from spanprof.program_text import marks_of_file  # noqa: E402
+from spanprof.segment_table import Code, Kind, code_of, read_into  # noqa: E402
 
 COLUMNS = ("of", "task", "cost", "kinds", "sums", "own", "groups", "clauses")
 

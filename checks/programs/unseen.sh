@@ -11,6 +11,7 @@
 #     checks/programs/unseen.sh judge FOLDER              judges by all that the folder has
 #     checks/programs/unseen.sh kept                      judges by what is kept of a measurement, and runs nothing
 # RUNTIME=gnu: others on gcc's runtime, recorded and predicted on four threads alone, two seconds a turn.
+# SET=shapes: ten later ones in place of either, with changes on gcc's runtime too.
 # Variables: SPANPROF (crates/spanprof/out/spanprof), LLVM (16), LLVM_FOLDERS (checks/llvm/versions.py),
 # SPANPROF_MACHINE (a model of this machine; without it `build` measures that first, in half a minute).
 set -euo pipefail

@@ -2,7 +2,8 @@
 
 What `library` has for callers is here too, and loaded when it is asked for: `spanprof.read("mine.tasks").span`.
 """
-OF_LIBRARY = ("MOST_THREADS", "NO_THREAD", "About", "Account", "Bounds", "Certificate", "NoLibrary", "Program",
+MOST_THREADS = 1024     # of a schedule
+OF_LIBRARY = ("NO_THREAD", "About", "Account", "Bounds", "Certificate", "NoLibrary", "Program",
               "Refused", "Run", "about", "check", "parse", "read")
 
 

@@ -1,26 +1,28 @@
 """A program text of any size with what the proved program answers of it. Each command is run once, when its answer is
-first needed; what it tells of each segment is read as it comes, and kept in columns of numbers."""
+first needed; what it tells of each segment is read as it comes, kept in columns of numbers, and summed by place. And
+work, span, and least, end and bound on some threads of any other text, such as a changed one.
+"""
 from array import array
 from collections import Counter
-from dataclasses import dataclass
+from dataclasses import dataclass, field
 from functools import cached_property
 from itertools import compress, repeat
 from operator import add
-from typing import NamedTuple
+from typing import Dict, NamedTuple, Optional, Sequence
 
-from spanprof import client
-from spanprof.c_calls import MOST_THREADS
-from spanprof.errors import Fault
+from spanprof import MOST_THREADS, client
+from spanprof.client import is_long
+from spanprof.command import Fault
 from spanprof.head import head_of
-from spanprof.limits import is_long
+from spanprof.program_text import TextFile
 from spanprof.recording import open_recording, shown_name
-from spanprof.segment_file import file_beside
-from spanprof.segment_table import code_in, read_code
-from spanprof.text_file import TextFile
+from spanprof.segment_table import code_in, file_beside, read_code
 
 THREADS_WITHOUT_RECORDING = 4
 LONGEST_CURVE = 64
 SLACK = ("start", "slack", "chain")
+FEW = 6     # threads: a curve of so many schedules is made in less time than a table of one is written and read
+ROOTS = ("the root", "serial code")     # as the first task is named; in the whole program it runs all serial code
 
 
 class Rows(NamedTuple):
@@ -205,3 +207,112 @@ class Answers:
 
 def curve_in(table):
     return {int(row["threads"]): {key: int(value) for key, value in row.items()} for row in client.rows(table)}
+
+
+class OnThreads(NamedTuple):
+    """Without `end` where memory was too little for a greedy schedule of the text."""
+    least: int
+    bound: int
+    end: Optional[int] = None
+
+
+class Numbers(NamedTuple):
+    by: str     # the program that takes such a text
+    segments: int
+    work: int
+    span: int
+    on: Dict[int, OnThreads]
+
+
+def on_threads(reported, threads):
+    """The rows of these numbers of threads in a table."""
+    rows = {row.get("threads"): row for row in client.rows(reported)}
+    try:
+        return {p: OnThreads(*(int(rows[str(p)][name]) for name in OnThreads._fields if name in rows[str(p)]))
+                for p in threads}
+    except (KeyError, TypeError) as wrong:
+        raise Fault("no bounds are known on %s threads" % " and ".join(map(str, threads))) from wrong
+
+
+def curve(text, most):
+    return client.ask(["curve", "--upto", str(most)], text)
+
+
+def greedy_end(text, threads):
+    """None where its greedy schedule takes too much memory."""
+    try:
+        if threads <= FEW:
+            return on_threads(curve(text, threads), [threads])[threads].end
+        return max(client.columns(["greedy", "--threads", str(threads)], text, ["end"])[0], default=0)
+    except client.Refused as refused:
+        if refused.is_of_memory:
+            return None
+        raise
+
+
+def of_long(text, threads):
+    """Where there are many threads greedy schedules are made on these numbers of them alone."""
+    if max(threads) <= FEW:
+        try:
+            return on_threads(curve(text, max(threads)), threads)
+        except client.Refused as refused:
+            if not refused.is_of_memory:
+                raise
+    bounds = on_threads(client.ask(["--upto", str(max(threads))], text), threads)
+    return {p: row._replace(end=greedy_end(text, p)) for p, row in bounds.items()}
+
+
+def numbers_of(text, threads):
+    """Of a text, or a TextFile."""
+    found = client.measured(text.path) if isinstance(text, TextFile) else client.numbers(text)
+    long = is_long(found)
+    on = of_long(text, threads) if long else on_threads(curve(text, max(threads)), threads)
+    return Numbers("spanprof_large" if long else "spanprof", found["segments"], found["work"], found["span"], on)
+
+
+@dataclass
+class Place:
+    """The segments at one place, which follow a construct, or begin a task; or those of all tasks of a place. The sums
+    are those of `places`."""
+    name: str
+    segments: int = 0
+    cost: int = 0
+    critical_segments: int = 0
+    critical_cost: int = 0
+    slack: int = 0
+    number: int = 0
+    kinds: Sequence[int] = field(default_factory=list)  # of its segments
+    tasks: int = 0      # how many begin there
+
+
+def by_name(answers, names):
+    """Of each kind of segments one of these names."""
+    found = {name: Place(name, *sums) for name, sums in answers.sums(names).items()}
+    for kind, name in enumerate(names):
+        found[name].kinds.append(kind)
+    return found
+
+
+def numbered(places, order):
+    """The places in an order, which numbers them."""
+    ordered = sorted(places, key=order)
+    for number, place in enumerate(ordered):
+        place.number = number
+    return ordered
+
+
+def places(answers):
+    """By their part of the span, then of the work."""
+    found = by_name(answers, answers.code.names).values()
+    return numbered(found, lambda place: (-place.critical_cost, -place.cost, place.name))
+
+
+def task_places(answers):
+    """The tasks that one construct has created, by their cost; the root is one of its own."""
+    code, root = answers.code, ROOTS[bool(answers.head.whole)]
+    names = [kind.task_place or (root if kind.is_root else "a task") for kind in code.kinds]
+    found = by_name(answers, names)
+    for (kind, _), (count, *_) in code.sums.items():
+        if not code.kinds[kind].after:
+            found[names[kind]].tasks += count
+    return numbered(found.values(), lambda place: (-place.cost, place.name))

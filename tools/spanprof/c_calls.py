@@ -9,6 +9,7 @@ import ctypes
 import functools
 import os
 
+from spanprof import MOST_THREADS
 from spanprof.checksums import is_proved
 
 KINDS = ("TooLong", "BadHeader", "BadByte", "BadWord", "BadNumber", "Unclosed", "Unopened", "TooDeep", "TooManyTasks",
@@ -18,7 +19,6 @@ KINDS = ("TooLong", "BadHeader", "BadByte", "BadWord", "BadNumber", "Unclosed", 
 PAIRS = ("TooSoon", "Broken", "ChainStep")
 OF_SEGMENT = ("NoThread", "EndsEarly", "OutOfTime", "NotApart")
 OF_LIMITS = ("TooLong", "TooDeep", "TooManyTasks", "TooManySegments", "TooManyItems", "TooManyTurns")
-MOST_THREADS = 1024
 NO_THREAD = 2 ** 32 - 1  # the thread of a segment of cost 0, which needs none
 TYPES = {"Q": ctypes.c_uint64, "I": ctypes.c_uint32}
 NAME = "libspanprof.so"

@@ -1,25 +1,30 @@
-"""What the proved program answers of a text of any size.
+"""What the proved program answers of a text of any size, and whether the program that answers is one that was proved.
 
 SPANPROF_LARGE in the environment is the program, and may be several words. Without it spanprof_large is looked for on
-the PATH, then in the repository or where `make install` has put it, and then without proofs.
+the PATH, then in the repository or where `make install` has put it, and then without proofs. Whatever else answers is
+named in place of `proved`.
 """
 import json
 import os
+import shutil
 import subprocess
 from array import array
 from concurrent.futures import ThreadPoolExecutor
 from contextlib import contextmanager
+from functools import lru_cache
 from itertools import chain
 
-from spanprof.errors import Fault
-from spanprof.folders import other_places_of, places_of, words_for
-from spanprof.program_text import DIVIDER
-from spanprof.refusal import explained, of_whole
-from spanprof.text_file import PIECE, Document, TextFile, opened, read_once
+from spanprof.command import Fault
+from spanprof.folders import other_places_of, places_of, shown_program, words_for
+from spanprof.program_text import DIVIDER, PIECE, Document, TextFile, opened, read_once
 
 LARGE = "spanprof_large"
 SUMS = ("segments", "work", "on_path", "path", "slack")    # of a place
 BUSY, IDLE = "busy", ("delayed", "starved")      # of it in a run
+# The limits of `spanprof`. A text beyond them is a long one, which is shown by sums and bins of time, and whose changes
+# are tried for a while, where of others each segment is shown and each change is tried.
+MOST_TASKS, MOST_SEGMENTS = 4096, 16384
+NOT_VERIFIED = "computed by %s, not verified"
 
 
 def program():
@@ -31,6 +36,7 @@ class Refused(Fault):
     """The program's error line, and what it was asked."""
 
     def __init__(self, words, text, answer):
+        from spanprof.refusal import of_whole       # only an error needs what explains it
         more = of_whole(list(words), text, answer, asked)
         super().__init__("spanprof %s: %s" % (words[0], "%s: %s" % (answer, more) if more else answer))
         self.words, self.text, self.answer = list(words), text, answer
@@ -42,6 +48,7 @@ class Refused(Fault):
 
     def of(self, name):
         """The same for people, with the name of the text's file."""
+        from spanprof.refusal import explained
         more = explained(name, self.words, str(self.text), self.answer, asked)
         return "%s\n%s" % (more, self) if more else "%s: %s" % (name, self)
 
@@ -204,3 +211,23 @@ def read(path):
     """The program text in a file, which the program has taken."""
     measured(path)
     return str(TextFile(path))
+
+
+def is_long(numbers):
+    """By what `span` tells of a text."""
+    return numbers["segments"] > MOST_SEGMENTS or numbers.get("tasks", 0) > MOST_TASKS
+
+
+@lru_cache(maxsize=None)
+def not_proved():
+    """What is said, in place of `proved`, of what the program computes that the tools ask; empty of a proved one with
+    nothing else. It is read once in a run."""
+    from spanprof.checksums import is_proved    # only what says `proved` needs it
+    words = program()
+    found = shutil.which(words[0]) if len(words) == 1 else None
+    return "" if found and is_proved(os.path.realpath(found)) else NOT_VERIFIED % " ".join(map(shown_program, words))
+
+
+def proved(claim):
+    """This claim, which says `proved`, or what is said in its place."""
+    return not_proved() or claim

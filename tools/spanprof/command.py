@@ -1,16 +1,46 @@
-"""What the commands share."""
+"""What the commands share: faults in words for people, options, what is shown and how much is done, files that are
+written, the end of a process, and the version with the commit and the logic with which spanprof was proved.
+"""
 import argparse
 import atexit
 import errno
 import os
 import re
 import signal
+import subprocess
 import sys
+import time
 from contextlib import contextmanager
 
-from spanprof.errors import Fault
-
+# The statuses are those of `env` and `timeout`, for spanprof-record.
+OWN_FAULT, NOT_EXECUTABLE, NO_PROGRAM = 125, 126, 127
+LONGEST = 100       # of what is wrong in a file
+DAMAGE = (ValueError, KeyError, TypeError, IndexError, AttributeError, OverflowError, RecursionError)
 INTERRUPTED = 130
+PATIENCE = 2    # seconds
+MOST_COLUMNS = 110   # columns
+CLEARED = "\r\033[K"
+# The file VERSION has the version and the logic; where the tools are installed it stands beside this package, and has
+# the commit too.
+HERE = os.path.dirname(os.path.abspath(__file__))
+INSTALLED, IN_REPOSITORY = os.path.join(HERE, "..", "VERSION"), os.path.join(HERE, "..", "..", "VERSION")
+
+
+class Fault(Exception):
+    """Why a command cannot do what it was asked; its words are all that is reported."""
+
+    def __init__(self, words, status=OWN_FAULT):
+        super().__init__(words)
+        self.status = status
+
+
+@contextmanager
+def reading(path):
+    """A file that has another form ends in a fault."""
+    try:
+        yield
+    except DAMAGE as wrong:
+        raise Fault("%s is damaged: %s" % (path, str(wrong)[:LONGEST])) from wrong
 
 
 def count(least, most):
@@ -59,6 +89,14 @@ def percent(word):
     if not re.fullmatch(r"[0-9]{1,4}(\.[0-9]+)?%?", word):
         raise argparse.ArgumentTypeError("%r is not a percentage, such as 5%%" % word)
     return float(word.rstrip("%"))
+
+
+def unit(word):
+    """`ns`, `us`, `ms`, or a number of nanoseconds."""
+    number = int(word) if re.fullmatch(r"[0-9]{1,10}", word) else 0
+    if word not in ("ns", "us", "ms") and not 1 <= number <= 1000000000:
+        raise argparse.ArgumentTypeError("a unit is ns, us, ms, or nanoseconds up to 1000000000")
+    return word
 
 
 def check_files(text, output=None, what="changed text"):
@@ -161,3 +199,93 @@ def end_with(console, answer, *words, status=1):
     except KeyboardInterrupt:
         sys.exit(INTERRUPTED)
     sys.exit(status)
+
+
+class Progress:
+    """What is being done, and the share of all of it that is, where that is known."""
+
+    def __init__(self, name, stream=None, clock=time.monotonic):
+        self.name, self.stream, self.clock = name, stream or sys.stderr, clock
+        self.begun, self.words, self.share, self.is_shown = clock(), "", None, False
+
+    def __call__(self, words):
+        self.words = words
+        self.show()
+
+    def at(self, share):
+        self.share = share
+        self.show()
+
+    def show(self):
+        if self.stream.isatty() and self.clock() - self.begun >= PATIENCE:
+            done = "" if self.share is None else "%d %% done" % (100 * self.share)
+            self.write(CLEARED + ": ".join(filter(None, (self.name, done, self.words)))[:MOST_COLUMNS])
+            self.is_shown = True
+
+    def end(self):
+        if self.is_shown:
+            self.write(CLEARED)
+        self.is_shown = False
+
+    def write(self, words):
+        try:
+            print(words, end="", file=self.stream, flush=True)
+        except OSError:
+            pass    # the terminal has gone
+
+
+def each(things, progress):
+    """The things, one after the other; the share of them that is done is shown."""
+    things = list(things)
+    for number, thing in enumerate(things):
+        progress.at(number / len(things))
+        yield thing
+    progress.end()
+
+
+def bytes_read(process):
+    """What a process has read, where the system tells."""
+    try:
+        with open("/proc/%d/io" % process.pid, encoding="ascii") as file:
+            return int(file.readline().split()[1])
+    except (OSError, IndexError, ValueError):
+        return 0
+
+
+def commit_of(folder):
+    """The commit of a clone, with a `+` where files differ from it; empty where there is no clone."""
+    words = ["git", "-C", folder, "describe", "--always", "--exclude", "*", "--dirty=+"]
+    try:
+        done = subprocess.run(words, capture_output=True, text=True, check=False)
+    except OSError:
+        return ""
+    return done.stdout.strip() if done.returncode == 0 else ""
+
+
+def read_version(path):
+    with open(path, encoding="utf-8") as file:
+        return file.read().split("\n")[:-1]
+
+
+def version_lines():
+    """The version, `logic ..` and `commit ..`."""
+    if os.path.exists(INSTALLED):
+        return read_version(INSTALLED)
+    commit = commit_of(os.path.join(HERE, ".."))
+    return read_version(IN_REPOSITORY) + (["commit " + commit] if commit else [])
+
+
+def version_of(name):
+    version, *rest = version_lines()
+    return "%s %s (%s)" % (name, version, ", ".join(rest))
+
+
+class Version(argparse.Action):
+    """The option --version, which asks for the commit only where it is given."""
+
+    def __init__(self, option_strings, dest, **how):
+        super().__init__(option_strings, dest, nargs=0, help="print the version, the logic and the commit")
+
+    def __call__(self, parser, namespace, values, option_string=None):
+        print(version_of(parser.prog))
+        parser.exit()

@@ -1,4 +1,7 @@
-"""Has the converter make texts of a log. What it is asked for stands in its environment."""
+"""Has the converter make texts of a log, and make build it, or another product of these tools, where it is not there.
+What the converter is asked for stands in its environment.
+"""
+import fcntl
 import glob
 import json
 import os
@@ -7,13 +10,67 @@ import shutil
 import signal
 import subprocess
 import tempfile
+from dataclasses import dataclass
 
-from spanprof.built import Product, find_or_build
-from spanprof.errors import Fault
+from spanprof.command import Fault, Progress, bytes_read
 from spanprof.folders import builds_in
-from spanprof.progress import Progress, bytes_read
-from spanprof.recording import REGIONS, SEGMENTS, TEXT, TIMES, made_folder
-from spanprof.regions import program_of
+from spanprof.recording import REGIONS, SEGMENTS, TEXT, TIMES, made_folder, program_of
+
+
+@dataclass
+class Product:
+    file: str       # which make leaves beside its sources
+    name: str       # as messages name it
+    packages: str   # that it is built with
+
+
+def sources(folder):
+    patterns = ("*.cpp", "*/**/*.[ch]pp", "Makefile")
+    return [path for pattern in patterns for path in glob.glob(os.path.join(folder, pattern), recursive=True)]
+
+
+def is_built(folder, product):
+    """Whether it is there, and no older than what it is made of."""
+    made = os.path.join(folder, product.file)
+    return os.path.exists(made) and all(os.path.getmtime(made) >= os.path.getmtime(path) for path in sources(folder))
+
+
+def why_not_built(complaint):
+    """The line of make or the compiler that says what is missing."""
+    lines = [line.strip() for line in complaint.splitlines() if line.strip()]
+    telling = [line for line in lines if re.search("error:|not found|No such file", line)]
+    return (telling or lines or ["no word of it"])[0]
+
+
+def build(folder, product):
+    if not shutil.which("make"):
+        raise Fault("%s is not built, and make is missing (package make)" % product.name)
+    with open(os.path.join(folder, "Makefile"), encoding="utf-8") as lock:  # of processes that need it at once, one
+        fcntl.flock(lock, fcntl.LOCK_EX)
+        done = subprocess.run(["make", "-s", "-C", folder, product.file], stdout=subprocess.PIPE,
+                              stderr=subprocess.STDOUT, text=True, errors="replace", stdin=subprocess.DEVNULL,
+                              check=False)
+    if done.returncode:
+        raise Fault("%s cannot be built: %s (packages %s); `make -C %s` shows more"
+                    % (product.name, why_not_built(done.stdout), product.packages, folder))
+    made = os.path.join(folder, product.file)
+    if os.access(made, os.W_OK):
+        os.utime(made)      # a source that it is not made of may be newer
+
+
+def find_or_build(product, folders, tell):
+    """Its path: in the first of these folders that has it, or else its sources."""
+    for folder in folders:
+        if not sources(folder):
+            if os.path.exists(os.path.join(folder, product.file)):
+                return os.path.join(folder, product.file)
+            continue
+        if not is_built(folder, product):
+            tell("building %s in %s" % (product.name, folder))
+            build(folder, product)
+        return os.path.join(folder, product.file)
+    raise Fault("%s is neither in %s" % (product.file, " nor in ".join(folders)))
+
 
 CONVERTER = Product("convert_log", "the converter of logs", "clang-19 libomp-19-dev make")
 LIBRARY = Product("librecorder.so", "the recorder", "clang-19 libomp-19-dev make")

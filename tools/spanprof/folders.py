@@ -3,7 +3,7 @@ import os
 import shlex
 import shutil
 
-from spanprof.errors import Fault
+from spanprof.command import Fault
 
 TOOLS = os.path.dirname(os.path.dirname(os.path.abspath(__file__)))     # installed it is PREFIX/share/spanprof
 TOP = os.path.dirname(TOOLS)

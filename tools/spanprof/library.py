@@ -8,8 +8,8 @@ import ctypes
 import functools
 from typing import NamedTuple, Sequence
 
-from spanprof import c_calls
-from spanprof.c_calls import (MOST_THREADS, NO_THREAD, OF_LIMITS, Accounted, Analysed, Bounded, Certified, Measured,
+from spanprof import MOST_THREADS, c_calls
+from spanprof.c_calls import (NO_THREAD, OF_LIMITS, Accounted, Analysed, Bounded, Certified, Measured,
                               NoLibrary, Place, Refused, answering, bytes_of, called, count_of, for_caller,
                               numbers_of, passed, refuse, room)
 

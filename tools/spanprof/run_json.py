@@ -1,9 +1,9 @@
 """What is known of a recorded run as JSON: the diagnosis, the account of the run, and what unrecorded runs took."""
 import json
 
-from spanprof.breakdown_lines import as_json
 from spanprof.command import writing
 from spanprof.recording import scale_of
+from spanprof.time_breakdown import as_json
 
 
 def run_json(answers, diagnosis, account, why):

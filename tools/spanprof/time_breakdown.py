@@ -1,8 +1,11 @@
 """Where the time of a recorded run's threads went: the sums that spanprof_large tells of the timed document, and what
-the recording tells beside them. docs/MODEL.md has the words."""
+the recording tells beside them, in four lines, and as JSON. docs/MODEL.md has the words.
+"""
 import os
+import re
 from array import array
 from collections import Counter
+from contextlib import contextmanager
 from dataclasses import dataclass, field
 from functools import cached_property
 from heapq import heappop, heappush
@@ -10,13 +13,56 @@ from itertools import chain, count
 from typing import List, NamedTuple, Optional
 
 from spanprof import client
-from spanprof.breakdown_program import NoBreakdown, answered, timed
-from spanprof.errors import Fault
-from spanprof.recording import document, open_recording
+from spanprof.client import proved
+from spanprof.command import Fault, naming
+from spanprof.head import lasting
+from spanprof.recording import document, head_in, open_recording
 from spanprof.remarks import UNFINISHED
-from spanprof.times_file import head_in
 
+FAULTS = {
+    "NotTimed": "segment %s has no times",
+    "ThreadCount": "the run had more threads than the 1,024 that spanprof_large takes",
+    "Moments": "the region lasted longer than the 10^15 ns that spanprof_large takes",
+    "NoThread": "segment %s is on none of the threads",
+    "EndsEarly": "segment %s ends before it begins: the processors' clocks differ",
+    "OutOfTime": "segment %s is not within the region: the processors' clocks differ",
+    "TooSoon": "segment %s begins before segment %s, which it waits for, has ended: the processors' clocks differ, or "
+               "the runtime did not wait",
+    "NotApart": "segment %s begins while another one runs on its thread"}
 NO_TIMES_KEPT = "several of the program's threads meet regions, or it has more tasks and chunks than times are kept of"
+MOST_PLACES = 2
+LEAST = 0.0005      # of the threads' time, from which on a part is reported
+
+
+class NoBreakdown(Exception):
+    """Why there is none."""
+
+
+def in_words(line):
+    """An error line of the program, for people."""
+    name, *numbers = re.sub("^error: ", "", line).split() or [""]
+    fault = FAULTS.get(name)
+    if not fault or fault.count("%s") != len(numbers):
+        return "spanprof_large account: " + line
+    return fault % tuple(numbers)
+
+
+def answered(read, words, path, *more):
+    """What `read`, of the client, makes of `account` with these words and the timed document in a file."""
+    with timed(path), open(path, "rb") as document:
+        return read(["account", *words], document, *more)
+
+
+@contextmanager
+def timed(path):
+    """Has what the program refuses there, of a file of times or a document with them, be why there is no breakdown."""
+    try:
+        with naming(path):
+            yield
+    except client.Refused as refused:
+        raise NoBreakdown(in_words(refused.answer)) from refused
+    except Fault as wrong:
+        raise NoBreakdown(str(wrong)) from wrong
 
 
 class Rows(NamedTuple):
@@ -212,3 +258,56 @@ def recorded_breakdown(answers):
         return breakdown_of(answers.head, answers.work, document(recording), places), ""
     except (NoBreakdown, Fault) as fault:
         return None, str(fault)
+
+
+def proved_sums():
+    return proved("the four sums are proved of the recorded text and these times")
+
+
+def of_places(parts, words):
+    """The first places of idle time, each with its share of that time."""
+    whole = sum(parts.values())
+    shown = ["%s (%.0f %%)" % (place, 100 * part / whole) for place, part in list(parts.items())[:MOST_PLACES]
+             if part and 200 * part >= whole]
+    return words + ", ".join(shown) if shown else ""
+
+
+def blocked_words(found, share):
+    off = "preempted or in the recorder" if found.by_processor else "preempted"
+    parts = [(found.blocked.preempted, off), (found.blocked.asleep, "asleep"),
+             (found.blocked.at_locks, "waiting for locks")]
+    reported = ["%s %s" % (share(part), name) for part, name in parts if part >= LEAST * found.whole and part]
+    return "; %s blocked in it: %s" % (share(found.blocked.all), ", ".join(reported)) if reported else ""
+
+
+def breakdown_lines(found):
+    """Shares are of threads times elapsed time."""
+    def share(part):
+        return "%.1f %%" % (100 * part / found.whole if found.whole else 0)
+
+    def idle(part, by, words):
+        return share(part), of_places(by, words) if part >= LEAST * found.whole else ""
+
+    recorder = ", %s the recorder's" % share(found.recorder) if found.recorder >= LEAST * found.whole > 0 else ""
+    lines = ["of %d x %s: %s in your code%s%s (measured)" % (
+                 found.threads, lasting(found.elapsed), share(found.code), recorder, blocked_words(found, share)),
+             "%s scheduling delay%s (measured)" % idle(found.delayed, found.delayed_by, "; ready: "),
+             "%s idle%s (measured)" % idle(found.starved, found.starved_by, "; running: "),
+             "%s startup and shutdown of the %s (measured); %s" % (
+                 share(found.outside), "program" if found.of_whole else "region", proved_sums())]
+    if found.left_out >= 2 * LEAST * found.whole > 0:
+        lines.append("up to %s in code of the region that has no times, and is idle here (measured)" %
+                     share(found.left_out))
+    return lines
+
+
+def lines_of(found, why=""):
+    """What the summary tells of an account, or why there is none."""
+    return breakdown_lines(found) if found else ["unavailable: " + why] if why else []
+
+
+def as_json(found):
+    """Times in nanoseconds, over all threads."""
+    return {"threads": found.threads, "elapsed": found.elapsed, "parts": found.parts,
+            "delayed beside": found.delayed_by, "starved while": found.starved_by, "left out": found.left_out,
+            "unit": "ns", "measured": "all times", "proved": proved_sums()}

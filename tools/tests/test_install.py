@@ -1,4 +1,5 @@
 """In tools/: python3 -m unittest discover -s tests -t ."""
+import ast
 import contextlib
 import io
 import os
@@ -6,7 +7,8 @@ import unittest
 from unittest import mock
 
 import install
-from spanprof.errors import Fault
+import wheel
+from spanprof.command import Fault
 from spanprof.tests.in_folder import InFolder
 
 
@@ -14,16 +16,25 @@ class Plan(unittest.TestCase):
     def test_what_goes_where(self):
         places = [path for _, path in install.plan()]
         for path in ("bin/spanprof", "libexec/spanprof/spanprof", "lib/spanprof/librecorder.so",
-                     "lib/spanprof/convert_log", "lib/spanprof/calibrate", "share/spanprof/spanprof/path/table.py",
+                     "lib/spanprof/convert_log", "lib/spanprof/calibrate", "share/spanprof/spanprof/path/command.py",
                      "share/spanprof/spanprof/whatif/command.py", "share/man/man1/spanprof-path.1",
                      "share/man/man1/spanprof.1", "share/bash-completion/completions/spanprof-report",
                      "share/zsh/site-functions/_spanprof", "share/spanprof/spanprof/record/command.py",
                      "share/spanprof/spanprof/report/template/page.html", "share/spanprof/spanprof/client.py",
                      "share/spanprof/spanprof/conformance/judge/verdicts.py",
-                     "share/spanprof/conformance/harness/log.c", "share/spanprof/spanprof/version.py",
+                     "share/spanprof/conformance/harness/log.c", "share/spanprof/spanprof/folders.py",
                      "share/spanprof/VERSION"):
             self.assertIn(path, places)
         self.assertEqual(len(places), len(set(places)))
+
+    def test_the_module_of_the_wheel_imports_nothing_that_it_lacks(self):
+        folder = wheel.TOP / "tools/spanprof"
+        for name in wheel.MODULE:
+            for node in ast.walk(ast.parse((folder / name).read_text())):
+                if isinstance(node, ast.ImportFrom) and node.module.startswith("spanprof"):
+                    modules = [node.module.partition(".")[2]] if "." in node.module else \
+                        [one.name for one in node.names if (folder / (one.name + ".py")).exists()]
+                    self.assertLessEqual({module + ".py" for module in modules}, {*wheel.MODULE})
 
     def test_names_with_hyphens_are_links(self):
         self.assertEqual(install.links(large="no such program")[:2],

@@ -9,9 +9,8 @@ import sys
 
 from programs import FIXED, kind_of     # which adds tools to the path
 from timing import busy_processes, interleaved
-from spanprof.errors import Fault
-from spanprof.record.command import record_as_asked
-from spanprof.record.options import parse
+from spanprof.command import Fault
+from spanprof.record.command import parse, record_as_asked
 from spanprof.record.session import Session
 
 THREADS = 4

@@ -18,14 +18,12 @@ from measured import HERE
 
 from comparing import largest
 from spanprof.head import comments, read_head
-from spanprof.marks import as_text, statements
 from spanprof.predict.estimate import estimate
 from spanprof.predict.interval import CHANGED, WIDTHS
 from spanprof.predict.machine import read_machine
 from spanprof.predict.recorded import GNU, LLVM, recorded_as
-from spanprof.whatif.creating import costs_for
-from spanprof.whatif.requests import Request, applied, changes
-from spanprof.whatif.survey import survey
+from spanprof.program_text import as_text, statements
+from spanprof.whatif.requests import Request, applied, changes, costs_for, survey
 
 THREADS = 4
 BEFORE, AFTER = Case((THREADS,), THREADS, 0.05, 0.20), Case((THREADS,), THREADS, 0.05, 0.20, True)
@@ -80,7 +78,8 @@ def changed(made, one):
     asked = changes(list(requests(made, lines)), seen, costs_for(read_head(one.text), seen))
     head = ["# %s\n" % line for line in comments(one.text) if line.startswith(("recorded: ", "region: "))]
     text = "".join(head) + as_text(applied(statements(lines), asked))
-    around = {name: getattr(one, name) for name in ("outside", "held", "is_timed", "arrivals", "dispatch")}
+    kept = ("outside", "held", "is_timed", "arrivals", "dispatch", "runtime")
+    around = {name: getattr(one, name) for name in kept}
     return replace(recorded_as(text, one.name), is_changed=True, **around)
 
 

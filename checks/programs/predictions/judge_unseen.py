@@ -12,7 +12,7 @@ from judge_changes import changed
 from judging import Case, Judged, of_estimate, summary
 from measured import read, texts
 from quiet import Used, verdict
-from unseen import ON_GCC, UNSEEN
+from unseen import HAS_CHANGES, ON_GCC, UNSEEN
 
 from spanprof.predict.estimate import estimate
 from spanprof.predict.machine import read_machine
@@ -36,8 +36,10 @@ class Kind(NamedTuple):
         return AFTER if self.case.is_changed else BEFORE
 
 
-KINDS = (Kind("4 from 4", Case((4,), 4, 0.05, 0.15)), Kind("4 from 1 and 2", Case((1, 2), 4, 0.08, 0.20)),
-         Kind("changed, 4 from 4", Case((4,), 4, 0.05, 0.20, True)))[:1 if ON_GCC else None]
+FROM_FOUR = Kind("4 from 4", Case((4,), 4, 0.05, 0.15))
+FROM_FEWER = Kind("4 from 1 and 2", Case((1, 2), 4, 0.08, 0.20))
+CHANGED = Kind("changed, 4 from 4", Case((4,), 4, 0.05, 0.20, True))
+KINDS = (FROM_FOUR, *(() if ON_GCC else (FROM_FEWER,)), *((CHANGED,) if HAS_CHANGES else ()))
 
 
 class Measured(NamedTuple):
@@ -71,8 +73,8 @@ def rows(path):
 
 def read_recording(path):
     one = recorded_as(path.read_text(encoding="utf-8"), path.name)
-    take_times(one, path.with_suffix(".timed"))
     one.runtime = RUNTIME
+    take_times(one, path.with_suffix(".timed"))
     return one
 
 

@@ -7,10 +7,9 @@
     measure_unseen.py judge FOLDER              judges by all turns of the folder
     measure_unseen.py all FOLDER [TURNS]        one after the other
 A turn runs each program on 1 to 4 threads, before and after its change, and records it before the change on 1, 2 and 4;
-with RUNTIME=gnu, by gcc and on its runtime, it runs and records each before its change on 4 alone. The folder keeps
-everything: the programs, turns.csv, watched.csv, the logs and their texts. The runtime's costs are those of
-SPANPROF_MACHINE, or measured first, for which SPANPROF has to be there. A turn that is cut short does not count. Only
-`turns` needs the machine for itself.
+with RUNTIME=gnu, by gcc and on its runtime, on 4 alone. The folder keeps everything: the programs, turns.csv,
+watched.csv, the logs and their texts. The runtime's costs are those of SPANPROF_MACHINE, or measured first, for which
+SPANPROF has to be there. A turn that is cut short does not count. Only `turns` needs the machine for itself.
 """
 import csv
 import os
@@ -22,14 +21,14 @@ from concurrent.futures import ThreadPoolExecutor
 
 from quiet import Watch, going_first
 from runs import TOP, build_clock, compiled, convert, record_all, recordings, region_time
-from unseen import ON_GCC, UNSEEN
+from unseen import HAS_CHANGES, ON_GCC, UNSEEN
 
 from versions import asked      # of checks/llvm, which `runs` has found
 
 VERSION = os.environ.get("LLVM", "16")
 TURNS, THREADS, RECORDED = (40, (4,), (4,)) if ON_GCC else (12, (4, 3, 2, 1), (4, 2, 1))
 BEFORE, AFTER = "before", "after"
-VERSIONS = (BEFORE,) if ON_GCC else (BEFORE, AFTER)
+VERSIONS = (BEFORE, AFTER) if HAS_CHANGES else (BEFORE,)
 TIMES, WATCHED = "turns.csv", "watched.csv"
 NAMES = {TIMES: ("program", "version", "threads", "turn", "nanoseconds", "gave_way"),
          WATCHED: ("turn", "stolen", "others", "load")}
@@ -64,7 +63,7 @@ def build(folder):
     words = ["gcc"] if ON_GCC else llvm().compiler()
     todo = [(one, version) for one in UNSEEN for version in VERSIONS]
     with ThreadPoolExecutor(len(os.sched_getaffinity(0))) as pool:
-        list(pool.map(lambda pair: compiled(words, *pair, program_of(folder, *pair), ["-lm"]), todo))
+        list(pool.map(lambda pair: compiled(words, *pair, program_of(folder, *pair)), todo))
     calibrate(folder)
 
 

@@ -12,15 +12,21 @@ from recording import LOADED, log_of, made_texts  # noqa: E402
 from unseen import FOLDER  # noqa: E402
 
 OPTIONS = ("-O2", "-g", "-fopenmp", "-fno-optimize-sibling-calls")
+LINKED = {".c": ("-lm",), ".cpp": ("-lm", "-lstdc++")}
 
 
-def compiled(words, one, version, path, linked=()):
+def source_of(one, folder=FOLDER):
+    """In C or in C++."""
+    return next(path for ending in LINKED for path in (HERE / folder / (one.name + ending),) if path.exists())
+
+
+def compiled(words, one, version, path):
     """The path of a program, before or after its change, which is compiled. A program is known by its source's name, in
     places too."""
     flags = ["-DREWRITTEN"] if version == "after" else []
     path.parent.mkdir(parents=True, exist_ok=True)
-    source = HERE / FOLDER / (one.name + ".c")
-    subprocess.run([*words, *OPTIONS, *flags, str(source), "-o", str(path), *linked], check=True)
+    source = source_of(one)
+    subprocess.run([*words, *OPTIONS, *flags, str(source), "-o", str(path), *LINKED[source.suffix]], check=True)
     return path
 
 

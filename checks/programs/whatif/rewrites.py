@@ -24,7 +24,7 @@ sys.dont_write_bytecode = True
 from comparing import ends, first_difference, largest, least, shape, without_empty_groups
 from programs import PROGRAMS, TUTORIAL
 from recording import RECORDER, made_texts, remove
-from spanprof.whatif.texts import Text, write
+from spanprof.whatif.requests import Text, write
 
 WHATIF = os.path.join(TOOLS, "spanprof-whatif")
 KEPT = os.path.join(TOP, "examples", "openmp", "recorded")

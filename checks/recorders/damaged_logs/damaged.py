@@ -22,7 +22,7 @@ sys.path.append(os.path.join(os.path.dirname(HERE), "..", "llvm"))
 sys.path.append(os.path.join(HERE, "..", "..", "..", "tools"))
 from recording import LOADED, Wrong, build, log_of  # noqa: E402
 from spanprof import client  # noqa: E402
-from spanprof.errors import Fault  # noqa: E402
+from spanprof.command import Fault  # noqa: E402
 
 SECONDS, MEGABYTES = 30, 1500
 BELOW_ZERO = re.compile(rb"^(?:# elapsed: -|\d+ \d+ (?:-|\d+ -))\d+", re.M)

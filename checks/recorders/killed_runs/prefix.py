@@ -3,7 +3,7 @@ import os
 import sys
 
 sys.path.append(os.path.join(os.path.dirname(os.path.abspath(__file__)), "..", "..", "..", "tools"))
-from spanprof.marks import statements  # noqa: E402
+from spanprof.program_text import statements  # noqa: E402
 
 WAIT = "taskwait"
 

@@ -7,7 +7,7 @@ from structure import Node, Recorded, every_node, nodes
 
 sys.path.append(os.path.join(os.path.dirname(os.path.abspath(__file__)), "..", "..", "..", "tools"))
 from spanprof.head import read_head  # noqa: E402
-from spanprof.marks import statements  # noqa: E402
+from spanprof.program_text import statements  # noqa: E402
 
 PART = "one of the region's threads"
 

@@ -12,7 +12,7 @@
 
 // A path ends in the code of the task that makes the other one. Where that is of a function that is in the path before,
 // as where a function recurses by tasks, it goes on with the path of that task, but for such functions. So the calls
-// that led into a recursion are told, and not its turns.
+// that led into a recursion are kept, and not its turns.
 class CallPaths {
  public:
   CallPaths(const std::vector<Calls> &paths, const Places &places);  // where all their calls were looked up

@@ -14,6 +14,7 @@
 #include "options.hpp"
 #include "outputs.hpp"
 #include "message.hpp"
+#include "table_memory.hpp"
 
 namespace {
 using log_form::Head;
@@ -81,6 +82,7 @@ std::unique_ptr<CallPaths> paths_of(const LogFolder &log, const Options &options
 
 void convert(const std::string &folder, const std::string &out) {
   Options options = read_options();
+  table_memory::stand_beside(out);
   LogFolder log(folder);
   const Head &head = log.head;
   options.processor_clock = head.costs == log_form::Costs::Processor;

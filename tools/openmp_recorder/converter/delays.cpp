@@ -89,7 +89,7 @@ void Delays::add(uint32_t kind, int64_t delay) {
 
 void Delays::take(const Region &region, Region &part, const Events &events,
                   const std::vector<SegmentTable::Around> &around) {
-  if (is_left) add(kind_left, events.times.front().begin - ready_left);
+  if (is_left) add(kind_left, events.times[0].begin - ready_left);
   is_left = false;
   Ready ready(region, part, events);
   are_known = are_known && ready.find();

@@ -6,6 +6,8 @@
 #include <utility>
 #include <vector>
 
+#include "column.hpp"
+
 struct Task;
 
 struct Event {
@@ -18,7 +20,7 @@ struct Event {
 };
 
 class EventList {
-  static constexpr std::size_t bits = 12, of_a_block = std::size_t{1} << bits;
+  static constexpr std::size_t bits = 12, of_a_block = std::size_t{1} << bits, at_once = 512;
 
  public:
   template <class List, class Of>
@@ -26,7 +28,10 @@ class EventList {
    public:
     Place(List *of, std::size_t number) : list(of), at(number) {}
     Of &operator*() const { return (*list)[at]; }
-    Place &operator++() { return at++, *this; }
+    Place &operator++() {
+      if (++at % at_once == 0) table_memory::stay_within();
+      return *this;
+    }
     bool operator!=(const Place &other) const { return at != other.at; }
 
    private:
@@ -59,7 +64,7 @@ class EventList {
   }
 
  private:
-  std::vector<std::vector<Event>> blocks;  // none of them empty; all but the last are full
+  std::vector<Column<Event>> blocks;  // none of them empty; all but the last are full
   std::size_t gone = 0, first = 0;  // blocks before them; the first event that is not forgotten
 
   void add_block() {

@@ -11,7 +11,7 @@ uint32_t number_of(const Event &event, const Region &region) {
 
 // The pieces of a chunk, one after the other; their part makes all of them where it makes the first. That is before the
 // chunk begins, where it is not the first of its loop.
-size_t divide_among_pieces(const Task &chunk, uint32_t first, std::vector<SegmentTime> &times) {
+size_t divide_among_pieces(const Task &chunk, uint32_t first, Column<SegmentTime> &times) {
   SegmentTime all = times[first];
   int64_t took = all.end - all.begin, pieces = chunk.pieces, begin = all.begin, made = times[first - 1].end;
   for (int64_t i = 0; i < pieces; i++) {
@@ -41,7 +41,8 @@ void put_row(Piece &piece, uint64_t segment, const SegmentTime &time) {
 void Events::take(const Region &region, const Region &part, uint32_t begin, uint32_t end) {
   put_away(begin - first);
   first = begin;
-  times.assign(end - begin, {});
+  times.clear();
+  times.resize(end - begin, {});
   for (auto &event : part.events) {
     uint32_t number = number_of(event, region);
     if (number == none) continue;
@@ -73,14 +74,20 @@ void Events::put_rows(size_t count, const Taker &taker) {
   Piece piece;
   for (size_t s = 0; s < count; s++) {
     put_row(piece, first + s, times[s]);
-    if (piece.size() >= longest_piece) taker(piece.words()), piece.clear();
+    if (piece.size() < longest_piece) continue;
+    taker(piece.words());
+    piece.clear();
+    table_memory::stay_within();
   }
   taker(piece.words());
 }
 
 void Events::print(const Region &region, const Taker &taker) {
   int64_t end = std::max(last, region.time.end - region.time.begin);
-  for (const SegmentTime &time : times) end = std::max(end, time.end);
+  for (size_t s = 0; s < times.size(); s++) {
+    end = std::max(end, times[s].end);
+    if (s % longest_piece == 0) table_memory::stay_within();
+  }
   size_t threads = std::max<size_t>(region.threads, workers());
   taker("times " + std::to_string(threads) + " 0 " + std::to_string(end) + "\n");
   if (file) file->go_to(0);

@@ -3,8 +3,8 @@
 #include <map>
 #include <memory>
 #include <string>
-#include <vector>
 
+#include "column.hpp"
 #include "files.hpp"
 #include "run.hpp"
 #include "program_text.hpp"
@@ -26,7 +26,7 @@ class Events {
   // What follows the text in a timed document: the times of all segments, on the threads of the region and those that
   // ran its tasks beside them.
   void print(const Region &region, const Taker &taker);
-  std::vector<SegmentTime> times;  // of the last part
+  Column<SegmentTime> times;  // of the last part
 
  private:
   std::string beside;  // the first name of the file

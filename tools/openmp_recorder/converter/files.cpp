@@ -1,5 +1,6 @@
 #include "files.hpp"
 
+#include <fcntl.h>
 #include <stdlib.h>
 #include <unistd.h>
 
@@ -17,17 +18,26 @@ constexpr const char *unwritable = "cannot be written next to the texts", *unrea
 
 std::string unfinished(const std::string &name) { return name + ".new"; }
 
-int nameless_file(const std::string &beside) {
-  std::string name = beside + ".XXXXXX";
-  int file = mkstemp(name.data());
-  if (file >= 0) unlink(name.c_str());
-  return file;
-}
-
 [[noreturn]] void give_up(const char *what) {
   throw std::runtime_error(std::string("what does not fit the memory ") + what + ": " + std::strerror(errno));
 }
 }  // namespace
+
+void read_file(const std::string &name, const std::function<void(std::string_view)> &take) {
+  FILE *file = fopen(name.c_str(), "re");
+  std::string bytes(buffered, 0);
+  while (std::size_t count = file ? fread(bytes.data(), 1, bytes.size(), file) : 0) take({bytes.data(), count});
+  bool good = file && !ferror(file);
+  if (file) fclose(file);
+  if (!good) throw std::runtime_error(name + " cannot be read again");
+}
+
+int nameless_file(const std::string &beside) {
+  std::string name = beside + ".XXXXXX";
+  int file = mkostemp(name.data(), O_CLOEXEC);
+  if (file >= 0) unlink(name.c_str());
+  return file;
+}
 
 bool write_file(const std::string &name, const std::string &text) {
   return write_file(name, [&](auto &take) { take(text); });

@@ -13,7 +13,10 @@ bool write_file(const std::string &name, const std::string &text);
 bool write_file(const std::string &name,
                 const std::function<void(const std::function<void(std::string_view)> &)> &tell);
 
-// A file without a name beside the others, for what does not fit the memory: it is written, and then read again.
+void read_file(const std::string &name, const std::function<void(std::string_view)> &take);  // piece by piece
+int nameless_file(const std::string &beside);  // open, or -1
+
+// A file without a name next to the others, for what does not fit the memory: it is written, and then read again.
 class NamelessFile {
  public:
   explicit NamelessFile(const std::string &beside);  // the first name of a file

@@ -14,8 +14,8 @@
 
 namespace {
 constexpr size_t most_locks = 10;
-constexpr int64_t least_difference = 50000;  // of the clocks, that is told
-constexpr size_t most_preempted = 1000;  // segments, of which that is told
+constexpr int64_t least_difference = 50000;  // of the clocks, that is reported
+constexpr size_t most_preempted = 1000;  // segments, of which that is reported
 
 class Head {
  public:

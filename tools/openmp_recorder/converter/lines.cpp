@@ -48,7 +48,7 @@ void Constructs::add(const Region &part) {
 }
 
 // No `task` or `taskwait` stands on the line of its region, and no `taskwait` on a task's. A call of the runtime that
-// is its function's last may be a jump: then what is told is the place after the call of that function.
+// is its function's last may be a jump: then the place is the one after the call of that function.
 void remark_lines(Region &region, const Places &places) {
   Constructs all = constructs_of(region);
   std::set<std::string> of_tasks = lines_of(all.tasks, places);

@@ -10,5 +10,5 @@ struct Constructs {
   void add(const Region &part);  // those of its tasks
 };
 
-// Remarks constructs that are told at a line which cannot be theirs.
+// Remarks constructs that are reported at a line which cannot be theirs.
 void remark_lines(Region &region, const Places &places);

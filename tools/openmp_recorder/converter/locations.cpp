@@ -1,5 +1,7 @@
 #include "locations.hpp"
 
+#include <utility>
+
 Locations::Slot &Locations::find(uint64_t line) {
   constexpr uint64_t scatter = 0x9e3779b97f4a7c15;
   std::size_t at = (line * scatter >> 32) & (slots.size() - 1);
@@ -8,8 +10,9 @@ Locations::Slot &Locations::find(uint64_t line) {
 }
 
 void Locations::grow() {
-  std::vector<Slot> old(slots.empty() ? 64 : 2 * slots.size());
-  old.swap(slots);
+  Column<Slot> old;
+  old.resize(slots.empty() ? 64 : 2 * slots.size(), {});
+  std::swap(old, slots);
   for (const Slot &slot : old)
     if (slot.at) find(slot.line) = slot;
 }

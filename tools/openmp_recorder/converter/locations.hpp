@@ -2,7 +2,8 @@
 #pragma once
 #include <array>
 #include <cstdint>
-#include <vector>
+
+#include "column.hpp"
 
 class Locations {
  public:
@@ -17,8 +18,8 @@ class Locations {
     uint64_t line = 0;  // its addresses divided by their number
     uint32_t at = 0;  // one more than its place, 0 where the slot is free
   };
-  std::vector<Slot> slots;  // a power of two, of which at most half are taken
-  std::vector<Line> lines;
+  Column<Slot> slots;  // a power of two, of which at most half are taken
+  Column<Line> lines;
   uint32_t count = 0;
 
   Slot &find(uint64_t line);

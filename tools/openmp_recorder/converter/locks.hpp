@@ -11,7 +11,7 @@ struct LockUse {
   const void *code = nullptr;  // where it was first asked for
   uint64_t times = 0;
   int64_t inside = 0, waiting = 0;
-  int64_t alone = 0;  // of the time inside: where the runtime told of nothing, so that no other task ran there
+  int64_t alone = 0;  // of the time inside: where the runtime reported nothing, so that no other task ran there
   void add(const LockUse &more);
 };
 

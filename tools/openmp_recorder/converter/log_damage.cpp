@@ -98,7 +98,7 @@ void RecordsLookedAt::look_at(const log_form::RawRecord &record, int64_t process
   auto kind = static_cast<RecordKind>(record.word >> log_form::code_bits & 255);
   if (kind >= RecordKind::Sample) throw DamagedLog("it is of no kind");
   if (kind == RecordKind::Items) return;  // an address is in the place of the time
-  if (kind == RecordKind::StoodStill) return add_up(static_cast<int64_t>(wide));  // told at its end, which may be later
+  if (kind == RecordKind::StoodStill) return add_up(static_cast<int64_t>(wide));  // reported at its end, maybe later
   look_at_times(record.at, processor);
   if (kind == RecordKind::LockGot) add_wait(log_form::ticks_waited(record.other));
   if (kind == RecordKind::Passed && !is_length(static_cast<int64_t>(wide)))

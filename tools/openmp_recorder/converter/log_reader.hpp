@@ -11,7 +11,7 @@
 #include "modules_of_run.hpp"
 #include "records.hpp"
 
-// What cannot be read is told by an exception.
+// What cannot be read ends in an exception.
 class LogFolder {
  public:
   explicit LogFolder(const std::string &path);
@@ -27,7 +27,7 @@ class LogFolder {
   bool runs = false;
 };
 
-// How ticks are told as nanoseconds of the wall clock.
+// How ticks become nanoseconds of the wall clock.
 class TickTime {
  public:
   explicit TickTime(const log_form::Head &head);

@@ -8,7 +8,7 @@ using Calls = std::vector<const void *>;  // places of calls, from the creating 
 
 class LoggedPaths {
  public:
-  void read(const std::string &path);  // what no recorder writes is told by an exception
+  void read(const std::string &path);  // what no recorder writes ends in an exception
   const std::vector<Calls> &all() const { return paths; }  // the first has the number 1
   bool has(uint64_t number) const { return number && number <= paths.size(); }
   const void *creating(uint64_t number) const { return paths[number - 1].front(); }  // call, of a path that is there

@@ -9,7 +9,7 @@ namespace {
 using log_form::RawSample;
 using log_form::window_bytes;
 
-// The instruction itself is told as a call is: by what follows.
+// The instruction itself is named as a call is: by what follows.
 Calls calls_of(const char *at, unsigned count) {
   Calls calls;
   for (unsigned i = 0; i < count; i++) {

@@ -66,7 +66,10 @@ void OffTimes::go_on() {
 }
 
 void OffTimes::number(const Region &region) {
-  for (OffTime &one : all) {
+  constexpr size_t at_once = 64;  // their tasks lie anywhere
+  for (size_t i = 0; i < all.size(); i++) {
+    OffTime &one = all[i];
+    if (i % at_once == 0) table_memory::stay_within();
     if (!one.task) continue;
     one.number = number_in_text(*one.task, one.segment, region);
     one.pieces = tasks_for(*one.task);

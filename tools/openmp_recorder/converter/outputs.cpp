@@ -49,10 +49,9 @@ class Reporter {
   Size measure(Region &region);
   std::string head(Region &region, int64_t work);
   void report_remarks(const Region &region, const std::string &name);
-  void write_times(Region &region, Events &events, const std::string &name, const std::string &head, Style style,
-                   Object &line);
+  void write_times(Region &region, Events &events, const std::string &name, Object &line);
   bool write_text(Region &region, const std::string &file, const std::string &head, const Style &style,
-                  SegmentTable *table, const PartTaker &behind_part, const std::function<void(const Taker &)> &behind);
+                  SegmentTable *table, const PartTaker &behind_part);
   bool write_whole(WholeProgram &whole, const std::string &name, const std::string &head, const Style &style,
                    Events &events);
   bool write_parts(Region &region, const std::string &name, const std::string &head, const Style &style,
@@ -110,28 +109,25 @@ void Reporter::report_remarks(const Region &region, const std::string &name) {
 }
 
 // Those of a region stand behind its text once more, and those of the whole program alone.
-void Reporter::write_times(Region &region, Events &events, const std::string &name, const std::string &head,
-                           Style style, Object &line) {
+void Reporter::write_times(Region &region, Events &events, const std::string &name, Object &line) {
   if (!options.times) return;
   if (!region.has_events || !events.are_whole()) {
     line.put("no times", region.has_events ? "unfinished" : "whole");
     return;
   }
   std::string file = name + (recording.whole ? ".times" : ".timed");
-  style.numbered = false;
-  auto times = [&](const Taker &taker) { events.print(region, taker); };
-  auto behind = [&](const Taker &taker) { taker("---\n"), times(taker); };
-  if (recording.whole ? write_file(file, times) : write_text(region, file, head, style, nullptr, nullptr, behind))
-    line.put("times", file);
+  bool is_written = write_file(file, [&](const Taker &taker) {
+    if (!recording.whole) read_file(name + ".tasks", taker), taker("---\n");
+    events.print(region, taker);
+  });
+  if (is_written) line.put("times", file);
 }
 
 bool Reporter::write_text(Region &region, const std::string &file, const std::string &head, const Style &style,
-                          SegmentTable *table, const PartTaker &behind_part,
-                          const std::function<void(const Taker &)> &behind) {
+                          SegmentTable *table, const PartTaker &behind_part) {
   return write_file(file, [&](const Taker &taker) {
     taker(head);
     print_program(region, style, places, taker, table, behind_part);
-    if (behind) behind(taker);
   });
 }
 
@@ -176,7 +172,7 @@ bool Reporter::write_whole(WholeProgram &whole, const std::string &name, const s
     else table.take_around();
     whole.off.number(whole);
   };
-  bool is_text = write_text(whole, name + ".tasks", head, style, &table, take_part, nullptr);
+  bool is_text = write_text(whole, name + ".tasks", head, style, &table, take_part);
   bool has_room = table.finish([&](Object &line) {
     of_regions.put(line);
     if (sums) sums->put(line);
@@ -191,7 +187,7 @@ bool Reporter::write_parts(Region &region, const std::string &name, const std::s
   auto take_part = [&](Region &part, uint32_t first, uint32_t end) {
     if (region.has_events) events.take(region, part, first, end);
   };
-  return write_text(region, name + ".tasks", head, style, nullptr, take_part, nullptr);
+  return write_text(region, name + ".tasks", head, style, nullptr, take_part);
 }
 
 Object &Reporter::put_size(Object &line, const std::string &file, const Size &size, int64_t work) {
@@ -217,7 +213,7 @@ void Reporter::write(Region &region, const std::string &name) {
     return;
   report_remarks(region, name);
   Message line("text");
-  write_times(region, events, name, words, style, put_size(line, file, size, work));
+  write_times(region, events, name, put_size(line, file, size, work));
 }
 
 void Reporter::report_outside(const Occurrences &outside) {

@@ -206,7 +206,7 @@ int64_t for_the_commands(const Chooser &chooser, int64_t from, int64_t span) {
   return least && chooser.longer(least) <= span / share_that_moves_little ? least : 0;
 }
 
-// Of a loop that the compiler divides into chunks only the first of each thread is told.
+// Of a loop that the compiler divides into chunks only the first of each thread is reported.
 uint64_t all_turns(const Chunk &chunk) {
   const Loop &loop = *chunk.loop;
   if (chunk.makes_tasks) return 1;  // regions in it

@@ -13,7 +13,7 @@ struct Moment {  // of a thread
   uint16_t worker = 0;
 };
 
-// When the first of the parts of this one's phase began; `otherwise` where nothing tells it.
+// When the first of the parts of this one's phase began; `otherwise` where that is not known.
 Moment begin_of_phase(const std::vector<Part> &parts, size_t one, const EventList &events, Moment otherwise);
 void put_empty_segment(EventList &events, Task &t, unsigned segment, Moment when);
 // What the owner does between its groups, and between the parts that it makes there, takes no time, from the segment

@@ -13,7 +13,7 @@
 #include "stretches.hpp"
 
 namespace {
-constexpr size_t longest_piece = 1 << 20;
+constexpr size_t longest_piece = 1 << 15;
 constexpr std::string_view of_a_thread = "one of the region's threads";
 
 // Where the writer is in a task's own code.
@@ -41,7 +41,7 @@ class Writer {
   Piece piece;  // not handed on yet
   std::vector<Place> inside;  // the open tasks, innermost last
   uint32_t opened = 0;
-  std::vector<uint32_t> names;  // by the number of a location
+  Column<uint32_t> names;  // by the number of a location
   uint32_t named = 0;
   struct Asked {
     const void *code = nullptr;
@@ -95,6 +95,7 @@ void Writer::end_line(std::string_view comment) {
   if (piece.size() < longest_piece) return;
   taker(piece.words());
   piece.clear();
+  table_memory::stay_within();
 }
 
 void Writer::line(unsigned indent, std::string_view words, std::string_view comment) {

@@ -1,6 +1,6 @@
-// Reads the records in their order and makes tasks, steps and events of them. What the runtime tells at each construct,
-// and in which order, is written down in README.md. Its functions stand in run.cpp, release_*.cpp, waits.cpp,
-// whole.cpp and turns.cpp.
+// Reads the records in their order and makes tasks, steps and events of them. README.md lists what the runtime reports
+// at each construct, and in which order. Its functions stand in run.cpp, release_*.cpp, waits.cpp, whole.cpp and
+// turns.cpp.
 #pragma once
 #include <cstdint>
 #include <map>
@@ -30,13 +30,13 @@ struct Worker {
 };
 
 // The turns of a loop that the thread runs: what comes before and after the loop, and the pieces of one turn, share a
-// location each, since what waits for each other is told by `depend`.
+// location each, since what waits for each other is in their `depend`.
 struct Turns {
   uint32_t around = 0, turn = 0;
   int64_t since = 0;  // the running piece, on the wall clock
   bool waited = false;  // in this turn
   bool after_a_wait = false;  // the running piece began where a wait for other turns was over
-  int64_t released = 0;  // when the next turn in order began, where that was told first; on the wall clock
+  int64_t released = 0;  // when the next turn in order began, where that was reported first; on the wall clock
 };
 
 struct ImplicitTask {
@@ -93,7 +93,7 @@ class Reader {
   Task *current_part();  // of the implicit task that the thread is in
   Task *running();
   static void remark(Region *region, Remark what, const void *code) { region->remarks[what].add(code); }
-  [[noreturn]] void refuse(const char *why) const;  // what the runtime never tells
+  [[noreturn]] void refuse(const char *why) const;  // what the runtime never reports
 
   // run.cpp: tasks, and what runs
   Task *fresh(Region *region, bool is_of_host);
@@ -131,7 +131,7 @@ class Reader {
 
   // release_regions.cpp: the memory of regions that have ended
   uint64_t held = 0;  // their tasks
-  Region *last_ended = nullptr;  // beside them, until another region makes a task
+  Region *last_ended = nullptr;  // apart from them, until another region makes a task
   bool is_ended(const Region &region) const;
   void release_if_ended(Region &region);
   void forget(const TaskList &all);
@@ -217,7 +217,7 @@ class Reader {
   // turns.cpp: turns of loops that wait for each other
   std::map<std::pair<const Loop *, std::vector<uint64_t>>, uint32_t> turn_locations;  // by the turn's numbers
   std::unordered_map<uint32_t, int64_t> done;  // when a location's turn was, on the wall clock
-  std::unordered_map<uint32_t, int64_t> awaited;  // when a piece began that waited for it, told before it was done
+  std::unordered_map<uint32_t, int64_t> awaited;  // when a piece began that waited for it, reported before it was done
   uint64_t made_locations = 0;
   uint32_t made_location();
   uint32_t location_of_turn(const Loop &loop);

@@ -94,6 +94,7 @@ void RegionSums::add(const RegionRow &row, const WholeTime &time, const std::str
   of.times++;
   of.elapsed += std::max<int64_t>(0, end - std::max(begin, of.covered));
   of.covered = std::max(of.covered, end);
+  of.code += row.in_code;
   Team &team = of.teams[row.threads];
   team.elapsed += end - begin;
   team.asked = std::max(team.asked, row.asked);
@@ -113,7 +114,7 @@ void RegionSums::put(Object &line) const {
       teams += (teams.empty() ? "[" : ", [") + std::to_string(threads) + ", " + std::to_string(team.elapsed) + ", " +
                std::to_string(team.asked) + "]";
     lists[of.number] = "[" + in_json(place) + ", " + std::to_string(of.times) + ", " + std::to_string(of.elapsed) +
-                       ", [" + teams + "]]";
+                       ", " + std::to_string(of.code) + ", [" + teams + "]]";
   }
   std::string list;
   for (const std::string &one : lists) list += (list.empty() ? "" : ", ") + one;

@@ -32,6 +32,7 @@ class RegionSums {
     size_t number;  // in the order of time
     uint64_t times = 0;
     int64_t elapsed = 0, covered = 0;  // where several run at once that counts once; until then
+    int64_t code = 0;  // of all threads
     std::map<unsigned, Team> teams{};
   };
   std::map<std::string, OfPlace, std::less<>> by_place;

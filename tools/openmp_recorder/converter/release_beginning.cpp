@@ -136,8 +136,8 @@ void Reader::take_steps(Task &root, size_t count) {
   whole.steps = std::move(rest);
 }
 
-// Up to the end, and what was told of its tasks later. Segments of the program's root are numbered from the stretch's
-// last one on, which is the first of what comes next.
+// Up to the end, and what was reported of its tasks later. Segments of the program's root are numbered from the
+// stretch's last one on, which is the first of what comes next.
 void Reader::take_events(Region &stretch, size_t end) {
   if (!stretch.has_events) return;
   Task *root = run.whole->root;

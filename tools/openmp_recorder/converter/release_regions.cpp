@@ -6,23 +6,11 @@
 #include "auxiliary.hpp"
 #include "compose.hpp"
 #include "reader.hpp"
-#include "recycled.hpp"
+#include "table_memory.hpp"
 
-namespace {
-Recycled &memory_of_regions() {
-  static Recycled all(sizeof(Region));
-  return all;
-}
-}  // namespace
-
-void *Region::operator new(size_t bytes) {
-  return bytes == sizeof(Region) ? memory_of_regions().take() : ::operator new(bytes);
-}
-
-void Region::operator delete(void *memory, size_t bytes) {
-  if (bytes == sizeof(Region)) memory_of_regions().give_back(memory);
-  else ::operator delete(memory);
-}
+// They come and go by the million.
+void *Region::operator new(size_t bytes) { return table_memory::get(bytes); }
+void Region::operator delete(void *memory, size_t bytes) { table_memory::give_back(memory, bytes); }
 
 // No record that follows is of one of its tasks.
 bool Reader::is_ended(const Region &region) const {

@@ -55,7 +55,8 @@ struct Part {
   size_t first;  // its first event
 };
 
-// The piece of a turn before a wait for another turn. Its cost may have the wait in it, whose beginning is not told.
+// The piece of a turn before a wait for another turn. Its cost may have the wait in it, of which no beginning is
+// reported.
 struct TurnWait {
   Task *piece;
   int64_t least, most;  // what the piece costs without the wait
@@ -70,7 +71,7 @@ struct Loop {
   Divided what = Divided::Loops;
   uint32_t number = 0;  // in their order
   const void *code = nullptr;
-  uint64_t count = 0, reported = 0;  // turns: of the loop, and of the chunks that were told
+  uint64_t count = 0, reported = 0;  // turns: of the loop, and of the chunks that were reported
   bool kept = false;  // some of it, or all, is code of the parts, as this run divided it
   bool is_of_host = false;
   uint32_t order = 0;  // of an `ordered` loop: the location that its turns take in order
@@ -100,7 +101,7 @@ struct Region {
   static void operator delete(void *memory, size_t bytes);
   uint32_t number = 0;
   const void *code = nullptr;
-  unsigned asked = 0;  // how many threads its program asked for; 0 where that is not told
+  unsigned asked = 0;  // how many threads its program asked for; 0 where that is not reported
   unsigned threads = 0, ended = 0;  // of its implicit tasks those that ended
   bool is_ended = false;  // by the thread that met it
   bool is_released = false;  // its tasks, though not its sums
@@ -132,7 +133,7 @@ struct Region {
   Seldom<std::vector<Preempted>> preempted;  // by the wall clock, where its clocks differ; not of the whole program
   int64_t untimed = 0;  // the wall clock in segments that were left in their midst, until they were
   Seldom<std::map<Divided, MostOccurrences>> divided;  // of the thread that met the most
-  std::vector<uint32_t> numbers;  // of the segments in the text, task by task; none where one is part of a later one
+  Column<uint32_t> numbers;  // of the segments in the text, task by task; none where one is part of a later one
 
   // where the whole program is one text
   Region *whole = nullptr;  // that its tasks stand in
@@ -217,7 +218,7 @@ struct Run {
 struct Ending {
   int64_t clock = 0, wall = 0;
   bool full = false;  // there was no room for more records
-  bool killed = false;  // the last record tells when; filled in where that was inside a region
+  bool killed = false;  // at the time of the last record; filled in where that was inside a region
   int64_t last = 0;  // the wall clock at the last record
 };
 
@@ -230,7 +231,7 @@ struct HowToRead {
   int64_t start_wall = 0, end_wall = 0;  // of the program
   uint64_t most_held = UINT64_MAX;  // tasks of regions that have ended: beyond them each region is released as it ends
   std::set<uint32_t> held{};  // regions by number, that never are
-  CallPaths *paths = nullptr;  // of creations, where they are told apart
+  CallPaths *paths = nullptr;  // of creations, where they are distinguished
   std::string beside{};  // the first name of a file for what is let go of the whole program
   int64_t unit = 1;  // of its text, in nanoseconds
 };

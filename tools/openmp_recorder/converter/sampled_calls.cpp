@@ -152,6 +152,7 @@ struct Named {
   Frame own;  // the innermost one of the program
   bool in_recorder;  // its own code was running, which is none of the program's
   bool allocates;
+  bool in_direct_call;  // in a function of the system that the program's code called itself
 };
 
 Frame own_of(const Calls &calls, const Places &places) {
@@ -164,6 +165,11 @@ Frame own_of(const Calls &calls, const Places &places) {
   return {};
 }
 
+bool in_direct_call(const Calls &calls, const Places &places) {
+  return calls.size() > 1 && !library_of_system(calls[0], places).empty() && !is_recorder(calls[1], places) &&
+         library_of_system(calls[1], places).empty();
+}
+
 std::vector<Named> all_named(const Stacks &stacks, Places &places) {
   std::set<const void *> codes;
   for (const Calls &calls : stacks.all()) codes.insert(calls.begin(), calls.end());
@@ -171,8 +177,17 @@ std::vector<Named> all_named(const Stacks &stacks, Places &places) {
   std::vector<Named> out;
   for (const Calls &calls : stacks.all())
     out.push_back({named_calls(calls, places), own_of(calls, places),
-                   !calls.empty() && is_recorder(calls.front(), places), called_from(calls, places).allocates});
+                   !calls.empty() && is_recorder(calls.front(), places), called_from(calls, places).allocates,
+                   in_direct_call(calls, places)});
   return out;
+}
+
+// Where the program uses a cache line with others, itself or by a function that it hands an address to, such as
+// `rand_r`; what functions with locks of their own use is theirs.
+std::string use_of_line(const Contended &use, const Named &named, const Places &places) {
+  if (library_of_system(use.place, places).empty()) return places.at(use.place);
+  bool is_given = named.in_direct_call && !named.allocates && !use.is_wait && !use.synchronises;
+  return is_given ? named.own.at : "";
 }
 
 // Of each sample, the place that used a cache line which other threads used too; the next one where that has no line.
@@ -224,8 +239,8 @@ std::string sampled_lines(const Region &region, OffTimes &times, const Stacks &s
       by_calls[{loops, places.at(shared.loop)}] += one.stands_for;
     }
     auto beyond = static_cast<uint64_t>(shared.beyond * one.stands_for);
-    if (beyond && library_of_system(shared.place, places).empty() && !places.at(shared.place).empty())
-      by_calls[{shared.is_wait ? spins : shares, places.at(shared.place)}] += beyond;
+    std::string used_at = use_of_line(shared, named, places);
+    if (beyond && !used_at.empty()) by_calls[{shared.is_wait ? spins : shares, used_at}] += beyond;
   }
   std::string out;
   for (auto &[number, sum] : found)

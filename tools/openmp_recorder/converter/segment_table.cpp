@@ -189,15 +189,9 @@ void SegmentTable::task(std::string_view clauses, std::string_view place) {
   blocks.push_back({true, of_place, here});
   here = {false, of_place, ++tasks};
   uint32_t of_kind = open(Nothing, 0);
-  std::size_t last = std::exchange(before, SIZE_MAX);
+  uint32_t last = std::exchange(before, UINT32_MAX);
   if (clauses.empty()) return;
-  asked.assign(clauses).append("#").append(std::to_string(of_place));
-  auto met = clauses_met.find(asked);
-  if (met == clauses_met.end()) {
-    written.push_back({are_of_regions[of_place] ? no_kind : of_kind, asked, clauses.size()});
-    met = clauses_met.emplace(written.back().words, written.size() - 1).first;
-  }
-  before = met->second;
+  before = written.number(clauses, of_place, are_of_regions[of_place] ? no_kind : of_kind);
   written[before].count++;
   written[before].again += before == last;
 }
@@ -253,11 +247,11 @@ bool SegmentTable::finish(const std::function<void(Object &)> &more) {
   if (more) more(line);
   list = "\n" + line.end();
   list.replace(list.size() - 1, 1, ", \"clauses\": [");  // there may be as many as tasks
-  for (const Clauses &one : written) {
-    list += (&one == &written.front() ? "[" : ", [") + (one.kind == no_kind ? "null" : std::to_string(one.kind)) +
-            ", " + in_json(std::string_view(one.words).substr(0, one.length)) + ", " + std::to_string(one.count) +
-            ", " + std::to_string(one.again) + "]";
-    if (list.size() >= of_a_block) taker(list), list.clear();
+  for (uint32_t number = 0; number < written.size(); number++) {
+    const Clauses &one = written[number];
+    list += (number ? ", [" : "[") + (one.kind == no_kind ? "null" : std::to_string(one.kind)) + ", " +
+            in_json(written.words(one)) + ", " + std::to_string(one.count) + ", " + std::to_string(one.again) + "]";
+    if (list.size() >= of_a_block) taker(list), list.clear(), table_memory::stay_within();
   }
   taker(list + "]}\n");
   return kinds.size() < most_words && words.size() < most_words;

@@ -3,7 +3,6 @@
 #pragma once
 #include <array>
 #include <cstdint>
-#include <deque>
 #include <functional>
 #include <map>
 #include <string>
@@ -12,6 +11,7 @@
 #include <utility>
 #include <vector>
 
+#include "clause_table.hpp"
 #include "phases.hpp"
 #include "piece.hpp"
 
@@ -63,12 +63,6 @@ class SegmentTable {
     Code outer;
     uint32_t number = 0, region = 0;  // of a group: the place of the innermost one around its code that has one
   };
-  struct Clauses {
-    uint32_t kind;
-    std::string words;  // and behind them the place
-    std::size_t length;  // without that
-    uint64_t count = 0, again = 0;  // tasks, and those right behind another one with the same
-  };
   struct OfKind {  // what a segment of it is
     uint32_t place;  // of code that is divided among threads, or each of them has; none of other code
     uint32_t region;
@@ -101,14 +95,12 @@ class SegmentTable {
   std::vector<Sums> sums;
   std::unordered_map<uint64_t, uint32_t> sums_met;
   std::array<std::pair<uint64_t, uint32_t>, 64> recent_sums{};
-  std::deque<Clauses> written;
-  std::unordered_map<std::string_view, std::size_t> clauses_met;  // their words
-  std::string asked;  // of them
+  ClauseTable written;
   std::vector<Block> blocks;
   std::vector<std::size_t> groups;  // of the blocks
   Code here;
   bool is_pending = false;  // a group has just begun
-  std::size_t before = SIZE_MAX;  // clauses of the task that was made last
+  uint32_t before = UINT32_MAX;  // clauses of the task that was made last
   uint32_t tasks = 0, begun = 0, closed = 0;
   std::vector<uint16_t> kinds_of;  // segments, as far as they are not handed on
   std::vector<uint32_t> tasks_of, costs;

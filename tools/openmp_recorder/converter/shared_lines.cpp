@@ -14,8 +14,8 @@ constexpr int64_t at_once = 20000000;  // nanoseconds, five samples of a thread
 constexpr size_t most_functions = 16;
 constexpr uint64_t longest = 1 << 14, most_bytes = 512;  // of a function, and of what follows a sample in its loop
 constexpr uint64_t least = 100;  // of all sampled time, the part of a function that is looked at
-constexpr double least_met = 5;  // uses on the same line, below which they say nothing
-constexpr size_t most_pairs = 1 << 22;  // of uses that are compared: more tell no more
+constexpr double least_met = 5;  // uses on the same line, below which they show nothing
+constexpr size_t most_pairs = 1 << 22;  // of uses that are compared: more show no more
 
 using Function = std::pair<const ModuleOfRun *, uint64_t>;  // where it begins in the file
 
@@ -23,6 +23,7 @@ struct Found {
   uint64_t time = 0, end = 0;
   std::vector<size_t> samples;
   size_t instructions = 0;  // from the first to the last that a sample interrupted
+  bool synchronises = false;
 };
 
 uint64_t in_file(const Interrupted &one, const ModuleOfRun &module) { return one.code - module.base; }
@@ -84,6 +85,15 @@ std::map<uint64_t, const void *> waiting(const Instructions &code, const Found &
   return out;
 }
 
+// Whether the function has an atomic operation, up to where it returns behind its last sample.
+bool synchronises(const Instructions &code, const Found &function) {
+  for (auto &[at, instruction] : code) {
+    if (std::optional<MemoryUse> use = memory_use(instruction); use && use->is_atomic) return true;
+    if (at + most_bytes >= function.end && !instruction.rfind("ret", 0)) return false;
+  }
+  return false;
+}
+
 // Of a function; an atomic operation goes as a whole where nothing is shared.
 void set_beyond(const Found &function, const Stacks &stacks, std::vector<Contended> &all) {
   std::vector<Interrupted> some, others;
@@ -99,7 +109,7 @@ struct Met {
   double times[2] = {}, on_line[2] = {};  // of the own thread, and of others
 };
 
-// The most that is within the spread of such counts: few tell hardly more than whether lines are shared or not.
+// The most that is within the spread of such counts: few show hardly more than whether lines are shared or not.
 double shared_part(const Met &met) {
   auto [own, others] = met.on_line;
   if (own + others < least_met || others == 0) return 0;
@@ -191,6 +201,7 @@ std::vector<Contended> contending(const Stacks &stacks, const ModulesOfRun &modu
     const ModuleOfRun &module = *function.first;
     Instructions code = disassembled(module, function.second, found.end);
     found.instructions = between(code, found, stacks, module);
+    found.synchronises = synchronises(code, found);
     std::map<uint64_t, const void *> waited = waiting(code, found, stacks, module);
     Strides strides(code, caches_of_machine());
     for (size_t i : found.samples) {
@@ -214,7 +225,10 @@ std::vector<Contended> contending(const Stacks &stacks, const ModulesOfRun &modu
   for (size_t i = all.size(); i-- > 0;)
     if (contended[i]) out[all[i].sample] = {all[i].place, 1, all[i].is_atomic};
   add_unmet(all, stacks, out);
-  for (auto &[function, found] : functions) set_beyond(found, stacks, out);
+  for (auto &[function, found] : functions) {
+    set_beyond(found, stacks, out);
+    for (size_t i : found.samples) out[i].synchronises = found.synchronises;
+  }
   for (auto [sample, loop] : loops) out[sample].loop = loop;
   return out;
 }

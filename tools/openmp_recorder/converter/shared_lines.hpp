@@ -27,6 +27,7 @@ struct Contended {
   bool is_atomic = false;
   bool is_wait = false;
   const void *loop = nullptr;  // behind the last instruction of that around it, if it goes on by a line or more
+  bool synchronises = false;  // its function has an atomic operation, as those that take a lock
 };
 
 // A line is contended where two threads used it at once and one wrote it: then all its uses are, while others run too.

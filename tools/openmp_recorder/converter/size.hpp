@@ -15,7 +15,7 @@ struct Size {
 
 int64_t own_cost(const Task &t);  // of its code alone
 void add_up(Region &region);  // the totals of its tasks
-Size size_of(Region &region);  // of one that is added up; says which of its tasks are written
+Size size_of(Region &region);  // of one that is added up; finds which of its tasks are written
 
 // Which limit is exceeded; without a name it fits.
 struct Excess {

@@ -23,7 +23,7 @@ uint64_t in_file(const void *code, const ModuleOfRun &module) {
   return reinterpret_cast<uint64_t>(code) - 1 - module.base;
 }
 
-// `file:line`, where neither is unknown: addr2line then says `??` and `:0` or `:?`.
+// `file:line`, where neither is unknown: addr2line then prints `??` and `:0` or `:?`.
 bool is_known(const std::string &answer) {
   size_t colon = answer.rfind(':');
   if (colon == std::string::npos || !answer.compare(0, 2, "??")) return false;
@@ -64,7 +64,7 @@ bool next_line(FILE *answers, std::string &line) {
   return !line.empty();
 }
 
-// Without what is said beside it.
+// Without what stands next to it.
 std::string place_of(const std::string &answer) { return answer.substr(0, answer.find(" (discriminator ")); }
 
 bool is_address(const std::string &line) { return !line.compare(0, 2, "0x"); }

@@ -82,7 +82,7 @@ void follow(Task &task, LocationEnds &table) {
 }  // namespace
 
 LocationEnds::Ends &LocationEnds::at(const Item &item) {
-  if (item.location >= locations.size()) locations.resize(2 * item.location + 1);
+  if (item.location >= locations.size()) locations.resize(2 * item.location + 1, {});
   Ends &ends = locations[item.location];
   if (ends.maker != makers) ends = {makers, 0, 0, 0};
   return ends;

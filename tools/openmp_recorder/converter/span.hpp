@@ -1,7 +1,6 @@
 // The span of a region, added up by the recorder itself; nothing about it is proved.
 #pragma once
-#include <vector>
-
+#include "column.hpp"
 #include "run.hpp"
 
 // When the last task of each type ended that named a location, among those that one task makes. For one task after the
@@ -12,12 +11,12 @@ class LocationEnds {
     uint64_t maker = 0;  // in the order in which they came here
     int64_t in = 0, set = 0, other = 0;
   };
-  explicit LocationEnds(size_t expected = 0) : locations(expected) {}
+  explicit LocationEnds(size_t expected = 0) { locations.resize(expected, {}); }
   void begin_task() { makers++; }
   Ends &at(const Item &item);
 
  private:
-  std::vector<Ends> locations;  // by their numbers
+  Column<Ends> locations;  // by their numbers
   uint64_t makers = 0;
 };
 

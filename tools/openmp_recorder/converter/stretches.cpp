@@ -27,7 +27,7 @@ void Stretches::put_task(const Task &t) {
     if (step.kind == Kind::Create) step = Step::number(step.child()->first_number);
     file.write(&step, sizeof step);
   }
-  if (!t.items.empty()) file.write(t.items.begin(), t.items.size() * sizeof(Item));
+  if (!t.items.empty()) file.write(t.items.data(), t.items.size() * sizeof(Item));
 }
 
 // Of segments that will have a number.

@@ -1,27 +1,10 @@
 #include "task_list.hpp"
 
-#include <map>
 #include <memory>
 
-#include "recycled.hpp"
-
-namespace {
-constexpr uint32_t least_room = 2, most_room = 512;  // each region begins a block, and most have few tasks
-
-// Of blocks with so much room.
-Recycled &memory_for(uint32_t room) {
-  static std::map<uint32_t, Recycled> all;
-  static Recycled *small = nullptr, *large = nullptr;  // that most have
-  Recycled *&known = room == least_room ? small : large;
-  if (room == least_room || room == most_room) {
-    if (!known) known = &all.try_emplace(room, room * sizeof(Task)).first->second;
-    return *known;
-  }
-  return all.try_emplace(room, room * sizeof(Task)).first->second;
+TaskList::Block TaskList::new_block(uint32_t room) {
+  return {static_cast<Task *>(table_memory::get(room * sizeof(Task))), 0, room};
 }
-}  // namespace
-
-TaskList::Block TaskList::new_block(uint32_t room) { return {static_cast<Task *>(memory_for(room).take()), 0, room}; }
 
 Task &TaskList::emplace_back() {
   if (blocks.empty() || apart || blocks.back().count == blocks.back().room) {
@@ -56,7 +39,8 @@ TaskList &TaskList::operator=(TaskList &&other) noexcept {
 void TaskList::clear() {
   for (Block &block : blocks) {
     std::destroy_n(block.first, block.count);
-    memory_for(block.room).give_back(block.first);
+    table_memory::give_back(block.first, block.room * sizeof(Task));
+    if (block.room == most_room) table_memory::stay_within();
   }
   blocks = std::vector<Block>();
   many = 0;

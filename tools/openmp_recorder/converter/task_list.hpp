@@ -7,9 +7,11 @@
 #include <utility>
 #include <vector>
 
+#include "table_memory.hpp"
 #include "task.hpp"
 
 class TaskList {
+  static constexpr uint32_t least_room = 2, most_room = 512;  // each region begins a block, and most have few tasks
   struct Block {
     Task *first;
     uint32_t count, room;
@@ -28,11 +30,11 @@ class TaskList {
     Of &operator*() const { return in->first[at]; }
     Of *operator->() const { return in->first + at; }
     Place &operator++() {
-      if (++at == in->count) in++, at = 0;
+      if (++at == in->count) leave_block(), in++, at = 0;
       return *this;
     }
     Place &operator--() {
-      if (!at) in--, at = in->count;
+      if (!at) in--, at = in->count, leave_block();
       at--;
       return *this;
     }
@@ -42,6 +44,9 @@ class TaskList {
    private:
     const Block *in;
     uint32_t at;
+    void leave_block() const {
+      if (in->room == most_room) table_memory::stay_within();
+    }
   };
 
   TaskList() {}

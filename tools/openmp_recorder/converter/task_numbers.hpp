@@ -5,6 +5,8 @@
 #include <memory>
 #include <vector>
 
+#include "table_memory.hpp"
+
 struct Task;
 
 class TaskNumbers {
@@ -32,6 +34,11 @@ class TaskNumbers {
   struct Page {
     uint32_t known = 0;
     std::array<Task *, in_page> tasks{};
+    static void *operator new(std::size_t bytes) { return table_memory::get(bytes); }
+    static void operator delete(void *page, std::size_t bytes) {
+      table_memory::give_back(page, bytes);
+      table_memory::stay_within();
+    }
   };
   std::vector<std::unique_ptr<Page>> pages;
 };

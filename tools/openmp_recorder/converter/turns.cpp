@@ -1,4 +1,4 @@
-// Turns of a loop that wait for each other (`ordered`): they are tasks beside the parts of their region, with `depend`
+// Turns of a loop that wait for each other (`ordered`): they are tasks next to the parts of their region, with `depend`
 // for what waits for what. A turn is pieces, each up to where it waits or lets others go on.
 #include <omp-tools.h>
 
@@ -104,7 +104,7 @@ bool Reader::turn_done() {
   return true;
 }
 
-// The piece before the one that has just begun: another thread may have been told of what follows it before.
+// The piece before the one that has just begun: what follows it may have been reported to another thread before.
 void Reader::ended_by(const Task &piece, int64_t at) {
   if (!run.whole->has_events) return;
   int64_t &end = run.whole->events[end_before_last()].at;
@@ -154,7 +154,7 @@ void Reader::order_got() {
   own->loop->in_order = own->turns.get();
 }
 
-// It is told after it happened.
+// It is reported after it happened.
 void Reader::order_left() {
   ImplicitTask *own = in_loop();
   if (!own || !own->turns) return;

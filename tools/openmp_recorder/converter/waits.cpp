@@ -22,7 +22,7 @@ std::vector<const void *> open_groups_of(const Task &t) {
 }  // namespace
 
 void Reader::begin_group(Task *t, const void *code) {
-  constexpr uint32_t usual = 7;  // with a group there are more than three
+  constexpr uint32_t usual = 8;  // with a group there are more than three
   t->steps.reserve(usual);
   t->steps.push_back(Step::at(Kind::GroupBegin, code));
   t->open_groups++;
@@ -43,7 +43,7 @@ void Reader::put_empty_segment(Task *t, unsigned segment, int64_t at, uint16_t w
   if (Region &to = home(*t->region); to.has_events) ::put_empty_segment(to.events, *t, segment, {at, worker});
 }
 
-// `ordered depend` tells of the turn that the thread's code is in, and of no task.
+// `ordered depend` names the turn that the thread's code is in, and no task.
 bool Reader::is_between_turns() {
   if (!r->code) return false;
   uint64_t type = log->items[r->other].type;
@@ -83,7 +83,7 @@ void Reader::dependences() {
 }
 
 void Reader::barrier_begin(Task *t) {
-  divided_end();  // which a loop that is cancelled may not tell
+  divided_end();  // which a cancelled loop may not report
   end(t);
   t->is_ended = true;
   if (!t->open_groups) return;

@@ -156,11 +156,11 @@ void Reader::divided_begin() {
   own.loop->count = std::max<uint64_t>(own.loop->count, r->task);
   count_turns(*own.loop, *t->region);
   if (t->region->threads > 1) return;
-  begin_chunk(own, r->task);  // all turns: for one thread no chunk may be told
+  begin_chunk(own, r->task);  // all turns: for one thread no chunk may be reported
   own.all_turns = true;
 }
 
-// Of chunks that began one soon after the other the first is told, and the turns of the others later.
+// Of chunks that began one soon after the other the first is reported, and the turns of the others later.
 void Reader::join_turns(const ImplicitTask &own) {
   if (!r->code || !own.chunk) return;
   own.last->turns += r->code;
@@ -183,7 +183,7 @@ void Reader::chunk_begin() {
 }
 
 // In the text the part makes all chunks that its thread runs. It takes no time, and waits for none of them: so it is
-// told where the first began, from where on the text has them ready.
+// reported where the first began, from where on the text has them ready.
 void Reader::tell_between(Task *t, const ImplicitTask &own) {
   put_empty_segment(t, t->segment, own.since, static_cast<uint16_t>(t->on->worker));
 }
@@ -292,7 +292,7 @@ void Reader::end_outside(Task *t, int64_t end, int64_t wall) {
   t->running = false;
 }
 
-// When the threads that a program makes itself begin with their regions is not told.
+// When the threads that a program makes itself begin with their regions is not reported.
 void Reader::put_hosts_beside() {
   close_tasks(of_hosts);
   Task *root = of_hosts.root = &of_hosts.tasks.emplace_front();

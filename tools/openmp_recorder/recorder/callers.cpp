@@ -4,6 +4,7 @@
 #include <execinfo.h>
 #include <link.h>
 
+#include <atomic>
 #include <cstdint>
 #include <cstring>
 
@@ -21,13 +22,31 @@ int find_segment(dl_phdr_info *module, size_t, void *range) {
   return 0;
 }
 
-// Whether it lies in a function of the runtime that passes on an address inside itself, and not its caller's: the calls
-// of gcc's code, and a taskloop.
-// `dladdr` locks the loader: not in a handler.
-bool is_in_called_function(const void *code) {
+// What passes on an address inside itself, and not its caller's: the calls of gcc's code, and a taskloop.
+enum class Inside : uintptr_t { Neither, CallOfGcc, Taskloop };
+
+bool begins(const char *name, const char *with) { return !strncmp(name, with, strlen(with)); }
+
+// `dladdr` locks the loader: not in a handler. It takes 20 us.
+Inside find_function(const void *code) {
   Dl_info info;
-  if (!dladdr(const_cast<void *>(code), &info) || !info.dli_sname) return false;
-  return !strncmp(info.dli_sname, "GOMP_", 5) || !strncmp(info.dli_sname, "__kmpc_taskloop", 15);
+  if (!dladdr(const_cast<void *>(code), &info) || !info.dli_sname) return Inside::Neither;
+  if (begins(info.dli_sname, "__kmpc_taskloop") || begins(info.dli_sname, "GOMP_taskloop")) return Inside::Taskloop;
+  return begins(info.dli_sname, "GOMP_") ? Inside::CallOfGcc : Inside::Neither;
+}
+
+// The answers for the last places, each an address with its answer in the lowest bits: any thread may write one.
+constexpr unsigned answer_bits = 2, most_answers = 64;
+std::atomic<uintptr_t> answers[most_answers];
+
+Inside function_of(const void *code) {
+  auto address = reinterpret_cast<uintptr_t>(code);
+  std::atomic<uintptr_t> &known = answers[address % most_answers];
+  uintptr_t kept = known.load(std::memory_order_relaxed);
+  if (kept >> answer_bits == address) return static_cast<Inside>(kept & ((1 << answer_bits) - 1));
+  Inside found = find_function(code);
+  known.store(address << answer_bits | static_cast<uintptr_t>(found), std::memory_order_relaxed);
+  return found;
 }
 }  // namespace
 
@@ -50,8 +69,10 @@ const void *nearest_in_program() {
   return nullptr;
 }
 
-// The caller of such a call, from the stack. After a tail call of the program the told place is in no such function,
+bool makes_tasks_of_loop(const void *code) { return runtime_code.has(code) && function_of(code) == Inside::Taskloop; }
+
+// The caller of such a call, from the stack. After a tail call of the program the place is in no such function,
 // and the caller is lost; a taskloop has too many arguments for one.
 const void *caller_in_program(const void *code) {
-  return !recorder_code.has(code) && is_in_called_function(code) ? nearest_in_program() : nullptr;
+  return !recorder_code.has(code) && function_of(code) != Inside::Neither ? nearest_in_program() : nullptr;
 }

@@ -16,6 +16,8 @@ CodeRange code_around(const void *code);  // of its module; an empty one where n
 void find_runtime(const void *function);  // the module of this function is the runtime
 void find_recorder();  // whose functions stand before the runtime's
 inline bool in_runtime(const void *code) { return runtime_code.has(code) || recorder_code.has(code); }  // not for none
+// Whether it is where the runtime makes the tasks of a taskloop: their place is the loop's, which is recorded once.
+bool makes_tasks_of_loop(const void *code);
 // Both walk the stack by `backtrace`, which loads libgcc at its first call: not in a handler. Their callers set
 // `is_slow`, so that the time is no code's.
 const void *caller_in_program(const void *code);  // of a place inside the runtime; null where it cannot be known

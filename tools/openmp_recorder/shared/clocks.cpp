@@ -14,8 +14,8 @@ namespace {
 // Nanoseconds off the processor: to read how long it was put off takes 3,000.
 constexpr int64_t worth_reading = 2000000;
 
-// How long the thread could have run, and others did, so far; -1 where the kernel does not say. The calls are made
-// directly, since functions of these names may be this library's, and end a thread that is cancelled.
+// How long the thread could have run, and others did, so far; -1 where the kernel does not report it. The calls are
+// made directly, since functions of these names may be this library's, and end a thread that is cancelled.
 int64_t put_off_so_far() {
   int before = errno;
   char line[64] = "";

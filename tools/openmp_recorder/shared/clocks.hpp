@@ -1,4 +1,4 @@
-// The clock that costs are read on, what reading it takes, and the other clock beside it.
+// The clock that costs are read on, what reading it takes, and the other clock.
 #pragma once
 #include <time.h>
 

@@ -27,7 +27,7 @@ struct RawRecord {
 constexpr uint32_t bytes_by_wall = sizeof(RawRecord), bytes_by_processor = bytes_by_wall + sizeof(int64_t);
 
 // By the wall clock most records are short, from the lowest bit on: `other`, 32 bits; ticks since the thread's record
-// before, 24; what it tells, 7. Their task is the one that the thread is in, as its records before tell.
+// before, 24; its meaning, 7. Their task is the one that the thread is in by its records before.
 using ShortRecord = uint64_t;
 constexpr ShortRecord short_bit = uint64_t{1} << 63;
 constexpr unsigned other_bits = 32, short_ticks = 24, what_bits = 7;
@@ -36,8 +36,8 @@ constexpr ShortRecord make_short(uint64_t ticks, unsigned what, uint32_t other) 
   return short_bit | uint64_t{what} << (other_bits + short_ticks) | ticks << other_bits | other;
 }
 
-// What a short record tells: below 63 that the thread goes to another task, with this status; at 63 that it lets the
-// lock go that it got last. Else it is like the thread's last long record that has this slot, which those have that
+// The meaning of a short record: below 63 that the thread goes to another task, with this status; at 63 that it lets
+// the lock go that it got last. Else it is like the thread's last long record that has this slot, which those have that
 // make a task, begin or end a wait, or get a lock.
 constexpr unsigned slots = 64, lock_left = slots - 1;
 constexpr unsigned slot_of(uint64_t code, unsigned kind) {
@@ -100,7 +100,7 @@ enum class Stopped : uint32_t { Not, Full, Unwritable, Numbers, End };  // Full:
 
 enum Off : unsigned { slept = 1, taken = 2 };  // bits: how the thread lost its processor while both clocks passed
 
-// Ticks of the counter beside nanoseconds of CLOCK_MONOTONIC.
+// Ticks of the counter and nanoseconds of CLOCK_MONOTONIC at one moment.
 struct Pair {
   uint64_t ticks;
   int64_t wall;

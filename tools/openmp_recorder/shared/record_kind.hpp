@@ -1,4 +1,4 @@
-// What the runtime tells, and what more stands in a log.
+// The kinds of records in a log: what the runtime reports, and what the recorder adds.
 #pragma once
 #include <cstdint>
 
@@ -23,7 +23,7 @@ enum class RecordKind : uint8_t {
   LockLeft,
   Items,  // one or two of the dependences before
   Passed,  // how far both clocks went until then, since the thread read both before
-  StoodStill,  // how long the recorder took beside what a record takes
+  StoodStill,  // how long the recorder took, apart from what a record takes
   Chunk,  // a thread begins with turns of such code, or with a section
   DividedEnd,  // and is done with it
   Sample  // of a thread's calls, between its records
@@ -47,7 +47,7 @@ enum Detail : uint8_t {
   is_runtimes = 1  // a region of threads that the runtime keeps for itself, as LLVM's hidden helpers
 };
 
-// Above the bit of a region, how many threads its program asked for, or so many or more; 0 where that is not told.
+// Above the bit of a region, how many threads its program asked for, or so many or more; 0 where that is not reported.
 constexpr unsigned asked_shift = 1, most_asked = 127;
 
 // Among the kinds of locks, as OMPT has them: `ordered`; and behind these the system's.

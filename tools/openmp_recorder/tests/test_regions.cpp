@@ -83,7 +83,7 @@ TEST(regions_of_a_place_are_added_up) {
   Object line;
   sums.put(line);
   EXPECT(line.end(), "{\"regions\": {\"tasks\": false, "
-                     "\"places\": [[\"steps.c:9\", 3, 160, [[2, 60, 6], [4, 120, 4]]]]}}");
+                     "\"places\": [[\"steps.c:9\", 3, 160, 0, [[2, 60, 6], [4, 120, 4]]]]}}");
   EXPECT(sums.most_threads("steps.c:9"), 4u);
   EXPECT(sums.most_threads("other.c:9"), 0u);
   run.rows[0].is_outermost = false;

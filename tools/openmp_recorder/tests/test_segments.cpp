@@ -20,6 +20,21 @@ struct Written {
     return out;
   }
 };
+
+TEST(clauses_are_counted_by_their_words_and_place) {
+  ClauseTable table;
+  for (uint32_t round = 0; round < 2; round++)
+    for (uint32_t i = 0; i < 1000; i++)
+      for (uint32_t place : {3u, 4u}) {
+        uint32_t number = table.number(" depend(in: a" + std::to_string(i) + ")", place, i + place);
+        EXPECT(number, 2 * i + place - 3);
+        table[number].count++;
+      }
+  EXPECT(table.size(), 2000u);
+  EXPECT(std::string(table.words(table[1999])), " depend(in: a999)");
+  EXPECT(table[1999].kind, 1003u);
+  EXPECT(table[1999].count, 2u);
+}
 }  // namespace
 
 TEST(segments_have_a_kind_a_task_and_a_cost) {

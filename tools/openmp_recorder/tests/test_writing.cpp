@@ -45,7 +45,8 @@ TEST(a_large_text_is_told_piece_by_piece_and_not_indented) {
   EXPECT(words, "omptasks 1\ntask {\nwork 3\ntask {\nwork 4\n}\n}\n");
   EXPECT(region.numbers.empty(), true);
   print_program(region, {1, true, true}, Places(), [](std::string_view) {});
-  EXPECT(region.numbers == std::vector<uint32_t>({0, 4, 1, 3, 2}), true);  // of the root, its child, and the child's
+  std::vector<uint32_t> expected{0, 4, 1, 3, 2};  // of the root, its child, and the child's
+  EXPECT(std::equal(region.numbers.begin(), region.numbers.end(), expected.begin(), expected.end()), true);
 }
 
 TEST(the_work_is_that_of_the_lines) {
@@ -160,7 +161,7 @@ TEST(the_root_ends_behind_all_that_is_told) {
   run.regions.begin()->second->time.end -= 1000;
   Region &region = only_region(run);
   text_of(region);
-  std::vector<SegmentTime> times = event_lines(region).times;
+  Column<SegmentTime> times = event_lines(region).times;
   int64_t last = 0;
   for (const SegmentTime &time : times) last = std::max(last, time.end);
   EXPECT(times.back().begin, last);

@@ -8,10 +8,9 @@ tools/conformance/README.md has all commands and what they mean.
 import sys
 import tempfile
 
-from spanprof.command import leave, open_closed_streams, words_of
+from spanprof.command import Fault, leave, open_closed_streams, words_of
 from spanprof.conformance.commands import COMMANDS, CONSOLE
 from spanprof.conformance.options import parse
-from spanprof.errors import Fault
 
 
 def parsed(words):

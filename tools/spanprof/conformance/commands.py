@@ -9,31 +9,24 @@ from dataclasses import asdict
 from spanprof.command import Console
 from spanprof.conformance.emit.alone import Alone
 from spanprof.conformance.generate.directed import directed_programs, first_comment
+from spanprof.conformance.generate.program import in_variant
 from spanprof.conformance.generate.random_programs import seeds_in_turn
 from spanprof.conformance.generate.text_writer import text_of
-from spanprof.conformance.generate.variants import in_variant
 from spanprof.conformance.judge.discarding import completed, record_of
 from spanprof.conformance.judge.explain import explain
 from spanprof.conformance.judge.segments import Table
 from spanprof.conformance.judge.verdicts import Missing
 from spanprof.conformance.opening import entry_points, found_judge, open_bench, plan_of, program_in, unit_in
-from spanprof.conformance.report import store, tables
-from spanprof.conformance.report.facts import facts_of, tested
-from spanprof.conformance.report.publish import publish
-from spanprof.conformance.report.results import Results
-from spanprof.conformance.report.texts import Report
+from spanprof.conformance.report import tables
+from spanprof.conformance.report.results import Results, as_json, from_json
+from spanprof.conformance.report.texts import Report, facts_of, publish, tested
 from spanprof.conformance.run import self_checking
-from spanprof.conformance.run.built import built_in
-from spanprof.conformance.run.campaign import (cases_of, directed_cases, random_cases, run_cases, telling_first,
-                                               tried)
-from spanprof.conformance.run.journal import Journal
+from spanprof.conformance.run.campaign import (Journal, cases_of, directed_cases, random_cases, rough, run_cases,
+                                               taken, telling_first, tried)
 from spanprof.conformance.run.launch import read_logs
-from spanprof.conformance.run.mutant_campaigns import Campaigns
-from spanprof.conformance.run.progress import rough
+from spanprof.conformance.run.mutant_campaigns import Campaigns, SparingBench, built_in
 from spanprof.conformance.run.mutants import build_mutants, mutants_of, mutated
 from spanprof.conformance.run.reproduce import Limits, reproduce_all
-from spanprof.conformance.run.sparing import SparingBench
-from spanprof.conformance.run.took import taken
 
 CONSOLE = Console("spanprof-conformance")
 THREADS_ALONE = 4   # of a program by itself
@@ -74,7 +67,7 @@ def run_all(options, bench, plan, journal):
     """The results of a test, with those that an earlier process has kept, and whether nobody stopped it."""
     results = Results()
     for line in journal.lines:
-        results.merge(store.from_json(line))
+        results.merge(from_json(line))
     begun, before = time.monotonic(), set(results.outcomes)
     cases, count = cases_of_run(options, bench.toolchain.kinds)
     CONSOLE.say(f"{count - len(before)} cases, {options.jobs} at once, for {rough(options.seconds)} at most")
@@ -85,7 +78,7 @@ def run_all(options, bench, plan, journal):
         for case, tallies in tried(bench, left, plan, options.jobs, seconds, count - len(before)):
             own = Results()
             own.add(case, tallies)
-            journal.add(store.as_json(own))
+            journal.add(as_json(own))
             results.add(case, tallies)
     except KeyboardInterrupt:
         is_whole = False

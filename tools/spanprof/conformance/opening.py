@@ -7,12 +7,11 @@ from spanprof.command import check_files
 from spanprof.conformance.generate.text_reader import read_program
 from spanprof.conformance.judge.cases import Bench, Plan
 from spanprof.conformance.judge.exclusion import found_search
-from spanprof.conformance.judge.expected import Expectations, read_expected
-from spanprof.conformance.judge.verdicts import Judge, Missing, Refused, find_spanprof
+from spanprof.conformance.judge.verdicts import Expectations, Judge, Missing, Refused, find_spanprof, read_expected
 from spanprof.conformance.run import perturb, self_checking
 from spanprof.conformance.run.campaign import DIRECTED_UNIT
+from spanprof.conformance.run.launch import settings_of
 from spanprof.conformance.run.mutants import family_of
-from spanprof.conformance.run.settings import settings_of
 from spanprof.conformance.run.toolchain import Toolchain
 from spanprof.refusal import explained
 

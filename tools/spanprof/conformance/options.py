@@ -4,12 +4,12 @@ import fnmatch
 import os
 import re
 
-from spanprof.conformance.run import self_checking
+from spanprof.command import Version
 from spanprof.conformance.generate.directed import directed_files
-from spanprof.conformance.judge.expected import USUAL
-from spanprof.conformance.run.settings import SETTINGS
-from spanprof.conformance.generate.variants import VARIANTS
-from spanprof.version import Version
+from spanprof.conformance.generate.program import VARIANTS
+from spanprof.conformance.judge.verdicts import USUAL
+from spanprof.conformance.run import self_checking
+from spanprof.conformance.run.launch import SETTINGS
 
 AFTER = """tools/conformance/README.md says what is tried and judged. Exit status 0: all runs were accepted, or all
 mutants caught; 1: not all; 2: nothing could be tried, or wrong arguments; 130: stopped by Ctrl-C."""

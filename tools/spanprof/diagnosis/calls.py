@@ -1,10 +1,17 @@
-"""The functions that code ran, by samples of the calls on its threads' stacks, and their names as people know them."""
+"""The functions that code ran, by samples of the calls on its threads' stacks, and their names as people know them:
+what of it allocated and freed memory, took locks of the system, such as a std::mutex, beyond the waits for them, and
+was in the kernel, for page faults and in system calls; and what of serial code is the program's own, which its
+programmer can divide: an interpreter is not, nor are libraries that it loads without lines.
+"""
 import re
 from collections import Counter, defaultdict
 from functools import lru_cache
 from typing import NamedTuple
 
-from spanprof.errors import reading
+from spanprof.command import reading
+from spanprof.diagnosis.places import ALLOCATION, SERIAL
+from spanprof.head import lasting
+from spanprof.program_text import BEGINNING, CREATING
 
 LEAST = 5           # samples, below which they say nothing
 A_SAMPLE = 4000     # microseconds
@@ -34,6 +41,23 @@ FORTRAN = re.compile(r"__(\w+?)_MOD_(\w+)$")
 FLANG = re.compile(r"^_Q(?:Q|(?:M([a-z0-9_]+))?(?:F[a-z0-9_]*)?P)([a-z0-9_]+).*$")
 ABI = re.compile(r"\[abi:\w+\]")
 MAIN_PROGRAM = "MAIN__"     # gfortran's name of a main program
+FREE = re.compile(r"(\w+_)?c?free$|operator delete")
+# The file of a program, or of a library as samples have it.
+INTERPRETER = re.compile(r"(R|(python|octave-cli|octave-gui|perl|ruby|guile|lua)[-.\d]*|"
+                         r"lib(python|R|oct(ave|interp)|perl|ruby|guile|lua)[-.\d]*\.so.*)$")
+IN_PLACE = "the interpreter ("      # in place of a place of code
+MOST_OF_SERIAL = 0.5      # of the samples of serial code, from which on a program of another name is an interpreter
+OF_SYSTEM_LOCKS = ("mutex", "rwlock")
+LOCKING = re.compile(r"pthread_(mutex|rwlock)_\w+$")
+NO_SYMBOL = "libc.so.6"     # functions of the C library without one, in which the kernel is asked to wake others
+# Functions of the C library that do little but call the kernel.
+CALLING = re.compile(
+    r"(libc_)?(p?(read|write)v?2?|v?open(at)?2?|creat|close|l?seek|[lf]?stat(at|x)?|readlink|unlink|rename|access|"
+    r"fsync|fdatasync|f?truncate|ioctl|fcntl|dup[23]?|pipe2?|send(to|msg|file)?|recv(from|msg)?|select|poll|epoll_\w+|"
+    r"mmap|munmap|mremap|madvise|mprotect|s?brk|getrandom|getdents|sched_yield|getrusage|syscall)(64)?$")
+MAPPING = ("mmap", "munmap", "mremap", "madvise", "brk", "sbrk")
+A_FAULT, A_PAGE = 4000, 4096    # nanoseconds, with the page that it clears, of so many bytes
+MUCH_SYSTEM = 0.25      # of the processor time, from which on time in the kernel is a loss
 
 
 class Ran(NamedTuple):
@@ -160,3 +184,232 @@ def together(found, places):
     for place in places:
         out.update(found.get(place, {}))
     return out
+
+
+def parallel_places(facts):
+    return [place for place in facts.places.values() if place.kind != SERIAL]
+
+
+def parallel_code(facts):
+    return sum(place.cost for place in parallel_places(facts))
+
+
+def of_freeing(sampled):
+    """The functions that do little but free memory: where nothing is allocated nothing calls them."""
+    ran, freed = Counter(), Counter()
+    for calls, time in sampled.items():
+        for function in set(calls).difference(OUTERMOST):
+            ran[function] += time
+            freed[function] += time * bool(FREE.match(in_system(calls)))
+    return {function for function, time in freed.items() if 2 * time > ran[function]}
+
+
+def around_freeing(sampled, functions):
+    """What they took themselves, in microseconds."""
+    return sum(time for calls, time in sampled.items()
+               if not functions.isdisjoint(calls) and not FREE.match(in_system(calls)))
+
+
+def allocating(facts):
+    """By line; what functions that do little but free took is that of the lines of the same code."""
+    functions = of_freeing(together(facts.calls.ran, [place.name for place in parallel_places(facts)]))
+    out = Counter()
+    for place in parallel_places(facts):
+        lines, ran = (found.get(place.name, {}) for found in (facts.calls.allocated, facts.calls.ran))
+        sampled, allocated = sum(ran.values()), sum(lines.values())
+        code = max(0, place.cost - facts.asleep_by.get(place.name, 0))
+        for line, time in lines.items() if sampled and allocated else ():
+            share = time * (allocated + around_freeing(ran, functions)) / (allocated * sampled)
+            out[ALLOCATION + line.partition(" ")[0]] += int(code * share)
+    return out
+
+
+def most_allocating(facts):
+    """The line that takes most; empty where none is known."""
+    found = allocating(facts)
+    return max(filter(ALLOCATION.__ne__, found), key=found.get, default="")
+
+
+def is_called(name):
+    """Whether it is a function of neither an interpreter nor the system."""
+    return OF_SYSTEM not in name and name not in OUTERMOST
+
+
+def file_that_ran(calls):
+    """Of an interpreter, where it called nothing but the system; empty for other code."""
+    files = (name.partition(OF_SYSTEM)[2] for name in calls if not any(map(is_called, calls)))
+    return next(filter(INTERPRETER.match, files), "")
+
+
+def is_loading(calls):
+    """Whether they are of the program's start, or an interpreter's own code, which sleeps where it first reads a
+    file."""
+    return is_start(calls) or bool(INTERPRETER.match(calls[-1].partition(OF_SYSTEM)[2]))
+
+
+def serial_places(facts):
+    return [place for place in facts.places.values() if place.kind == SERIAL]
+
+
+def interpreter_of(facts):
+    """The file of the interpreter that runs the program; empty where none does."""
+    if INTERPRETER.match(facts.program):
+        return facts.program
+    found = shares(together(facts.calls.ran, [place.name for place in serial_places(facts)]), file_that_ran)
+    return next((file for file, share in found.items() if file and share >= MOST_OF_SERIAL), "")
+
+
+def is_interpreted(facts, place):
+    return bool(facts.interpreter and place) and place.kind == SERIAL
+
+
+def called_code(facts, place):
+    """The samples of a place, of serial code in an interpreter those of the libraries that it called."""
+    ran = facts.calls.ran.get(place.name, {})
+    if not is_interpreted(facts, place):
+        return ran
+    return {calls: time for calls, time in ran.items() if any(map(is_called, calls))}
+
+
+def share_of_samples(facts, place, some):
+    """Of serial code in an interpreter. What too few samples have seen is of its start, or between two calls."""
+    whole = sum(facts.calls.ran.get(place.name, {}).values())
+    return min(1.0, sum(some.values()) / whole) if whole >= LEAST * A_SAMPLE else 0.0
+
+
+def interpreted_share(facts, name):
+    """Of the code at a place."""
+    place = facts.places.get(name)
+    return 1 - share_of_samples(facts, place, called_code(facts, place)) if is_interpreted(facts, place) else 0.0
+
+
+def own_share(facts, name):
+    """Of the code at a place: in an interpreter what is in libraries with lines, as their programmers have them."""
+    place = facts.places.get(name)
+    return share_of_samples(facts, place, facts.calls.at.get(name, {})) if is_interpreted(facts, place) else 1.0
+
+
+def interpreted_time(facts):
+    """Nanoseconds of serial code."""
+    return int(sum(place.cost * interpreted_share(facts, place.name) for place in serial_places(facts)))
+
+
+def is_interpreter(name):
+    return name.startswith(IN_PLACE)
+
+
+def of_interpreter(facts, found):
+    """Losses, those to serial code while an interpreter ran by its name."""
+    out = []
+    for loss in found:
+        part = int(loss.time * interpreted_share(facts, loss.place)) if loss.kind == "serial" else 0
+        out += [loss._replace(time=loss.time - part)]
+        out += [loss._replace(place="%s%s)" % (IN_PLACE, facts.interpreter), time=part)] * bool(part)
+    return out
+
+
+def words_of_interpreter(facts):
+    """How much of all serial code it is."""
+    whole = sum(place.cost for place in serial_places(facts))
+    return "%.0f %% of %s of serial code" % (100 * interpreted_time(facts) / max(whole, 1), lasting(whole))
+
+
+def lock_of_switches(facts):
+    """The lock of the system that threads wait for longest, where most switches of threads can be waits for such locks;
+    None where there is none."""
+    held = [lock for lock in facts.locks if lock.kind in OF_SYSTEM_LOCKS]
+    switches = (facts.usage or {}).get("voluntary_switches") or 0
+    waits = 2 * sum(lock.times for lock in held)
+    return max(held, key=lambda lock: lock.waited, default=None) if waits >= switches else None
+
+
+def unnamed_share(facts):
+    """Of samples in functions of the C library without a symbol those that time in the kernel explains."""
+    unnamed = sum(time for ran in facts.calls.ran.values() for calls, time in ran.items()
+                  if in_system(calls) == NO_SYMBOL)
+    return min(1, ((facts.usage or {}).get("system_ns") or 0) / (1000 * unnamed)) if unnamed else 0
+
+
+def system_locking(facts):
+    """By place of code, what it spends on locks of the system."""
+    out, unnamed = {}, unnamed_share(facts)
+    for name, ran in facts.calls.ran.items():
+        called = shares(ran, in_system)
+        share = sum(part for function, part in called.items() if LOCKING.match(function))
+        share += unnamed * called.get(NO_SYMBOL, 0) * bool(share)
+        if name in facts.places:
+            out[name] = int(share * max(0, facts.places[name].cost - facts.asleep_by.get(name, 0)))
+    return out
+
+
+def begun(facts):
+    """What the code before all constructs took."""
+    return facts.places[BEGINNING].cost if BEGINNING in facts.places else 0
+
+
+def system_time(facts):
+    """Of code in the kernel, other than that before all constructs, or than the first use of memory. Idle threads are
+    in the kernel too, where they yield the processor: code is there for its page faults, and for what it lasted longer
+    than all time outside, unless that is for locks of the system; or by samples in calls, with what they take on the
+    way."""
+    usage = facts.usage or {}
+    system, user = usage.get("system_ns") or 0, usage.get("user_ns") or 0
+    if not system or system < MUCH_SYSTEM * (system + user):
+        return min(system, A_FAULT * faults_again(usage))
+    for_faults = min(fault_time(facts), facts.code * system // (system + user))
+    first = for_faults * first_use_share(usage)
+    longer = 0 if lock_of_switches(facts) else facts.code - user
+    by_usage = min(system, max(for_faults, longer)) - max(begun(facts), int(first))
+    return max(0, by_usage, calling(facts))
+
+
+def calling(facts):
+    """Of parallel code in calls of the kernel, by samples."""
+    out = 0
+    for place in parallel_places(facts):
+        code = max(0, place.cost - facts.asleep_by.get(place.name, 0))
+        called = shares(facts.calls.ran.get(place.name, {}), in_system)
+        out += int(code * sum(share for name, share in called.items() if CALLING.match(name)))
+    return out
+
+
+def fault_time(facts):
+    return A_FAULT * ((facts.usage or {}).get("minor_faults") or 0)
+
+
+def faults_again(usage):
+    """Page faults beyond one for each page that the program had at once: of memory that it gave back and took again."""
+    return max(0, (usage.get("minor_faults") or 0) - usage["peak_bytes"] // A_PAGE) if usage.get("peak_bytes") else 0
+
+
+def first_use_share(usage):
+    """Of the page faults: no memory is without them that is used at all."""
+    return 1 - faults_again(usage) / usage["minor_faults"] if usage.get("peak_bytes") and usage.get("minor_faults") \
+        else 0.0
+
+
+def has_many_faults(facts):
+    """Whether page faults are most of what is lost to the system."""
+    return 2 * fault_time(facts) >= system_time(facts)
+
+
+def maps_memory(facts):
+    """Whether the functions of the system in which most samples were map memory, or give it back."""
+    found = Counter()
+    for ran in facts.calls.ran.values():
+        for calls, time in ran.items():
+            found[in_system(calls) in MAPPING] += time * bool(in_system(calls))
+    return found[True] > found[False]
+
+
+def copying_at(facts):
+    """The line of tasks at whose creation as much as most of the system's time is spent, and not in the runtime: it
+    copies what they have of their own. Empty where there is none."""
+    found = Counter()
+    for name, lines in facts.calls.at.items():
+        place = facts.places.get(name)
+        if place and name.startswith("after " + CREATING):
+            in_runtime = sum(time for calls, time in facts.calls.ran.get(name, {}).items() if calls[-1] == RUNTIME)
+            found[place.at] += max(0, lines.get(place.at, 0) - in_runtime)
+    line = max(found, key=found.get, default="")
+    return line if 2 * 1000 * found[line] > system_time(facts) else ""

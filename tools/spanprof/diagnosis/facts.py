@@ -1,4 +1,10 @@
-"""What is known of one recorded run, as plain data: everything else of a diagnosis is made of it."""
+"""What is known of one recorded run, as plain data: everything else of a diagnosis is made of it.
+
+Its locks are those that were recorded, and those inside functions of the C library, which samples show. What threads
+starved is of the run's own doing, or because other programs took processors: costs are without the time in which a
+thread was preempted, so a schedule of the text tells how the run would have gone without them.
+"""
+import json
 import re
 import statistics
 from bisect import bisect_right
@@ -8,30 +14,120 @@ from itertools import accumulate, compress
 from typing import Dict, List, Optional
 
 from spanprof import client
-from spanprof.breakdown_program import NoBreakdown
-from spanprof.diagnosis.barriers import needless_barriers
-from spanprof.diagnosis.calls import AT_START, RUNTIME, Sampled, calls_of, is_of_ranks, is_start, plain
-from spanprof.diagnosis.library_locks import set_library_locks
-from spanprof.diagnosis.lock_times import locks_of
-from spanprof.diagnosis.losses import divided
-from spanprof.diagnosis.own_code import interpreter_of, is_loading
-from spanprof.diagnosis.places import A_START, AROUND_REGIONS, TASK, in_text, read_places
-from spanprof.diagnosis.undisturbed import is_disturbed, set_disturbed, starved_alone
-from spanprof.errors import reading
-from spanprof.head import head_of
-from spanprof.program_text import BEGINNING
-from spanprof.recording import document
-from spanprof.regions import UNKNOWN, program_of, union
+from spanprof.answers import numbers_of
+from spanprof.command import reading
+from spanprof.diagnosis.calls import (AT_START, ONE_AT_A_TIME, RUNTIME, Sampled, calls_of, in_system, interpreter_of,
+                                      is_loading, is_of_ranks, is_start, plain, shares)
+from spanprof.diagnosis.losses import divided, is_crowded
+from spanprof.diagnosis.places import A_START, AROUND_REGIONS, TASK, in_text, needless_barriers, read_places
+from spanprof.head import head_of, number, words
+from spanprof.program_text import BEGINNING, TextFile, read_once
+from spanprof.recording import UNKNOWN, document, head_in, program_of, times_in, union
 from spanprof.segment_table import code_in
-from spanprof.text_file import TextFile, read_once
-from spanprof.time_breakdown import breakdown_by_kind, breakdown_of
-from spanprof.times_file import head_in, times_in
-from spanprof.whatif.numbers import numbers_of
+from spanprof.time_breakdown import NoBreakdown, Rows, breakdown_by_kind, breakdown_of, idle_by_place
 
+LEAST_INSIDE = 0.05    # of a place's samples, in a function that has a lock
+LITTLE = 0.02       # of the time in code: threads preempted for less keep others waiting for little
+MOST_SEGMENTS = 300000       # segments of a text whose schedule is asked for: some seconds
 RUNTIMES = {"llvm": "LLVM", "gnu": "gcc"}
 EXCLUDING = "mutexinoutset"     # the remark of a text that has inoutset in its place
 OWN_CLOCK = "own"               # by which costs are without the time in which a thread was preempted
+# Nanoseconds: gcc's runtime keeps no threads for regions inside others, and makes them for each: 63 to 100 us in all.
+A_TEAM = 80000
 OF_GCC = "lines of gcc"         # that of a text whose tasks or waits are of gcc's code
+
+
+@dataclass
+class Held:
+    """Times are in nanoseconds."""
+    place: str
+    kind: str
+    times: int
+    inside: int
+    waited: int
+    function: str = ""      # of the C library, that has it; then the place is that of the code which called it
+
+
+def locks_of_lines(lines):
+    """Of lines of JSON."""
+    for line in lines:
+        one = json.loads(line)
+        yield Held(words(one.get("place", "")), words(one.get("kind", "")), *(number(one[name]) for name in (
+            "times", "inside_ns", "waited_ns")))
+
+
+def locks_of_head(head):
+    """Of the text's own lines, in its unit."""
+    for lock in head.locks:
+        name, times, inside, waiting, _ = lock.reported
+        kind, _, place = name.partition(" at ")
+        yield Held(place, kind, times, inside * (head.nanoseconds or 1), waiting * (head.nanoseconds or 1))
+
+
+def locks_of(path, head):
+    """Of a file, or else of the text's head; the longest waited for first."""
+    found = []
+    if path:
+        with reading(path), open(path, encoding="utf-8") as lines:
+            found = list(locks_of_lines(lines))
+    return sorted(found or locks_of_head(head), key=lambda lock: -lock.waited)
+
+
+def by_choice(usage):
+    """Of all switches from a thread to another those with which it began to wait; the others took its processor."""
+    waits, others = ((usage or {}).get(name) or 0 for name in ("voluntary_switches", "involuntary_switches"))
+    return waits / (waits + others) if waits else 0.0
+
+
+def taken_from(facts, name, share):
+    """Of code, and of its time off the processor, what such a function took of a place; it is waiting at a lock."""
+    asleep, preempted = facts.asleep_by.get(name, 0), by_choice(facts.usage) * facts.preempted_by.get(name, 0)
+    code = max(0, facts.places[name].cost - asleep)
+    parts = {part: int(share * time) for part, time in (("code", code), ("asleep", asleep), ("preempted", preempted))}
+    for part, time in parts.items():
+        setattr(facts, part, getattr(facts, part) - time)
+        if part != "code" and time:
+            getattr(facts, part + "_by")[name] -= time
+    return sum(parts.values())
+
+
+def set_library_locks(facts):
+    """Where several threads are in such a function at once, which costs them most of what it takes."""
+    for name, ran in facts.calls.ran.items():
+        place = facts.places.get(name)
+        for function, share in shares(ran, in_system).items() if place and place.has_several else ():
+            if function in ONE_AT_A_TIME and share >= LEAST_INSIDE:
+                waited = taken_from(facts, name, share)
+                facts.at_locks += waited
+                facts.in_library += waited
+                facts.locks.append(Held(name, "lock", 0, 0, waited, function))
+    facts.locks.sort(key=lambda lock: -lock.waited)
+
+
+def is_disturbed(facts):
+    pieces = sum(place.pieces for place in facts.places.values())
+    return facts.preempted > LITTLE * (facts.code + facts.preempted) and pieces <= MOST_SEGMENTS
+
+
+def starved_alone(path, places, threads):
+    """By place, how long threads starve in the greedy run of a text; nothing where that takes too much memory."""
+    words = ["greedy", "--threads", str(threads)]
+    try:
+        begin, end = client.columns(words, TextFile(path), ["start", "end"])
+        rows = Rows(begin, begin, begin, end).on_few_threads
+        return idle_by_place(path, rows, places, threads, max(end))[1]
+    except client.Refused:
+        return {}
+
+
+def set_disturbed(facts, alone):
+    """What they starved more is due to other programs, as far as these had processors: while one thread was preempted,
+    all others may have waited."""
+    off = min(max(0, facts.starved - sum(alone.values())), (facts.threads - 1) * facts.preempted)
+    heaviest = max(facts.places, key=lambda name: facts.places[name].cost)
+    facts.starved_by = divided(facts.starved - off, alone)
+    facts.starved_by[heaviest] = facts.starved_by.get(heaviest, 0) + facts.starved - sum(facts.starved_by.values())
+    facts.starved_off = {heaviest: off}
 
 
 @dataclass
@@ -45,6 +141,7 @@ class Region:
     together: int = 1       # at most so many at a time
     teams: Dict[int, int] = field(default_factory=dict)     # what elapsed with so many threads
     added: int = 0          # the time of threads that regions inside it had besides
+    code: int = 0           # of all threads
 
     @property
     def sizes(self):
@@ -95,6 +192,7 @@ class Facts:
     is_of_gcc: bool = False             # some constructs have the line of a statement before them
     barriers: dict = field(default_factory=dict)    # by place: that of a needless barrier, and its share of the waits
     interpreter: str = ""               # the file of that which runs the program
+    scheduled: Optional[int] = None     # the end of the text's greedy run on `usable` threads, where more shared these
     is_imported: bool = False           # of another tool's tasks
     needless: set = field(default_factory=set)      # waits that may be, by the source
     rewriting: dict = field(default_factory=dict)   # by place: what its tasks write again and again that others read
@@ -395,15 +493,16 @@ def regions_inside(program, is_meant):
     return within.values()
 
 
-def denied_time(program, usable):
+def denied_time(program, usable, a_team=0):
     """By place of regions inside others that asked for several threads and got one: the time of threads that no order
-    of these wins back, since the longest one lasts longer than all of them would divided, or the team is small."""
+    of these wins back, since the longest one lasts longer than all of them would divided, or the team is small. With
+    more threads each region takes `a_team` longer to start."""
     found = Counter()
     for around, *inner in regions_inside(program, lambda region: region.threads == 1 < region.asked):
         longest = max(inner, key=lambda region: region.elapsed)
         missing = (usable - around.threads) * union((region.begin, region.end) for region in inner)
         uneven = usable * longest.elapsed - sum(region.elapsed for region in inner)
-        found[longest.place] += max(0, missing, uneven)
+        found[longest.place] += max(0, max(missing, uneven) - len(inner) * a_team * usable // around.threads)
     return dict(+found)
 
 
@@ -421,7 +520,8 @@ def regions_at(place, added):
     for region in outer:
         teams[region.threads] += region.elapsed
     asked = max(region.asked for region in outer if region.threads == min(teams))
-    return Region(place.name, max(teams), place.outermost, asked or None, len(outer), teams=dict(teams), added=added)
+    return Region(place.name, max(teams), place.outermost, asked or None, len(outer), teams=dict(teams), added=added,
+                  code=sum(region.code for region in outer))
 
 
 def regions_of(program):
@@ -433,7 +533,8 @@ def regions_of(program):
 def regions_in_sums(places):
     """The same of sums by place, where no region is inside another one."""
     return [Region(place or UNKNOWN, max(threads for threads, *_ in teams), elapsed, min(teams)[2] or None, times,
-                   teams={threads: time for threads, time, _ in teams}) for place, times, elapsed, teams in places]
+                   teams={threads: time for threads, time, _ in teams}, code=code)
+            for place, times, elapsed, code, teams in places]
 
 
 def set_regions(facts, path, code):
@@ -442,7 +543,7 @@ def set_regions(facts, path, code):
         return
     regions = program_of(path)
     facts.regions, facts.inner = regions_of(regions), inner_regions(regions)
-    facts.denied = denied_time(regions, facts.usable)
+    facts.denied = denied_time(regions, facts.usable, A_TEAM if facts.is_on_gcc else 0)
     facts.tasks_in_regions = not regions or any(region.tasks for region in regions.regions)
 
 
@@ -488,4 +589,6 @@ def facts_of(recording, end_of=greedy_end):
         set_by_greedy(facts, head, end_of(path, facts.threads))
     set_waiting(facts)
     set_library_locks(facts)
+    if is_crowded(facts):
+        facts.scheduled = end_of(path, facts.usable) * (head.nanoseconds or 1)
     return facts

@@ -4,13 +4,11 @@ Threads x elapsed time = code as on one thread + the losses.
 """
 from typing import NamedTuple
 
-from spanprof.diagnosis.allocation import allocating, most_allocating
-from spanprof.diagnosis.calls import A_SAMPLE, AT_START, RUNTIME, in_system, shares
+from spanprof.diagnosis.calls import (A_FAULT, A_SAMPLE, AT_START, RUNTIME, allocating, begun, faults_again, in_system,
+                                      lock_of_switches, most_allocating, of_interpreter, serial_places, shares,
+                                      system_locking, system_time)
 from spanprof.diagnosis.causes import BUSY, BY_KIND, SECOND
-from spanprof.diagnosis.kernel import A_FAULT, begun, faults_again, system_time
-from spanprof.diagnosis.own_code import of_interpreter, serial_places
 from spanprof.diagnosis.places import A_START, AROUND_REGIONS, OF_THREADS, OWN, SERIAL, SHARE
-from spanprof.diagnosis.system_locks import lock_of_switches, system_locking
 from spanprof.program_text import BEGINNING, TURNS, where
 
 SMALL = 5000            # nanoseconds of code in a task, below which creating and starting it costs much beside it
@@ -27,10 +25,12 @@ STARTED = 5000000       # nanoseconds that a program and its runtime take to sta
 SIBLINGS = 2            # times as much that code costs at most where two threads share a core
 BEYOND_CACHES = 1 << 27     # bytes
 OF_ITS_LINE = 7 / 8     # of the uses of numbers of 8 bytes one after the other, those whose line was used before
+SAME = 0.1              # of a cost, by which runs of the same code differ
 UNSHARED = 0.02         # of the samples of code, below which it uses no line that other threads use
 NO_CAUSE = ("recorder", "startup")
+CROWDED = ("too_many_threads", "affinity")      # threads share processors
 FINE = ("small_tasks", "creation")      # of all tasks together
-OF_WAITS = ("small_tasks", "small_regions", "exclusion", "system", "sleep", "spin", "too_many_threads", "affinity")
+OF_WAITS = ("small_tasks", "small_regions", "exclusion", "system", "sleep", "spin", *CROWDED)
 OF_SHAPE = ("too_few_tasks", "imbalance", "dependence", "wait")
 
 
@@ -115,11 +115,20 @@ def is_maker(place):
     return place.is_creating and place.kind in (SERIAL, OF_THREADS) and not place.tasks
 
 
+def makers(facts):
+    """The places of code that makes tasks one after the other, and begins none."""
+    return [place for place in facts.places.values() if place.is_creating and not place.tasks]
+
+
+def creating(facts):
+    """What code between two creations took, where it is so short that it is mostly the runtime's."""
+    return sum(place.cost for place in makers(facts) if place.cost < A_CREATION * place.pieces)
+
+
 def made_by_one(facts):
-    """The places of such code, where one thread makes nearly all tasks; else none."""
-    making = [place for place in facts.places.values() if place.is_creating and not place.tasks]
-    own = list(filter(is_maker, making))
-    made, all_made = (sum(place.pieces for place in some) for some in (own, making))
+    """The places of such code of threads, where one thread makes nearly all tasks; else none."""
+    own = list(filter(is_maker, makers(facts)))
+    made, all_made = (sum(place.pieces for place in some) for some in (own, makers(facts)))
     return own if made > MANY * facts.threads and 10 * made > 9 * all_made else []
 
 
@@ -296,12 +305,21 @@ def idle_losses(facts):
     add_idle(kinds, divided(starved, facts.starved_by or at_serial(facts)), kind_of_starved, facts, starved_off_share,
              for_sleep=True)
     delayed = divided(facts.delayed - short_delayed, facts.delayed_by or {"": 1})
-    starting = {name: int(time * starting_share(facts, name)) for name, time in delayed.items()}
+    starting = starting_times(facts, delayed)
     add_idle(kinds, starting, lambda *_: "small_regions", facts, delayed_off_share)
     add_idle(kinds, {name: time - starting[name] for name, time in delayed.items()}, kind_of_delayed, facts,
              delayed_off_share)
     return start_of(facts, [Loss(*key, time) for key, time in kinds.items()]) + \
         by_place("too_few_threads", short, missing)
+
+
+def starting_times(facts, delayed):
+    """Of the delays by place, those while regions start and end: what a runtime takes, and what other programs did not
+    run for meanwhile."""
+    found = {name: int(time * starting_share(facts, name)) for name, time in delayed.items()}
+    longer = sum(delayed[name] - time for name, time in found.items() if time)
+    unseen = 1 - facts.others / longer if facts.others is not None and longer > facts.others else 0
+    return {name: time + int(unseen * (delayed[name] - time)) * bool(time) for name, time in found.items()}
 
 
 def starting_share(facts, name):
@@ -419,9 +437,29 @@ def is_bandwidth(facts, name):
     """Whether code costs so much more than on one thread since all use the memory at once: more than two threads of one
     core slow each other, with more memory than caches hold, and in lines that no two threads use."""
     place, alone = facts.places.get(name), (facts.cost_on_one or {}).get(name)
+    return bool(place and alone) and is_large(facts) and place.cost > SIBLINGS * alone and is_unshared(facts, name)
+
+
+def is_large(facts):
+    """Whether it had more memory than caches hold."""
+    return ((facts.usage or {}).get("peak_bytes") or 0) >= BEYOND_CACHES
+
+
+def is_unshared(facts, name):
+    """Whether code was sampled, and hardly ever in lines that other threads use."""
     shared, ran = (sum(found.get(name, {}).values()) for found in (facts.calls.shares, facts.calls.ran))
-    is_large = ((facts.usage or {}).get("peak_bytes") or 0) >= BEYOND_CACHES
-    return bool(place and alone and ran) and is_large and place.cost > SIBLINGS * alone and shared < UNSHARED * ran
+    return bool(ran) and shared < UNSHARED * ran
+
+
+def is_repeated(facts, name):
+    """Whether it is as if each thread of a region ran all of their own code: all take the same time, together as many
+    times what it costs on one thread. Code that shares lines, or may lack bandwidth, is none of it."""
+    place, alone = facts.places.get(name), (facts.cost_on_one or {}).get(name)
+    region = next((one for one in facts.regions if name == "%s at %s" % (OWN, one.place)), None)
+    if not (place and alone and region) or region.threads < 2 or is_large(facts) or not is_unshared(facts, name):
+        return False
+    is_even = place.uneven < SAME * place.cost
+    return is_even and abs(place.cost - region.threads * alone) < SAME * place.cost
 
 
 def lock_name(lock):
@@ -442,7 +480,7 @@ def calls_of_runtime(facts, name):
 
 def handling(facts):
     """By kind and place, what the runtime took of code, by samples: chunks of loops, locks, small tasks. Without them,
-    as of texts of many chunks, taking short ones is up to half of it."""
+    as of texts of many chunks, taking short ones is up to half of it, and making small tasks all between two."""
     out = {}
     if not facts.calls.ran:
         out = {("small_chunks", "%s at %s" % (TURNS, at)): min(A_TAKING * times, facts.code // 2)
@@ -454,6 +492,9 @@ def handling(facts):
             time = int(share * max(0, facts.places[name].cost - facts.asleep_by.get(name, 0)))
             if times * A_TASK > time:
                 out[tuple(loss)] = out.get(tuple(loss), 0) + time
+    fine, time = (fine_kind(facts), finest_name(facts)), creating(facts)
+    if time:
+        out[fine] = max(out.get(fine, 0), time)
     lock, time = lock_of_switches(facts), sum(system_locking(facts).values())
     if lock and lock.times * A_TASK > time:     # else locks that no thread waits for take it
         out["lock", lock_name(lock)] = time
@@ -498,7 +539,7 @@ def losses(facts):
     found = idle_losses(facts) + off_losses(facts) + in_code_losses(facts) + \
         [Loss("recorder", "", facts.recorder), Loss("startup", "", facts.outside)]
     missing = missing_threads(facts)
-    one_place = {**dict.fromkeys(("too_many_threads", "affinity"), crowded_region(facts)),
+    one_place = {**dict.fromkeys(CROWDED, crowded_region(facts)),
                  **dict.fromkeys(FINE, finest_name(facts)),
                  "too_few_threads": max(missing, key=missing.get, default=""), "system": heaviest_name(facts),
                  "small_regions": most_often(facts, found)}
@@ -527,6 +568,11 @@ def of_denied(facts, found):
         out += [loss._replace(time=loss.time - part)]
         out += [Loss("too_few_threads", max(facts.denied, key=facts.denied.get), part)]
     return out or found
+
+
+def is_crowded(facts):
+    """Whether threads lost much while others had their processors."""
+    return any(loss.kind in CROWDED and facts.share(loss.time) >= BY_KIND[loss.kind].least for loss in losses(facts))
 
 
 def useful_time(facts, found):

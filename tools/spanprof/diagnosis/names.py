@@ -1,23 +1,30 @@
-"""How places, waits and depend items are named to people: functions, lines, and items as the source spells them."""
+"""How places, waits and depend items are named to people: functions, lines, and items as the source spells them; in
+which calls code slept, and at which lines; and a change as a diff of the directive that it changes.
+"""
 import re
+from collections import Counter
 from itertools import accumulate
 from typing import NamedTuple
 
-from spanprof.diagnosis.calls import A_SAMPLE, LEAST, NO_NAME, OF_SYSTEM, OFFSET, innermost, plain
-from spanprof.diagnosis.directives import (DIRECTIVE, construct_of, directive_above, directive_line, is_needless,
-                                           meets_at_end, own_item)
-from spanprof.diagnosis.own_code import called_code
+from spanprof.diagnosis.calls import (A_SAMPLE, LEAST, NO_NAME, OF_SYSTEM, OFFSET, called_code, caller_of, innermost,
+                                      is_of_program, plain)
+from spanprof.diagnosis.losses import is_repeated
 from spanprof.diagnosis.places import ALLOCATION, OF_THREADS, OWN, SERIAL, lines_between
 from spanprof.program_text import BEGINNING, where
-from spanprof.source_lines import LONGEST, STRING, after_directive, code_lines, line_of, statement_end
+from spanprof.source_lines import (COMMENT, DIRECTIVE, LONGEST, STRING, after_directive, code_lines, code_of,
+                                   construct_of, directive_above, directive_line, is_needless, line_of, meets_at_end,
+                                   own_item, statement_below, statement_end)
 
+LONG_ITEM = 20
 FUNCTION = re.compile(r"^[A-Za-z_][\w\s:*&<>,~]*\b%s\s*\(")
-COMMENT = re.compile(r"\s*//.*")
 CALL = re.compile(r"^(?:[\w.\[\]>-]+\s*[-+*/]?=\s*)?([A-Za-z_]\w*)\s*\(")
 DEPEND = re.compile(r"depend\s*\(\s*(\w+)\s*:\s*((?:[^()]|\([^()]*\))*)\)")
 LINE = re.compile(r"[^\s:/]+:\d+$")
 LONGEST_CALLED = 50     # columns of a function and its caller
 ATOMIC = re.compile(r"omp\s+atomic|\bstd::atomic\b|\bfetch_(add|sub|or|and|xor)\b|__atomic_|__sync_", re.I)
+DIVIDED = re.compile(r"\b(for|do|sections|loop|taskloop|workshare)\b", re.IGNORECASE)
+BY_NUMBER = re.compile(r"omp_get_(thread_num|num_threads)|#\s*pragma\s+omp\s+(single|ma(ster|sked)|critical|task|"
+                       r"ordered)|\batomic|\bfetch_", re.IGNORECASE)
 ORDERED = re.compile(r"\bordered\b")
 OF_TURNS = re.compile(r"\s*#\s*pragma\s+omp\s+ordered\b")
 MUCH_CODE = 0.2         # of all code, from which on a place is looked at
@@ -27,6 +34,13 @@ NO_CALLS = ("if", "for", "while", "switch", "return", "sizeof")
 KINDS = ("in", "out", "inout", "inoutset", "mutexinoutset", "depobj")
 WRITES = {"out": "inout"}       # as the recorder writes it
 UNNAMED = "one item"
+MOST_SLEEP = 0.8      # of a place's sleep, from which on one call is reported as all of it
+LEAST_SLEEP = 0.1     # from which on a call is reported beside another
+MOST_LINES = 2
+MOST_EACH = 5   # threads for each processor: more take longer to start, and memory
+OF_LIBRARY = re.compile("^(__)?libc_")      # before the name of a function, where the C library has it twice
+FOR_PROGRAM = "for a program that it started"
+FOR_PROGRAMS = ("system", "wait", "waitpid", "wait4", "waitid", "pclose")
 
 
 def code_at(name):
@@ -84,14 +98,19 @@ class Suspect(NamedTuple):
     def __str__(self):
         if self.is_atomic:
             return "the atomic at " + self.at
-        return "%s next to others' (%s)" % self[:2] if self.item else "what %s writes" % self.at
+        return "%s next to others' (%s)" % (self.short, self.at) if self.item else "what %s writes" % self.at
+
+    @property
+    def short(self):
+        """The item, where it is long without its index."""
+        return self.item if len(self.item) <= LONG_ITEM else re.sub(r"\[.*\]", "[..]", self.item)
 
     @property
     def instead(self):
         """What to write in its place."""
         if self.is_atomic:
             return "a reduction in place of the atomic at " + self.at
-        what = "%s (%s)" % self[:2] if self.item else str(self)
+        what = "%s (%s)" % (self.short, self.at) if self.item else str(self)
         return "keep %s in a local variable" % what
 
 
@@ -123,8 +142,8 @@ class Names:
             return self.ordered(line)
         if not line or not self.facts.is_of_gcc or lock and lock.kind != "critical" or name.startswith(ALLOCATION):
             return line
-        construct = lock.kind if lock else construct_of(name)
-        return line._replace(number=directive_line(self.lines_of(line.file), line.number, construct))
+        construct, is_inside = lock.kind if lock else construct_of(name), self.facts.is_on_gcc
+        return line._replace(number=directive_line(self.lines_of(line.file), line.number, construct, is_inside))
 
     def ordered_loops(self):
         """The lines and the directives of loops with such turns."""
@@ -171,12 +190,24 @@ class Names:
         return " ".join(COMMENT.sub("", one).strip().rstrip("\\") for one in lines[number - 1:end - 1])
 
     def loops_inside(self, name):
-        """The loops and sections of a region at whose ends its threads meet."""
+        """The loops and sections of a region at whose ends its threads meet; of directives above one statement, as in
+        `#if` and `#else`, the last one."""
         region = self.begin(name, name)
         lines = self.lines_of(region.file) if region else []
         begin = after_directive(lines, region.number) if lines else 0
         inside = range(begin, statement_end(lines, begin) + 1) if lines else ()
-        return [region._replace(number=here) for here in inside if meets_at_end(lines, here)]
+        of_statements = {statement_below(lines, here): here for here in inside if meets_at_end(lines, here)}
+        return [region._replace(number=here) for here in of_statements.values()]
+
+    def is_repeated(self, name):
+        """The same of a region whose source is known, and neither asks for its threads' numbers nor has constructs by
+        which one of them does more than the others."""
+        region = self.begin(name, name) if is_repeated(self.facts, name) else None
+        lines = self.lines_of(region.file) if region else []
+        begin = after_directive(lines, region.number) if lines else 0
+        code = [COMMENT.sub("", line) for line in lines[begin - 1:statement_end(lines, begin)]] if lines else []
+        is_divided = DIVIDED.search(self.directive(name, name)) or any(map(BY_NUMBER.search, code))
+        return bool(code) and not is_divided
 
     def stretch(self, place):
         """File, first and last line of a place's code, as far as they are known."""
@@ -334,3 +365,133 @@ class Names:
         last = len(written) - 1
         at = sorted(last - one if self.facts.is_of_gcc else one for one in place.read_at)
         return [written[one][1] for one in at if 0 <= one <= last] or [UNNAMED]
+
+
+def call_of(calls):
+    """The function that code slept in."""
+    return OF_LIBRARY.sub("", calls[-1].partition(OF_SYSTEM)[0])
+
+
+def by_call(sampled):
+    """The function that code slept in and what called it, each empty where it is not known, and the share of the sleep:
+    the most first."""
+    found, whole = Counter(), sum(sampled.values())
+    for calls, time in sampled.items():
+        found[call_of(calls), caller_of(calls, len(calls) - 1)] += time
+    return [(call, time / whole) for call, time in sorted(found.items(), key=lambda pair: (-pair[1], pair[0])) if whole]
+
+
+def is_of_programs(facts, name):
+    """Whether most of a place's sleep is for other programs, which need processors too: by its calls, or where no
+    sample knows these, by the processor time of all programs that it started."""
+    if not facts.calls.slept.get(name):
+        return facts.children >= MOST_SLEEP * max(facts.asleep, 1)
+    return any(call in FOR_PROGRAMS and share >= MOST_SLEEP for (call, _), share in by_call(facts.calls.slept[name]))
+
+
+def threads_for_sleep(facts):
+    """So many that all processors run code while others sleep, but for few that wait most of the time; 0 where the run
+    had as many."""
+    busy = max(facts.code / max(facts.code + facts.asleep, 1), 1 / MOST_EACH)
+    number = round(facts.usable / busy)
+    return number if number > facts.threads else 0
+
+
+def sooner(facts, name, threads):
+    """What else ends the waits sooner; `threads` as a step has them."""
+    place = facts.places.get(name)
+    if is_of_programs(facts, name):
+        return ", or several at once" if place and place.kind == SERIAL else ", or the longest first"
+    return {None: ", or use more threads", 0: ""}.get(threads, ", or use %s threads" % threads)
+
+
+def words_of_sleep(facts, name, reported):
+    """Such as `in read, called by load`, or of MPI for other ranks; two calls with their shares. What it may be where
+    no sample tells."""
+    sampled = by_call(facts.calls.slept.get(name, {}))
+    found = [(call, share) for call, share in sampled[:2] if share >= LEAST_SLEEP and call[0]]
+    if not found:
+        return FOR_PROGRAM if is_of_programs(facts, name) else "for files, a network or other locks"
+    named = [function + (", called by " + caller if caller not in reported else "") for (function, caller), _ in found]
+    if len(found) == 1 or found[0][1] >= MOST_SLEEP:
+        return "in " + named[0] + (" " + FOR_PROGRAM if is_of_programs(facts, name) else "")
+    return "in " + " and ".join("%s (%.0f %%)" % (one, 100 * share) for one, (_, share) in zip(named, found))
+
+
+def sleeper(names, name):
+    """What waits: a place's code; or where that is known by a function that it ran, and that slept little, the one that
+    slept."""
+    place, slept = names.facts.places.get(name), names.facts.calls.slept.get(name, {})
+    ran = place and names.ran(place)
+    within = sum(time for calls, time in slept.items() if ran and ran.function in calls)
+    most = max(slept, key=slept.get, default=())
+    function = next(filter(is_of_program, most[-2::-1]), "")
+    return function if ran and function and 2 * within < sum(slept.values()) else names.place(name)
+
+
+def lines_of_sleep(names, name):
+    """Of the call with most of the sleep in the function that makes it, or where that is inlined in its file; nothing
+    where the source does not show it."""
+    place, slept = names.facts.places.get(name), names.facts.calls.slept.get(name, {})
+    most = max(slept, key=slept.get, default=())
+    file = names.stretch(place)[0] if place and len(most) > 1 else ""
+    call = re.compile(r"\b%s\s*\(" % re.escape(call_of(most))) if file else None
+    lines = names.lines_of(file)
+    found = [number for number, line in enumerate(lines, 1) if call and call.search(COMMENT.sub("", code_of(line)))]
+    begin, end = names.body(file, most[-2]) if found else (0, 0)
+    return file, [number for number in found if begin <= number <= end] or found
+
+
+def place_of_sleep(names, name):
+    """The lines of the call, at most two; those of the place where they are not known."""
+    file, found = lines_of_sleep(names, name)
+    if 0 < len(found) <= MOST_LINES:
+        return "%s:%s" % (file, " and ".join(map(str, found)))
+    place = names.facts.places.get(name)
+    file, first, last = names.stretch(place) if place and place.kind == SERIAL else ("", 0, 0)
+    return "%s:%d-%d" % (file, first, last) if file and last > first > 0 else names.at(name)
+
+
+def without_item(directive, spelt):
+    """Without an item that is written, and its clause where nothing is left of it; and whether it was there."""
+    found = []
+
+    def clause(match):
+        kind, items = match[1], split_items(match[2])
+        if WRITES.get(kind, kind) != "inout" or spelt not in items:
+            return match[0]
+        found.append(spelt)
+        rest = [item for item in items if item != spelt]
+        return "depend(%s: %s)" % (kind, ", ".join(rest)) if rest else ""
+    return re.sub(r"\s+", " ", DEPEND.sub(clause, directive)).strip(), bool(found)
+
+
+def read_only(directive, spelt):
+    """The directive with `in` for the item; None where it has no such item."""
+    rest, is_there = without_item(directive, spelt)
+    return "%s depend(in: %s)" % (rest, spelt) if is_there else None
+
+
+def diff(names, step):
+    """Lines to take out and to put in, of the step's first change; nothing where the source does not show it."""
+    change = step.change
+    if not change or change.kind not in ("in-for-inout", "read-only", "drop-wait", "drop-depend"):
+        return [], []
+    facts = names.facts
+    place = facts.places.get(step.place)
+    if change.kind == "drop-wait":
+        return list(filter(None, [names.directive(one.word, one.word) for one in change.requests])), []
+    directive = names.directive(place.name, place.at) if place else ""
+    if change.kind == "drop-depend":
+        rest = re.sub(r"\s+", " ", DEPEND.sub("", directive)).strip()
+        return ([directive], [rest]) if directive != rest else ([], [])
+    if change.kind == "read-only":
+        items, rest = names.read_only(place), directive
+        for item in items:
+            rest, is_there = without_item(rest, item)
+            if not is_there:
+                return [], []
+        return [re.sub(r"\s+", " ", directive)], ["%s depend(in: %s)" % (rest, ", ".join(items))]
+    spelt = names.item(place, ("inout", change.place)).partition(": ")[2]
+    changed = read_only(directive, spelt)
+    return ([re.sub(r"\s+", " ", directive)], [changed]) if changed else ([], [])

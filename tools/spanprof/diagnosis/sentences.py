@@ -2,19 +2,17 @@
 import re
 from collections import Counter
 
-from spanprof.diagnosis.allocation import allocating, parallel_code
-from spanprof.diagnosis.calls import NO_NAME, OFFSET, ONE_AT_A_TIME, SHARES, innermost, together
+from spanprof.diagnosis.calls import (NO_NAME, OFFSET, ONE_AT_A_TIME, SHARES, allocating, copying_at, has_many_faults,
+                                      innermost, interpreted_share, is_interpreter, maps_memory, parallel_code,
+                                      together, words_of_interpreter)
 from spanprof.diagnosis.causes import ABOUT, AT_BEST, BY_KIND, NAMES, SECOND
+from spanprof.diagnosis.diagnose import holder
 from spanprof.diagnosis.facts import Region
-from spanprof.diagnosis.kernel import copying_at, has_many_faults, maps_memory
 from spanprof.diagnosis.losses import (A_TASK, MANY, average_task, holds_neighbours, is_bandwidth, is_in_a_row,
                                        is_maker, losses, missing_threads, most_shared, useful_time)
-from spanprof.diagnosis.own_code import interpreted_share, is_interpreter, words_of_interpreter
+from spanprof.diagnosis.names import DIVIDED, place_of_sleep, sleeper, sooner, words_of_sleep
 from spanprof.diagnosis.places import AFTER_REGION, OWN, SERIAL, SHARE
-from spanprof.diagnosis.plan import holder
-from spanprof.diagnosis.sleeps import place_of_sleep, sleeper, sooner, words_of_sleep
-from spanprof.durations import lasting
-from spanprof.head import grouped
+from spanprof.head import grouped, lasting
 from spanprof.program_text import SECTION, where
 from spanprof.source_lines import line_of
 
@@ -22,6 +20,7 @@ WIDTH, MOST_LINES = 100, 8
 LABEL = 6
 NO_FASTER = 1.1
 MOST_SHARED = 2
+ALIKE, MOST_REGIONS = 2, 3
 A_CHUNK = 50000        # nanoseconds that one lasts which is worth taking
 LEAST_TOLD = 0.005     # of the threads' time, from which on a part of it is reported
 MUCH_STOLEN = 0.02     # of the processors' time, from which on that of the machine's host is reported
@@ -34,9 +33,9 @@ TRIED = {
     "defer": "defer more tasks at {at}: change its if or final",
     "outside": "create the tasks of {at} inside parallel and single",
     "task": "make {where} a task of its own"}
+ON_ONE = "one thread at {at} is faster: if or num_threads(1)"
 REWRITES = "tasks of {where} wait until others have read {written}"
 BOUNDS = {ABOUT: "about %s", AT_BEST: "%s"}     # the first of several holds for all
-DIVIDED = r"\b(for|do|sections|loop|taskloop|workshare)\b"
 ONE_EACH = re.compile(r"schedule\s*\(\s*(\w+\s*:\s*)?(dynamic|(static|dynamic)\s*,\s*1)\s*\)", re.IGNORECASE)
 ONE_BY_ONE = r"schedule\s*\(\s*(\w+\s*:\s*)?(dynamic|guided)"
 SPLIT = {"serial": "parallelise {where}: loop or tasks", "imbalance": "divide the longest tasks at {where}",
@@ -71,6 +70,9 @@ def words_of_memory(facts, names, place):
     """What its code costs more than on one thread, or by samples its lines that use memory which threads share."""
     alone = (facts.cost_on_one or {}).get(place.name)
     if alone:
+        if names.is_repeated(place.name):
+            return "each of %d threads seems to do all of %s: %.1f times what it costs on one" % (
+                facts.threads, names.place(place.name), place.cost / alone)
         return "%s costs %.1f times as much on %d threads as on one: memory %s" % (
             names.place(place.name), place.cost / alone, facts.threads,
             "bandwidth" if is_bandwidth(facts, place.name) else "is contended")
@@ -101,13 +103,17 @@ def in_words(several):
 
 
 def words_of_schedule(names, name, place):
-    """gcc's chunks are those that threads take one by one. No schedule divides an iteration."""
+    """gcc's chunks are those that threads take one by one; no schedule divides an iteration. What is uneven in a region
+    of gcc's code with one loop is that."""
     at, is_share = names.at(name), place and place.kind == SHARE
     directive = names.directive(name, place.at) if place else ""
     if few_turns(names.facts, name, place):
         return "collapse the loops at %s, or parallelise inside them" % at
-    if not is_share and re.search(r"\bparallel\b", directive) and not re.search(DIVIDED, directive, re.IGNORECASE):
-        return "divide the longest work at %s, or start it first" % at
+    if not is_share and re.search(r"\bparallel\b", directive) and not DIVIDED.search(directive):
+        loops = names.loops_inside(name)
+        if len(loops) != 1:
+            return "divide the longest work at %s, or start it first" % at
+        at = "%s:%d" % loops[0]     # gcc's code divides it without a call
     if is_share and SECTION in name:
         return "smaller sections at %s, the longest first" % at
     if is_share and (names.facts.is_of_gcc or re.search(ONE_BY_ONE, directive)):
@@ -136,7 +142,8 @@ def words_of_division(facts, name, place):
 def words_of_kernel(facts, names, usage):
     """Page faults only where they are most of it."""
     if has_many_faults(facts) or maps_memory(facts):
-        copying, reuse = copying_at(facts), "reuse memory: no large malloc, mmap or free in each task"
+        each = "task" if facts.tasks_in_regions else "iteration"
+        copying, reuse = copying_at(facts), "reuse memory: no large malloc, mmap or free in each " + each
         smaller = "smaller firstprivate data at %s: a pointer, or shared" % names.at("task at " + copying)
         return {"kernel": "%s page faults" % grouped(usage.get("minor_faults") or 0) if has_many_faults(facts) else
                 "mapping memory", "less_kernel": smaller if copying else reuse}
@@ -202,9 +209,26 @@ def words_of_barriers(facts, names, name):
         apart = lasting(region.elapsed // after.pieces)
         return {"short_regions": words % (several(after.pieces, "barrier"), at, apart),
                 "longer_regions": "fewer barriers at %s: nowait, or larger loops" % at}
-    words = "%s at %s take %s each: starting them"
-    return {"short_regions": words % (several(region.times, "region"), at, lasting(region.elapsed // region.times)),
+    alike = alike_regions(facts, region)
+    at, times = lines_of_regions(names, alike), sum(one.times for one in alike)
+    words, each = "%s at %s take %s each: starting them", lasting(sum(one.elapsed for one in alike) // times)
+    return {"short_regions": words % (several(times, "region"), at, each),
             "longer_regions": "move parallel at %s out of the loop around it" % at}
+
+
+def alike_regions(facts, region):
+    """Those that are about as many and as short, and the region itself."""
+    return [region] + [one for one in facts.regions if one.place != region.place and
+                       one.times * ALIKE >= region.times and
+                       one.elapsed * region.times <= ALIKE * region.elapsed * one.times]
+
+
+def lines_of_regions(names, regions):
+    """Of the first few."""
+    lines = [line_of(names.place(one.place)) for one in regions[:MOST_REGIONS]]
+    more = ", .." * (len(regions) > MOST_REGIONS)
+    several_lines = joined(lines).replace(" and ", ", ") + more if all(lines) else ""
+    return several_lines if len(lines) > 1 and several_lines else names.place(regions[0].place)
 
 
 def is_confined(facts):
@@ -327,6 +351,8 @@ def words_of_line(facts):
 
 def instead(names, place, name):
     """What to write in place of what threads contend for."""
+    if names.is_repeated(name):
+        return "divide it among the threads of %s, or do it once: single" % names.at(name)
     if is_bandwidth(names.facts, name):
         return "touch the data of %s once: fuse or block loops" % names.at(name)
     suspect = names.suspect([place]) if place else None
@@ -397,6 +423,8 @@ def kind_of_parts(step, place):
 
 def change_sentence(facts, names, step):
     """What to do, of a change that was tried or of a bound."""
+    if step.kind == "small_regions" and step.threads == 1:
+        return ON_ONE.format(at=names.at(step.place))
     if not step.change:
         return BY_KIND[step.kind].change.format(**words(facts, names, step.place),
                                                 sooner=sooner(facts, step.place, step.threads))

@@ -3,11 +3,8 @@ import os
 import signal
 import sys
 
-from spanprof.command import Console, end_with, show
-from spanprof.errors import NO_PROGRAM
-from spanprof.front.help_texts import GENERAL, help_of
+from spanprof.command import NO_PROGRAM, Console, end_with, show, version_of
 from spanprof.front.routes import HELP, OTHER_NAMES, PROGRAM, TOOL, TOOLS, VERSION, main_of, route
-from spanprof.version import version_of
 
 CONSOLE = Console("spanprof")
 PREFIX = "spanprof-"
@@ -36,6 +33,7 @@ def run_tool(words):
 
 def help_with(words):
     """The help of a command, or of all of them."""
+    from spanprof.front.help_texts import GENERAL, help_of      # only help needs them
     name = words[0] if words else ""
     if not name:
         print(GENERAL, end="")

@@ -4,8 +4,7 @@ import signal
 import subprocess
 import sys
 
-from spanprof.command import show
-from spanprof.errors import Fault
+from spanprof.command import Fault, show
 from spanprof.folders import other_places_of, places_of, words_for
 from spanprof.front.given import given
 from spanprof.front.routes import are_right

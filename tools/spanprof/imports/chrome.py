@@ -1,21 +1,210 @@
-"""Traces in Chrome's JSON, as Perfetto, clang's -ftime-trace and other runtimes write them: slices of threads, and
-flows between them."""
+"""Traces in Chrome's JSON, as Perfetto, clang's -ftime-trace and other runtimes write them: from slices of threads,
+which may stand in each other, and flows between them, to tasks that follow each other.
+
+A slice is cut into pieces where others in it begin and end; each piece is a task of the innermost slice. Pieces of one
+outermost slice follow each other. A flow says that the slice that it ends in waits for that in which it begins; where
+the one was not over when the other began, both are cut where the flow begins and ends, and the pieces wait.
+"""
 import gzip
 import json
 import re
+from bisect import bisect_left, bisect_right
 from collections import defaultdict
 from dataclasses import dataclass, field
-from typing import NamedTuple, Tuple
+from typing import List, NamedTuple, Optional, Tuple
 
-from spanprof.errors import Fault
-from spanprof.imports.slices import Flow, Slice, tasks_of
-from spanprof.imports.tasks import Imported
+from spanprof.command import Fault
+from spanprof.imports.tasks import Imported, timed
 
+ROUNDED = 1000      # nanoseconds by which times of whole microseconds may be wrong
 BLANKS = re.compile(r"[\s,]*")
 EVENTS = re.compile(r'"traceEvents"\s*:\s*\[')
 MICROSECOND = 1000
 FLOWS = ("s", "t", "f")
 MOST_WRONG = 0.1    # of all flows
+
+
+@dataclass
+class Slice:
+    name: str
+    at: str
+    begin: int
+    end: int
+    parent: Optional["Slice"] = None
+
+
+class Flow(NamedTuple):
+    """Threads and moments; `is_inside`: it ends in the slice around that moment, and else in the next one."""
+    at: str
+    source: Tuple
+    target: Tuple
+    is_inside: bool
+
+
+@dataclass
+class Outermost:
+    """One with those inside it, in the order of their begins, the longer ones first."""
+    inside: List[Slice]
+    begins: List[int]
+    cuts: set = field(default_factory=set)      # moments
+    leaves: bool = False        # a flow at its begin
+    arrives: bool = False       # a flow at its end
+    first: int = 0              # the number of its first piece
+
+    @property
+    def own(self):
+        return self.inside[0]
+
+    def around(self, moment):
+        """The innermost slice."""
+        found = self.inside[bisect_right(self.begins, moment) - 1]
+        while found.end < moment and found.parent:
+            found = found.parent
+        return found
+
+    @property
+    def bounds(self):
+        """The moments between its pieces. One of no length stands for a flow at its begin or its end."""
+        begin, end = self.own.begin, self.own.end
+        inner = {moment for one in self.inside for moment in (one.begin, one.end)} | self.cuts
+        return [begin] * self.leaves + [begin] + sorted(inner - {begin, end}) + [end] + [end] * self.arrives
+
+    def pieces(self, bounds):
+        """Slices, begins and ends."""
+        innermost, coming = self.own, 0
+        for begin, end in zip(bounds, bounds[1:]):
+            while coming < len(self.inside) and self.begins[coming] <= begin:
+                innermost, coming = self.inside[coming], coming + 1
+            while innermost.end <= begin and innermost.parent:
+                innermost = innermost.parent
+            yield innermost, begin, end
+
+
+def around(stack, one):
+    """The slice that one of a thread stands in; none where it is an outermost one. Rounded ends are moved."""
+    while stack:
+        last = stack[-1]
+        if last.end - ROUNDED <= one.begin < last.end < one.end:
+            one.begin = last.end
+        if one.begin < last.end:
+            break
+        stack.pop()
+    if stack and one.end > stack[-1].end + ROUNDED:
+        raise Fault("%s: %s begins in %s and ends after it, on one thread" % (one.at, one.name, stack[-1].name))
+    return stack[-1] if stack else None
+
+
+def nested(slices):
+    """The outermost ones of a thread, in order."""
+    found, stack = [], []
+    for one in sorted(slices, key=lambda one: (one.begin, -one.end)):
+        one.parent = around(stack, one)
+        if one.parent:
+            one.end = min(one.end, one.parent.end)
+        else:
+            found.append(Outermost([], []))
+        found[-1].inside.append(one)
+        found[-1].begins.append(one.begin)
+        stack.append(one)
+    return found
+
+
+class Thread:
+    def __init__(self, slices):
+        self.outermost = nested(slices)
+        self.begins = [one.own.begin for one in self.outermost]
+
+    def around(self, moment, at):
+        """The outermost slice around a moment, the later one where two meet there."""
+        number = bisect_right(self.begins, moment) - 1
+        if number < 0 or self.outermost[number].own.end < moment:
+            raise Fault("%s: no slice of the thread is around this flow" % at)
+        return self.outermost[number]
+
+    def next(self, moment, at):
+        """The slice that begins next."""
+        number = max(0, bisect_right(self.begins, moment) - 1)
+        for outer in self.outermost[number:number + 2]:
+            inner = bisect_left(outer.begins, moment)
+            if inner < len(outer.begins):
+                return outer, outer.inside[inner]
+        raise Fault("%s: no slice of the thread begins behind this flow" % at)
+
+
+class Wait(NamedTuple):
+    """The pieces of one outermost slice from a moment on wait for those of another before a moment."""
+    source: Outermost
+    leaving: int
+    target: Outermost
+    arriving: int
+
+    def cut(self):
+        for outer, moment in ((self.source, self.leaving), (self.target, self.arriving)):
+            outer.cuts.add(moment)
+        self.source.leaves |= self.leaving == self.source.own.begin
+        self.target.arrives |= self.arriving == self.target.own.end
+
+    def pieces(self, bounds):
+        """Their numbers, by the bounds of each."""
+        first = bisect_right(bounds[id(self.source)], self.leaving) - 2
+        return self.source.first + first, self.target.first + bisect_left(bounds[id(self.target)], self.arriving)
+
+
+def wait_of(threads, flow):
+    if any(thread not in threads for thread, _ in (flow.source, flow.target)):
+        raise Fault("%s: this flow begins or ends on a thread without slices" % flow.at)
+    source = threads[flow.source[0]].around(flow.source[1], flow.at)
+    before, (thread, moment) = source.around(flow.source[1]), flow.target
+    if flow.is_inside:
+        target = threads[thread].around(moment, flow.at)
+        behind = target.around(moment)
+    else:
+        target, behind = threads[thread].next(moment, flow.at)
+        moment = behind.begin
+    if before.end <= behind.begin:
+        return Wait(source, before.end, target, behind.begin)
+    return Wait(source, flow.source[1], target, moment)
+
+
+def add_pieces(tasks, outer, bounds, worker, last):
+    """Those of an outermost slice, of which the first follows another task, if there is one."""
+    outer.first = len(tasks)
+    for one, begin, end in outer.pieces(bounds):
+        task = timed(one.at, one.name, begin, end, worker)
+        task.before += [] if last is None else [last]
+        last = len(tasks)
+        tasks.append(task)
+    return last
+
+
+def waits_of(threads, flows):
+    """Those of flows with a slice at each end; and of the others what is wrong with each."""
+    waits, wrong = [], []
+    for flow in flows:
+        try:
+            waits.append(wait_of(threads, flow))
+        except Fault as fault:
+            wrong.append(str(fault))
+    return waits, wrong
+
+
+def tasks_of(slices, flows):
+    """Of slices by thread; and what is wrong with flows that are left out. Without flows the outermost slices of a
+    thread follow each other."""
+    threads, tasks = {thread: Thread(some) for thread, some in slices.items()}, []
+    waits, wrong = waits_of(threads, flows)
+    for wait in waits:
+        wait.cut()
+    bounds = {id(outer): outer.bounds for thread in threads.values() for outer in thread.outermost}
+    for worker, thread in threads.items():
+        last = None
+        for outer in thread.outermost:
+            last = add_pieces(tasks, outer, bounds[id(outer)], worker, None if flows else last)
+    for wait in waits:
+        first, then = wait.pieces(bounds)
+        if first < then or wait.source is not wait.target:
+            tasks[then].before.append(first)
+    return tasks, wrong
 
 
 class Event(NamedTuple):

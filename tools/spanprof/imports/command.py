@@ -2,20 +2,14 @@
 import argparse
 import os
 
-from spanprof.answers import Answers
-from spanprof.command import Console, end_with
+from spanprof.answers import Answers, numbers_of, places
+from spanprof.command import Console, Fault, Version, end_with
 from spanprof.diagnosis.sentences import shortened
-from spanprof.durations import lasting
-from spanprof.errors import Fault
-from spanprof.head import counted
+from spanprof.head import counted, lasting
 from spanprof.imports.folder import write
 from spanprof.imports.formats import FORMATS, format_of, read
-from spanprof.program_text import where
+from spanprof.program_text import TextFile, where
 from spanprof.recording import ENDING, TEXT, given_text
-from spanprof.report.places import places
-from spanprof.text_file import TextFile
-from spanprof.version import Version
-from spanprof.whatif.numbers import numbers_of
 
 CONSOLE = Console("spanprof-import")
 DESCRIPTION = """Makes a recording of what another tool has written: a log of ninja with the output of `ninja -t graph`,

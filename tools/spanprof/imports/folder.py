@@ -1,18 +1,131 @@
 """Tasks of another tool as a recording: the folder NAME.spanprof with a text, and with times where these are of one
-run."""
+run.
+
+The root creates all tasks, at the first moment, and each waits for the depend items of others.
+"""
+import json
 import os
 import shutil
+from array import array
+from dataclasses import dataclass, field
 from datetime import datetime, timezone
+from typing import List
 
-from spanprof.command import naming
-from spanprof.errors import Fault
-from spanprof.imports.program import body, head, unit_of
+from spanprof.command import Fault, naming
+from spanprof.head import NANOSECONDS
 from spanprof.imports.tasks import in_order
-from spanprof.imports.times import run_of
-from spanprof.record.files import check_folder
-from spanprof.record.meta import write_meta
+from spanprof.program_text import Statement, as_text
+from spanprof.record.folder import PART, check_folder, write_meta
 from spanprof.recording import ENDING, TEXT, TIMES
-from spanprof.record.work import PART
+from spanprof.time_breakdown import Rows
+
+MOST_COST, MOST_WORK = 10 ** 12, 10 ** 15   # of a text
+MOST_THREADS, LONGEST = 1024, 10 ** 15
+
+
+def unit_of(tasks):
+    """The smallest in which the text has no number that is too large."""
+    most, work = max((task.cost for task in tasks), default=0), sum(task.cost for task in tasks)
+    return next((unit for unit, size in NANOSECONDS.items() if most <= MOST_COST * size and work <= MOST_WORK * size),
+                "ms")
+
+
+def statements(tasks, size):
+    awaited = {first for task in tasks for first in task.before}
+    for number, task in enumerate(tasks):
+        items = [("out", "t%d" % number)] * (number in awaited) + [("in", "t%d" % first) for first in task.before]
+        yield Statement("task", items=tuple(items), comment=" ".join(task.name.split()))
+        yield Statement("work", cost=task.cost // size)
+        yield Statement("end", of="task")
+
+
+def head(program, region, date, unit, threads=None, elapsed=None):
+    """Threads and elapsed time are those of a run whose times are known."""
+    recorded = {"program": program, "date": date, "threads": threads, "clock": "wall", "unit": unit}
+    reported = [("recorded", {name: value for name, value in recorded.items() if value is not None}),
+                ("region", {"at": region, "number": 1, "of": 1})]
+    reported += [("elapsed", elapsed // NANOSECONDS[unit])] if elapsed is not None else []
+    return ["# %s: %s\n" % (name, json.dumps(value)) for name, value in reported]
+
+
+def body(tasks, unit):
+    return as_text(statements(tasks, NANOSECONDS[unit]))
+
+
+@dataclass
+class Run:
+    threads: int
+    first: int
+    last: int
+    rows: List[tuple] = field(default_factory=list)     # of each task thread, begin, end
+
+    @property
+    def elapsed(self):
+        return self.last - self.first
+
+    def lines(self):
+        """Those of the file of times, from 0 on. Of a task's two segments the second is the root's after its
+        creation."""
+        yield "times %d 0 %d\n" % (self.threads, self.elapsed)
+        yield "0 0 0 0\n"
+        for number, (thread, begin, end) in enumerate(self.rows):
+            yield "%d %d %d %d\n" % (2 * number + 1, thread, begin - self.first, end - self.first)
+            yield "%d 0 0 0\n" % (2 * number + 2)
+
+
+def threads_of(tasks):
+    """Of each task with code, by its number: of unknown workers one that is free."""
+    timed = [number for number, task in enumerate(tasks) if task.begin is not None]
+    if any(tasks[number].worker is None for number in timed):
+        begin, end = (array("q", [getattr(tasks[number], name) for number in timed]) for name in ("begin", "end"))
+        return dict(zip(timed, Rows(begin, begin, begin, end).on_few_threads.thread))
+    workers = {}
+    return {number: workers.setdefault(tasks[number].worker, len(workers)) for number in timed}
+
+
+def rows_of(tasks, first):
+    """What joins others has the moment and the thread of the last of them."""
+    threads, out = threads_of(tasks), []
+    for number, task in enumerate(tasks):
+        if task.begin is None:
+            moment, thread = max(((out[one][2], out[one][0]) for one in task.before), default=(first, 0))
+            out.append((thread, moment, moment))
+        else:
+            out.append((threads[number], task.begin, task.end))
+    return out
+
+
+def overlapping(tasks, rows):
+    """Why the tasks of a thread are not one after the other; empty where they are."""
+    last = {}
+    for number in sorted(range(len(rows)), key=lambda n: rows[n][1:]):
+        thread, begin, end = rows[number]
+        if begin < end:
+            if thread in last and begin < rows[last[thread]][2]:
+                return "%s begins while %s runs on its worker" % (tasks[number].name, tasks[last[thread]].name)
+            last[thread] = number
+    return ""
+
+
+def too_soon(tasks, rows):
+    """Which task began before one ended that precedes it; empty where none did."""
+    for task, (_, begin, _) in zip(tasks, rows):
+        for first in task.before:
+            if begin < rows[first][2]:
+                return "%s begins before %s has ended, for which it waits" % (task.name, tasks[first].name)
+    return ""
+
+
+def run_of(tasks):
+    """The run, and why there is none; one of them is empty. Some task has times."""
+    timed = [task for task in tasks if task.begin is not None]
+    first = min(task.begin for task in timed)
+    rows = rows_of(tasks, first)
+    run = Run(max(row[0] for row in rows) + 1, first, max(task.end for task in timed), rows)
+    why = overlapping(tasks, rows) or too_soon(tasks, rows)
+    if not why and (run.threads > MOST_THREADS or run.elapsed > LONGEST):
+        why = "it has more than %d threads, or is longer than 10^15 ns" % MOST_THREADS
+    return (None, why) if why else (run, "")
 
 
 def fill(folder, path, name, reported):

@@ -2,8 +2,7 @@
 import re
 import zlib
 
-from spanprof.command import naming
-from spanprof.errors import DAMAGE, LONGEST, Fault
+from spanprof.command import DAMAGE, LONGEST, Fault, naming
 from spanprof.imports import chrome, ninja, starpu
 
 

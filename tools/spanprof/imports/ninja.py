@@ -4,8 +4,8 @@ import re
 from collections import defaultdict
 from typing import NamedTuple
 
-from spanprof.errors import Fault
-from spanprof.imports.tasks import Task, Imported, timed
+from spanprof.command import Fault
+from spanprof.imports.tasks import Imported, Task, timed
 
 HEAD = re.compile(r"# ninja log v([5-7])$")
 NODE = re.compile(r'"([^"]+)" \[label="(.*)"(, shape=ellipse)?\]$')

@@ -1,8 +1,8 @@
 """The file tasks.rec that starpu_fxt_tool makes of a trace of StarPU: tasks, their times, and which depend on which."""
 import re
 
-from spanprof.errors import Fault
-from spanprof.imports.tasks import Task, Imported, timed
+from spanprof.command import Fault
+from spanprof.imports.tasks import Imported, Task, timed
 
 MILLISECOND = 10 ** 6
 

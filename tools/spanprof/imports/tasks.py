@@ -4,7 +4,7 @@ from collections import deque
 from dataclasses import dataclass, field, replace
 from typing import Hashable, List, Optional
 
-from spanprof.errors import Fault
+from spanprof.command import Fault
 
 MOST_BEFORE = 31    # of a task's 32 depend items one is its own
 SHOWN = 4           # members of a cycle

@@ -7,9 +7,8 @@ no text.
 import json
 
 from spanprof.head import comments
-from spanprof.marks import as_text, statements
 from spanprof.predict.program import END, WAIT
-from spanprof.program_text import Statement
+from spanprof.program_text import Statement, as_text, statements
 
 KEPT = ("recorded: {", "region: ", "place: ")  # lines of the head
 

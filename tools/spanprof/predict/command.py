@@ -2,14 +2,13 @@
 import argparse
 import json
 
-from spanprof.command import Console, check_files, count, end_with, writing
+from spanprof.command import Console, Version, check_files, count, end_with, writing
 from spanprof.predict.burden import burdened_text
 from spanprof.predict.machine import machine_file, read_machine
 from spanprof.predict.predictions import by_threads, predictions, text_of
 from spanprof.predict.recorded import RUNTIMES
 from spanprof.predict.words import as_json, burden_words, lines
 from spanprof.remarks import in_json
-from spanprof.version import Version
 
 CONSOLE = Console("spanprof-predict")
 DESCRIPTION = """Predicts how long a recorded region would take on other numbers of threads, by simulating the

@@ -5,8 +5,7 @@ import statistics
 from dataclasses import dataclass
 from typing import Dict
 
-from spanprof.command import naming, writing
-from spanprof.errors import Fault
+from spanprof.command import Fault, naming, writing
 
 COSTS = ("creation", "dispatch", "steal", "wake_up")
 HOW = "spanprof-record --calibrate measures it"

@@ -2,8 +2,8 @@
 from dataclasses import dataclass, field
 from typing import List, Tuple
 
+from spanprof.program_text import Marks, of_marks
 from spanprof.segment_table import code_of
-from spanprof.marks import Marks, of_marks
 
 WORK, CREATE, WAIT, BEGIN, END = range(5)
 

@@ -8,17 +8,14 @@ import tempfile
 import time
 from collections import defaultdict
 
-from spanprof.built import Product, find_or_build
-from spanprof.converting import RECORDERS, convert, converter, recorder_library
-from spanprof.errors import Fault
+from spanprof.command import Fault
+from spanprof.converting import RECORDERS, Product, convert, converter, find_or_build, recorder_library
 from spanprof.predict.machine import COSTS, Machine, Measured, machine_file, write_machine
 from spanprof.predict.program import read_program
-from spanprof.program_text import OF_A_THREAD
-from spanprof.record.console import say, tell
-from spanprof.record.run import environment, without_recorder
+from spanprof.program_text import OF_A_THREAD, TextFile
+from spanprof.record.run import environment, say, tell, without_recorder
 from spanprof.record.runtime import llvm_runtime
 from spanprof.recording import ENDING, LOG
-from spanprof.text_file import TextFile
 
 CALIBRATION = Product("calibrate", "the program for --calibrate", "clang-19 libomp-19-dev make")
 SECONDS = 30        # for all numbers of threads together, begun by then

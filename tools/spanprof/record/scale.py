@@ -7,12 +7,10 @@ import tempfile
 
 from spanprof.command import writing
 from spanprof.diagnosis.places import read_places
-from spanprof.durations import lasting
-from spanprof.head import counted, head_of
-from spanprof.record.console import say, tell
-from spanprof.record.meta import old_meta
-from spanprof.record.run import rewind
-from spanprof.record.unrecorded import ON_ONE, Failed, unrecorded
+from spanprof.head import counted, head_of, lasting
+from spanprof.record.folder import old_meta
+from spanprof.record.run import ON_ONE, Failed, rewind, say, tell, unrecorded
+from spanprof.record.summary import named
 from spanprof.recording import SCALE
 from spanprof.segment_table import code_in
 
@@ -44,6 +42,11 @@ def table_lines(scale):
     return [*("  ".join(word.rjust(width) for word, width in zip(words, widths)) for words in rows),
             turns + ": elapsed time of the whole program" + on + " (measured)", SAID,
             *shared * (scale["processors"] < most)]
+
+
+def named_table(scale):
+    """As the summary has it."""
+    return named("true times", table_lines(scale))
 
 
 def costs_by_place(path):

@@ -1,22 +1,75 @@
-"""The summary of a recording: what spanprof printed, quotients of that, and what the text's head tells.
+"""All that is known of a recording, in lines: what spanprof printed, quotients of that, and what the text's head tells.
 
 A person reads it to decide about a program, and what is proved is proved of the text. So each line that says `proved`
 says of what, and where the head tells that the text is not the program the line says that in its place.
 """
-from spanprof.errors import Fault
-from spanprof.head import CLOCKS, grouped, part_of_program, with_function
-from spanprof.proof import proved
-from spanprof.record.program_lines import program_line
-from spanprof.report.figures import rounded_down, rounded_up
-from spanprof.report.places import places
-from spanprof.report.units import Units
-from spanprof.validity import (OTHERWISE, against_parallelism, against_span, gain_may_be_less, gain_may_be_more,
-                               is_divided, is_of_one_thread, is_partial, least_end, lock_binds, pieces_words,
-                               share_covered, tasks_made, tenths, why_not_of_more_threads)
+from array import array
+from itertools import repeat
 
+from spanprof import client
+from spanprof.answers import places
+from spanprof.client import proved
+from spanprof.command import Fault
+from spanprof.diagnosis.facts import off_by_segment
+from spanprof.head import (CLOCKS, OTHERWISE, against_parallelism, against_span, gain_may_be_less, gain_may_be_more,
+                           grouped, is_divided, is_of_one_thread, is_partial, lasting, least_end, lock_binds,
+                           part_of_program, pieces_words, share_covered, tasks_made, tenths, why_not_of_more_threads,
+                           with_function)
+from spanprof.record.run import counter_words
+from spanprof.recording import program_of
+from spanprof.report.figures import Units, rounded_down, rounded_up
+
+LEAST = 0.01    # of the work, or of the program's time, from which on a part of it is reported
+MOST_TOLD = 3
+UNLIKE = 2      # times the median, from which on the longest is reported
 THREADS = (2, 4, 8, 16)
 MOST_PLACES = 3
 LESS_HELD = "another run may hold it for less (warnings)"
+
+
+def on_path(answers, slept):
+    """Of each of these segments in turn, its cost where it is on the critical path."""
+    kinds = array("I", repeat(0, len(answers.code)))
+    for kind, segment in enumerate(slept, 1):
+        kinds[segment] = kind
+    of_kind = dict(zip(sorted(set(kinds)), *client.places(answers.path, kinds, ("path",))))
+    return [of_kind[kind] for kind in range(1, len(slept) + 1)]
+
+
+def asleep_in(recording, answers):
+    """Of the work, and of the span, in the text's unit."""
+    path, head = recording.file("off"), answers.head
+    if not path or head.clock == "cpu":
+        return 0, 0
+    unit = head.nanoseconds or 1
+    slept = {segment: time // unit for segment, (time, _) in off_by_segment(path, head).items()
+             if time >= unit and segment < len(answers.code)}
+    if sum(slept.values()) < LEAST * answers.work:
+        return 0, 0
+    return sum(slept.values()), sum(map(min, slept.values(), on_path(answers, slept)))
+
+
+def place_words(place):
+    name = "the region at " + place.name if not place.name.startswith("a region") else place.name
+    if len(place.regions) == 1:
+        return name
+    longest = ", the longest %s" % lasting(place.longest) if place.longest >= UNLIKE * place.median else ""
+    return "%s, %d times, the median %s%s" % (name, len(place.regions), lasting(place.median), longest)
+
+
+def program_line(program):
+    """How the program's time divides, the greatest part first."""
+    parts = [(program.outside, "outside of regions")] + \
+        [(place.outermost, "in " + place_words(place)) for place in program.places]
+    reported = sorted((part for part in parts if part[0] >= LEAST * program.elapsed), key=lambda part: -part[0])
+    words = ["%.1f %% %s" % (100 * part / program.elapsed, where) for part, where in reported[:MOST_TOLD]]
+    inside = max((place for place in program.places if place.is_inside), key=lambda place: place.total("code"),
+                 default=None)
+    if inside:
+        words.append("inside others %s" % place_words(inside))
+    if sum(part for part, _ in parts) >= (1 + LEAST) * program.elapsed:
+        words.append("together more than all of it, since regions of several threads ran at once")
+    return "%s: %s (measured)" % (lasting(program.elapsed), "; ".join(words))
 
 
 def threads_of(head):
@@ -211,3 +264,10 @@ def other_region(answers):
     head = answers.head
     return "%s: work %s, span %s" % (", ".join(filter(None, (answers.name, part_of_program(head)))),
                                      costs(answers.work, head), costs(answers.span, head))
+
+
+def all_lines(recording, answers, diagnosis, account=(), news=(), others=()):
+    """All that is known of a run: the summary, what the time was lost to, and what the processor counted."""
+    return summary(answers, news, others, account, program_of(recording.text), asleep_in(recording, answers)) + \
+        named("losses", diagnosis.sum_lines() if diagnosis else []) + \
+        named("counters", counter_words(recording.meta.get("counters") or {}))

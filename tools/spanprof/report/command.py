@@ -5,19 +5,14 @@ import os
 import sys
 
 from spanprof.answers import Answers
-from spanprof.command import Console, check_files, count, end_with, percent, show, writing
-from spanprof.diagnosis.compare import as_json as comparison_json, compared, is_slower, lines as comparison_lines
-from spanprof.diagnosis.output import output_of
-from spanprof.errors import Fault
-from spanprof.progress import Progress
+from spanprof.command import Console, Fault, Progress, Version, check_files, count, end_with, percent, show, writing
+from spanprof.diagnosis.output import compared, comparison_json, comparison_lines, is_slower, output_of
 from spanprof.recording import open_recording, text_of
+from spanprof.report.exports import folded, stacks, trace_text
 from spanprof.report.page import page
-from spanprof.report.stacks import folded, stacks
-from spanprof.report.trace_events import trace_text
 from spanprof.report.view import View
 from spanprof.run_json import run_json
 from spanprof.time_breakdown import recorded_breakdown
-from spanprof.version import Version
 
 DESCRIPTION = """Prints the diagnosis of a recording, and writes a page: one HTML file that needs no network. With two
 recordings, compares them."""

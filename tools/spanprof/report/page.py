@@ -3,17 +3,13 @@ import json
 import os
 from string import Template
 
-from spanprof.progress import Progress, each
-from spanprof.report.colours import colour_rules
-from spanprof.report.markup import join, markup
-from spanprof.report.part_changes import changes_part
+from spanprof.command import Progress, each
+from spanprof.report.markup import colour_rules, join, markup
 from spanprof.report.part_curve import curve_part
-from spanprof.report.part_diagnosis import first_part
+from spanprof.report.part_diagnosis import changes_part, first_part
 from spanprof.report.part_numbers import numbers_part
-from spanprof.report.part_places import places_part
-from spanprof.report.part_source import source_part
-from spanprof.report.part_timeline import timeline_part
-from spanprof.report.timeline_data import timeline_data
+from spanprof.report.part_places import places_part, source_part
+from spanprof.report.timeline import timeline_data, timeline_part
 
 HERE = os.path.dirname(os.path.abspath(__file__))
 SCRIPTS = ("data.js", "stretch.js", "drawing.js", "words.js", "chosen.js", "lanes.js", "levels.js", "controls.js",

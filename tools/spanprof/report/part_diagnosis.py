@@ -1,16 +1,22 @@
-"""The first screen: a sentence, three times, where the threads' time went, the change as a diff, the plan, how sure."""
+"""The first screen: a sentence, three times, where the threads' time went, the change as a diff, the plan, how sure;
+and what each change that was tried would bring, with the line of spanprof-whatif that asks for it.
+"""
+import shlex
+
 from spanprof.diagnosis.causes import AT_BEST
+from spanprof.diagnosis.names import diff
 from spanprof.diagnosis.sentences import (after_words, change_sentence, loss_name, lost_sentence, several, speed_words,
                                           sure_words, unsure, word_of_best, words_of_threads)
-from spanprof.diagnosis.source_change import diff
-from spanprof.durations import lasting
+from spanprof.head import lasting
 from spanprof.report.figures import PROVED, badge
-from spanprof.report.markup import join, tag
+from spanprof.report.markup import join, note, section, table, tag
 
 LEAST = 0.02        # of the threads' time, from which on a loss is a part of the bar
 LEAST_SEEN = 0.04   # from which on there is room for its share
 MOST_PARTS = 4
 LETTERS = 110       # that fit into a line of the bar
+MOST = 20
+HEADS = ("change", "the run takes", "less", "90 % interval")
 
 
 def headline(found):
@@ -120,3 +126,35 @@ def first_part(view):
     reported, head = view.diagnosis, view.answers.head
     screen = first_screen(reported, len(head.remarks) + len(head.locks)) if reported else without_run(view)
     return tag("section", screen, id="summary")
+
+
+def command(name, threads, requests):
+    words = [word for request in requests for word in ("--" + request.option, request.word)]
+    return " ".join(map(shlex.quote, ["spanprof-whatif", name, *words, "--threads", str(threads)]))
+
+
+def change_cell(view, number, step):
+    """In words, and the command; a bound has none."""
+    reported, name = view.diagnosis, "change-%d" % number
+    words = tag("span", change_sentence(reported.found.facts, reported.names, step), class_="place")
+    if not step.change:
+        return tag("span", words, class_="where change")
+    line = command(view.name, reported.found.facts.threads, step.change.requests)
+    return tag("span", words, tag("code", line, id=name, title=line),
+               tag("button", "copy", type="button", data_copy=name), class_="where change")
+
+
+def row(view, number, step):
+    between = "%s and %s" % (lasting(step.low), lasting(step.high)) if step.change else ""
+    return [change_cell(view, number, step), after_words(step),
+            "%.0f %%" % (100 * step.gain / max(step.before, 1)), between]
+
+
+def changes_part(view):
+    """Nothing where no change was tried that brings something."""
+    steps = view.diagnosis.found.steps[:MOST] if view.diagnosis else []
+    return section("changes", "What-if changes", note(
+        "Each change alone, the most certain and valuable ones first. Whether the program stays correct is for you to "
+        "judge. The command below a change tries it again; several options make several changes at once."),
+        tag("div", table(HEADS, [row(view, number, step) for number, step in enumerate(steps)], numeric=(1, 2, 3)),
+            class_="given")) if steps else ""

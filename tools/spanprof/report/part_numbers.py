@@ -1,11 +1,9 @@
 """One table of numbers that the first screen has not: work, span, how busy the threads were; and the warnings."""
-from spanprof.breakdown_lines import proved_sums
-from spanprof.head import CLOCKS
+from spanprof.head import (CLOCKS, against_parallelism, against_span, gain_may_be_less, least_end, lock_binds,
+                           share_covered, speaks_of, tasks_made, why_not_of_more_threads)
 from spanprof.report.figures import MEASURED, PROVED, badge
-from spanprof.report.markup import join, note, section, tag
-from spanprof.report.tables import table
-from spanprof.validity import (against_parallelism, against_span, gain_may_be_less, least_end, lock_binds,
-                               share_covered, speaks_of, tasks_made, why_not_of_more_threads)
+from spanprof.report.markup import join, note, section, table, tag
+from spanprof.time_breakdown import proved_sums
 
 PARTS = {"code": "in your code", "recorder": "in the recorder", "preempted": "preempted in code",
          "asleep": "asleep in code", "at locks": "waiting for locks", "delayed": "scheduling delay",

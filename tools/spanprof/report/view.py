@@ -4,20 +4,15 @@ from array import array
 from functools import cached_property
 from typing import List, NamedTuple
 
-from spanprof.answers import Answers
+from spanprof.answers import Answers, places, task_places
 from spanprof.diagnosis.output import diagnosis_of
 from spanprof.recording import folder_of, open_recording
-from spanprof.report.colours import BARS
-from spanprof.report.figures import DECLARED, MEASURED, RECORDED, Figures
-from spanprof.report.levels import levels_in, levels_of_greedy
-from spanprof.report.places import places, task_places
-from spanprof.report.true_times import true_times_beside
-from spanprof.report.units import Units
-from spanprof.source import Sources
-from spanprof.source_lines import OF_A_STATEMENT, line_of, stretches
+from spanprof.report.figures import DECLARED, MEASURED, RECORDED, Figures, Units
+from spanprof.report.markup import MOST_COLOURS
+from spanprof.report.part_curve import true_times_beside
+from spanprof.report.timeline import levels_in, levels_of_greedy
+from spanprof.source_lines import OF_A_STATEMENT, Sources, line_of, stretches
 from spanprof.time_breakdown import recorded_breakdown, times_name
-
-COLOURS = len(BARS)
 
 
 class RecordedRun(NamedTuple):
@@ -64,7 +59,7 @@ class View:
 
     def colour_of(self, task_place):
         """The number of a colour: one for each of the first places of tasks, and one for all others."""
-        return min(task_place.number, COLOURS - 1)
+        return min(task_place.number, MOST_COLOURS - 1)
 
     def task_place_at(self, place):
         """That of the tasks of which the segments at a place are."""

@@ -1,10 +1,9 @@
 import json
 import unittest
 
-from spanprof.breakdown_lines import as_json, breakdown_lines, lines_of, proved_sums
-from spanprof.durations import lasting
+from spanprof.head import lasting
 from spanprof.tests.proofs import with_a_proved_program
-from spanprof.time_breakdown import TimeBreakdown, Blocked
+from spanprof.time_breakdown import Blocked, TimeBreakdown, as_json, breakdown_lines, lines_of, proved_sums
 
 MS = 10 ** 6
 setUpModule = with_a_proved_program

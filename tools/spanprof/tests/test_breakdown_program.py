@@ -4,7 +4,7 @@ import unittest
 from unittest import mock
 
 from spanprof import client
-from spanprof.breakdown_program import NoBreakdown, answered, in_words
+from spanprof.time_breakdown import NoBreakdown, answered, in_words
 
 
 class Refused(unittest.TestCase):

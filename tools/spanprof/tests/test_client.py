@@ -6,7 +6,7 @@ import unittest
 from unittest import mock
 
 from spanprof import client
-from spanprof.errors import Fault
+from spanprof.command import Fault
 
 
 class Asking(unittest.TestCase):

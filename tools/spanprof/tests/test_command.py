@@ -10,8 +10,7 @@ import unittest
 from unittest import mock
 
 from spanprof import folders
-from spanprof.command import INTERRUPTED, Console, check_files, end_with, leave, naming, show, writing
-from spanprof.errors import Fault
+from spanprof.command import INTERRUPTED, Console, Fault, check_files, end_with, leave, naming, show, writing
 from spanprof.tests.in_folder import InFolder, answered
 
 

@@ -4,7 +4,7 @@ import unittest
 from unittest import mock
 
 from spanprof import converting
-from spanprof.errors import Fault
+from spanprof.command import Fault
 from spanprof.recording import open_recording
 from spanprof.tests.in_folder import InFolder
 from spanprof.tests.recordings import recording

@@ -1,10 +1,13 @@
 """Which part of the package imports which: none in a circle. And only commands end the process."""
 import ast
 import os
+import subprocess
+import sys
 import unittest
 
 PACKAGE = os.path.dirname(os.path.dirname(os.path.abspath(__file__)))
-ENDS = {"command.py", "convert_command.py", "version.py", "run.py"}  # run.py ends as the recorded program did
+ENDS = {"command.py", "convert_command.py", "run.py"}  # run.py ends as the recorded program did
+MOST_FILES = 36     # that a reader of one summary has to know
 SHARED = ""     # the modules of the package itself
 # Each may import those before it.
 LAYERS = (SHARED, "conformance", "predict", "whatif", "diagnosis", "report", "path", "record", "graph", "imports",
@@ -42,6 +45,15 @@ class Layers(unittest.TestCase):
             with open(path, encoding="utf-8") as file:
                 if os.path.basename(path) not in ENDS:
                     self.assertNotRegex(file.read(), r"SystemExit|sys\.exit", path)
+
+    def test_a_summary_loads_few_files(self):
+        """What `spanprof record` loads before it prints; what few runs need is loaded where it is used."""
+        code = "import sys; from spanprof.front import command; command.main_of('record'); " \
+            "print(*(name for name, module in sys.modules.items() " \
+            "if name.startswith('spanprof.') and not hasattr(module, '__path__')), sep='\\n')"
+        reported = subprocess.run([sys.executable, "-B", "-c", code], cwd=os.path.dirname(PACKAGE), capture_output=True,
+                                  text=True, check=True)
+        self.assertLessEqual(len(reported.stdout.split()), MOST_FILES, reported.stdout)
 
     def test_what_is_imported(self):
         self.assertEqual(list(imported("import os\nfrom spanprof import client\nfrom spanprof.record.run import run\n"

@@ -4,8 +4,8 @@ import tempfile
 import threading
 import unittest
 
-from spanprof.built import Product, find_or_build
-from spanprof.errors import Fault
+from spanprof.command import Fault
+from spanprof.converting import Product, find_or_build
 
 PRODUCT = Product("made", "the thing", "some-package")
 MAKEFILE = "made: it.cpp room/other.cpp\n\techo begun >> runs && sleep 0.1 && echo whole > $@.new && mv $@.new $@\n"

@@ -4,8 +4,7 @@ import unittest
 from collections import Counter
 
 from spanprof import folders
-from spanprof.marks import LONGEST_KNOWN, Marks, as_text, statements
-from spanprof.program_text import Statement, is_programs, where
+from spanprof.program_text import LONGEST_KNOWN, Marks, Statement, as_text, is_programs, statements, where
 from spanprof.tests.columns import segments_of
 from spanprof.whatif.tests.made_up import ROW, SORT, changed, read
 

@@ -4,7 +4,7 @@ import os
 import types
 import unittest
 
-from spanprof.progress import Progress, bytes_read, each
+from spanprof.command import Progress, bytes_read, each
 
 
 class Stream(io.StringIO):

@@ -3,7 +3,7 @@ import os
 import unittest
 from unittest import mock
 
-from spanprof import proof
+from spanprof import checksums, client
 from spanprof.tests.in_folder import InFolder
 
 CLAIM = "proved of the text"
@@ -13,8 +13,8 @@ class Programs(InFolder):
     def setUp(self):
         super().setUp()
         self.path = self.program("spanprof", "#!/bin/sh\necho span 3\n")
-        proof.not_proved.cache_clear()
-        self.addCleanup(proof.not_proved.cache_clear)
+        client.not_proved.cache_clear()
+        self.addCleanup(client.not_proved.cache_clear)
 
     def checksum(self, name="spanprof"):
         with open(self.path, "rb") as file:
@@ -22,7 +22,7 @@ class Programs(InFolder):
 
     def said(self, words):
         with mock.patch.dict(os.environ, SPANPROF_LARGE=words):
-            return proof.proved(CLAIM)
+            return client.proved(CLAIM)
 
     def test_a_program_with_its_checksum(self):
         self.checksum()
@@ -46,12 +46,12 @@ class Programs(InFolder):
     def test_the_checksum_of_another_name(self):
         for name in ("spanprof_large", "spanprof more"):
             self.checksum(name)
-            self.assertFalse(proof.is_proved(self.path), name)
+            self.assertFalse(checksums.is_proved(self.path), name)
 
     def test_what_is_no_checksum(self):
         for words in ("", "\x00\x7f", "é", "0 1 2"):
             self.write("spanprof.sha256", words)
-            self.assertFalse(proof.is_proved(self.path), words)
+            self.assertFalse(checksums.is_proved(self.path), words)
 
     def test_a_stub_that_asks_the_program(self):
         self.checksum()
@@ -71,7 +71,7 @@ class Programs(InFolder):
 
     def test_it_is_read_once_in_a_run(self):
         self.checksum()
-        with mock.patch("spanprof.proof.is_proved", return_value=True) as read:
+        with mock.patch("spanprof.checksums.is_proved", return_value=True) as read:
             self.assertEqual([self.said(self.path) for _ in range(3)], [CLAIM] * 3)
         self.assertEqual(read.call_count, 1)
 

@@ -5,7 +5,7 @@ from copy import deepcopy
 from unittest import mock
 
 from spanprof import client, folders
-from spanprof.errors import Fault
+from spanprof.command import Fault
 from spanprof.head import OLDER, UNREAD, Head, read_head, warning_lines, with_function
 from spanprof.program_text import has_loops
 from spanprof.tests.columns import segments_of

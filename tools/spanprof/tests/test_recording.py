@@ -5,8 +5,8 @@ import unittest
 from unittest import mock
 
 from spanprof import recording
-from spanprof.errors import Fault
-from spanprof.regions import program_of
+from spanprof.command import Fault
+from spanprof.recording import program_of
 from spanprof.tests.in_folder import InFolder
 from spanprof.tests.recordings import TEXT, TIMES, recording as made, write
 

@@ -3,9 +3,8 @@ import os
 import tempfile
 import unittest
 
-from spanprof.errors import Fault
-from spanprof.recording import LOG
-from spanprof.regions import most_threads, program_of, read_regions
+from spanprof.command import Fault
+from spanprof.recording import LOG, most_threads, program_of, read_regions
 
 TABLE = """\
 number,text,begin_ns,end_ns,threads,tasks,loops,code_ns,inside,place

@@ -4,9 +4,8 @@ import os
 import re
 import unittest
 
-from spanprof.head import Head
+from spanprof.head import Head, moved
 from spanprof.remarks import UNFINISHED, WORDS, in_json, in_words, read_remark, remark_of
-from spanprof.validity import moved
 
 RECORDER = os.path.join(os.path.dirname(os.path.abspath(__file__)), "../../openmp_recorder/converter/remarks.cpp")
 

@@ -4,7 +4,7 @@ import tempfile
 import unittest
 from unittest import mock
 
-from spanprof.errors import Fault
+from spanprof.command import Fault
 from spanprof.record.tests.made_up import Answers
 from spanprof.run_json import run_json, write_json
 from spanprof.time_breakdown import TimeBreakdown

@@ -5,8 +5,8 @@ import tempfile
 import unittest
 from unittest import mock
 
-from spanprof import segment_file
-from spanprof.errors import Fault
+from spanprof import segment_table
+from spanprof.command import Fault
 from spanprof.segment_table import Code, Kind, code_in, read_code
 from spanprof.tests.recordings import TEXT as OF_A_RECORDING, recording
 from spanprof.tests.test_segment_table import TEXT
@@ -22,7 +22,7 @@ LAST = {"segments": 7, "kinds": KINDS, "long": [6, 1 << 33], "sums": SUMS, "own"
 ROWS = [(0, 0, 7), (1, 1, 5), (2, 1, 6), (3, 0, 0), (4, 2, 1), (5, 0, 0), (6, 0, 0)]    # kind, task, cost
 
 
-def table(rows, reported, of_a_block=segment_file.OF_A_BLOCK):
+def table(rows, reported, of_a_block=segment_table.OF_A_BLOCK):
     """As the converter writes it."""
     out = b""
     for first in range(0, len(rows), of_a_block):
@@ -36,7 +36,7 @@ def read(data):
         path = os.path.join(folder, "segments")
         with open(path, "wb") as file:
             file.write(data)
-        return segment_file.read_into(Code(), path, Kind)
+        return segment_table.read_into(Code(), path, Kind)
 
 
 class OfARecording(unittest.TestCase):
@@ -54,7 +54,7 @@ class OfARecording(unittest.TestCase):
     def test_what_else_is_added_up(self):
         more = {"phases": [[4, 1, 1, 0, 0, 1, 0]], "delays": [[4, 900, 50], [6, 0, 0]],
                 "barriers": [[4, 1, 30, [[4, 70], [None, 0]], [[4, 20]]]],
-                "regions": {"tasks": True, "places": [["a.c:8", 2, 70, [[4, 50, 9], [2, 20, 0]]]]}}
+                "regions": {"tasks": True, "places": [["a.c:8", 2, 70, 90, [[4, 50, 9], [2, 20, 0]]]]}}
         found = read(table(ROWS, {**LAST, **more}))
         self.check(found)
         self.assertEqual((found.phases, found.delays), (more["phases"], more["delays"]))
@@ -62,12 +62,12 @@ class OfARecording(unittest.TestCase):
         self.assertEqual(found.regions, (True, more["regions"]["places"]))
         for name, value in (("phases", [[7, 1, 1, 0, 0, 1, 0]]), ("phases", [[4, 1]]), ("delays", [[4, 900, ""]]),
                             ("barriers", [[4, 1, 30, [[7, 70]], []]]), ("barriers", [[4, 1, 30, []]]),
-                            ("regions", {"tasks": True, "places": [["a.c:8", 2, 70, [[4, 50]]]]}), ("regions", {})):
+                            ("regions", {"tasks": True, "places": [["a.c:8", 2, 70, 90, [[4, 50]]]]}), ("regions", {})):
             with self.assertRaisesRegex(Fault, "segments is damaged"):
                 read(table(ROWS, {**LAST, **more, name: value}))
 
     def test_block_by_block(self):
-        with mock.patch("spanprof.segment_file.OF_A_BLOCK", 3):
+        with mock.patch("spanprof.segment_table.OF_A_BLOCK", 3):
             self.check(read(table(ROWS, LAST, 3)))
 
     def test_damage(self):

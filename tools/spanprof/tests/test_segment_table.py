@@ -1,6 +1,6 @@
 import unittest
 
-from spanprof.errors import Fault
+from spanprof.command import Fault
 from spanprof.segment_table import read_code
 
 TEXT = """omptasks 1

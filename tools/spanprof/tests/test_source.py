@@ -2,8 +2,8 @@ import os
 import tempfile
 import unittest
 
-from spanprof.source import Sources
 from spanprof.report.tests.worked import FOLDER
+from spanprof.source_lines import Sources
 
 
 class Files(unittest.TestCase):

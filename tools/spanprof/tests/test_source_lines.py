@@ -1,7 +1,7 @@
 import unittest
 
 from spanprof.program_text import Segment
-from spanprof.source_lines import Stretch, after_directive, line_of, statement_end, stretch_of
+from spanprof.source_lines import Stretch, after_directive, line_of, statement_below, statement_end, stretch_of
 from spanprof.tests.columns import code_of
 
 CODE = code_of([Segment(0, "", "", ""), Segment(1, "a.c:5", "", ""), Segment(0, "", "creating a task", "a.c:5"),
@@ -50,6 +50,12 @@ class Lines(unittest.TestCase):
         self.assertEqual(statement_end(["f(a,", "  b);", "g();"], 1), 2)
         self.assertEqual(statement_end(["#pragma omp x", "{", "  h();", "}"], 1), 4)
         self.assertEqual(after_directive(["#pragma omp task \\", "  untied", "f();"], 1), 3)
+
+    def test_below_a_directive(self):
+        lines = ["#ifdef NEW", "#pragma omp for \\", "    schedule(dynamic)", "#else", "#pragma omp for", "#endif", "",
+                 "for (;;)", "  f();"]
+        self.assertEqual([statement_below(lines, number) for number in (2, 5)], [8, 8])
+        self.assertEqual(statement_below(["#pragma omp barrier"], 1), 2)
 
     def test_words(self):
         self.assertEqual([Stretch("a.c", 5, last).words for last in (5, 9)], ["line 5", "lines 5 to 9"])

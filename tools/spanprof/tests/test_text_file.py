@@ -1,7 +1,7 @@
 import unittest
 
+from spanprof.program_text import TextFile, is_cut, opened
 from spanprof.tests.in_folder import InFolder
-from spanprof.text_file import TextFile, is_cut, opened
 
 DOCUMENT = "omptasks 1\nwork 2\n---\nstart 0 0\n"
 

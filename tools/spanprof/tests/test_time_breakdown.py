@@ -4,14 +4,13 @@ import unittest
 from array import array
 from unittest import mock
 
-from spanprof.breakdown_program import NoBreakdown
-from spanprof.errors import Fault
+from spanprof.command import Fault
 from spanprof.head import Lock
 from spanprof.record.tests.made_up import Answers, Head
 from spanprof.remarks import remark_of
 from spanprof.tests.columns import code_of, rows_of
-from spanprof.time_breakdown import (TimeBreakdown, Blocked, recorded_breakdown, breakdown_by_kind, breakdown_of,
-                                     divide_busy, times_name)
+from spanprof.time_breakdown import (Blocked, NoBreakdown, TimeBreakdown, breakdown_by_kind, breakdown_of,
+                                     divide_busy, recorded_breakdown, times_name)
 
 SUMS = "threads 2\nelapsed 14\nbusy 11\ndelayed 7\nstarved 8\noutside 2\n"
 ROWS = [(0, 0, 0, 5), (0, 5, 6, 9), (0, 5, 9, 11), (1, 11, 12, 13)]

@@ -1,8 +1,8 @@
 """In tools/: python3 -m unittest discover -s spanprof/tests -t ."""
 import unittest
 
+from spanprof.recording import times_in
 from spanprof.tests.in_folder import InFolder
-from spanprof.times_file import times_in
 
 
 class Times(InFolder):

@@ -6,7 +6,7 @@ from judge_changes import AFTER, Row, changed, lines, requests, table
 from judging import Judged
 
 from spanprof.predict.recorded import recorded_as
-from spanprof.marks import statements
+from spanprof.program_text import statements
 
 TEXT = """# recorded: {"program": "a", "threads": 4, "unit": "ns"}
 # region: {"at": "a.c:9", "number": 1, "of": 1}

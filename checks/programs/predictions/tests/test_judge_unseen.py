@@ -1,5 +1,6 @@
 import contextlib
 import io
+import os
 import pathlib
 import re
 import tempfile
@@ -10,12 +11,12 @@ from unittest import mock
 import judge_unseen
 import kept_unseen
 from changes import MADE
-from judge_unseen import (AFTER, BEFORE, KINDS, Measured, Task, cell, in_groups, judge, judge_all, judge_program,
-                          judged, line, read_measured, runs_of, table, tasks)
+from judge_unseen import (AFTER, BEFORE, CHANGED, FROM_FEWER, FROM_FOUR, Measured, Task, cell, in_groups, judge,
+                          judge_all, judge_program, judged, line, read_measured, runs_of, table, tasks)
 from judging import Judged
 from quiet import Used
-from runs import HERE
-from unseen import UNSEEN, unseen
+from runs import source_of
+from unseen import SETS, unseen
 
 from spanprof.predict.machine import Machine, write_machine
 from spanprof.predict.recorded import recorded_as
@@ -34,11 +35,13 @@ NOTHING = Machine({1: {}}, {})
 
 
 WORDS = unseen("words", ("task", "after taskwait at words.c"))
-FROM_FOUR, FROM_FEWER, CHANGED = KINDS
 
 
-def source_of(one):
-    return (HERE / "unseen" / (one.name + ".c")).read_text(encoding="utf-8")
+def programs():
+    """Of all sets, each with the path of its source."""
+    for name, several in SETS.items():
+        for one in several:
+            yield one, source_of(one, os.path.join("unseen", name))
 
 
 def predicted(time, program="a", true=100):
@@ -178,20 +181,20 @@ class Folder(unittest.TestCase):
 
 class Programs(unittest.TestCase):
     def test_none_of_those_that_the_model_was_fitted_to(self):
-        names = [one.name for one in UNSEEN]
+        names = [one.name for one, _ in programs()]
         self.assertEqual(len(names), len(set(names)))
         self.assertFalse({*names} & {one.name for one in MADE})
 
     def test_sources(self):
-        for one in UNSEEN:
-            self.assertIn("REWRITTEN", source_of(one))
+        for one, path in programs():
+            self.assertEqual("REWRITTEN" in path.read_text(encoding="utf-8"), bool(one.changes), one.name)
 
     def test_places(self):
         """Each line that a change names is one of a task or a wait."""
-        for one in UNSEEN:
-            lines = source_of(one).splitlines()
+        for one, path in programs():
+            lines = path.read_text(encoding="utf-8").splitlines()
             for _, word in one.changes:
-                for number in re.findall(r"\.c:(\d+)", word):
+                for number in re.findall(re.escape(path.name) + r":(\d+)", word):
                     self.assertRegex(lines[int(number) - 1], "#pragma omp task", (one.name, word))
 
 

@@ -6,7 +6,7 @@ TOOLS = os.path.join(os.path.dirname(os.path.abspath(__file__)), "..", "..", "..
 sys.path.insert(0, TOOLS)
 
 from comparing import Ends, ends, first_difference, largest, least, shape, work
-from spanprof.marks import statements
+from spanprof.program_text import statements
 
 TEXT = "omptasks 1\nwork 3\ntask depend(in: b) depend(out: a) { # x.c:3\nwork 5\n}\ntaskwait\n"
 

@@ -1,16 +1,104 @@
-"""Writes a program as C with OpenMP tasks. To test another language, write its like of this file and of harness/."""
+"""Writes a program as C with OpenMP tasks: the variables that stand for its locations, and `depend` clauses, which are
+plain ones, with iterators, or by depend objects. To test another language, write its like of this file and of harness/.
+"""
+
 from spanprof.conformance.data import DATA
-from spanprof.conformance.emit.depend import Objects, clauses
-from spanprof.conformance.emit.forms import (addends, adds, chunks_of, form_of, has_sum, is_cancelled, is_detached,
-                                             is_of_regions, is_target, is_wait_for_items)
-from spanprof.conformance.emit.locations import Locations
-from spanprof.conformance.emit.loops import head_of, head_of_taskloop, written_chunks
+from spanprof.conformance.emit.forms import (addends, adds, chunks_of, form_of, has_sum, head_of, head_of_taskloop,
+                                             is_cancelled, is_detached, is_of_regions, is_target, is_wait_for_items,
+                                             kind_in_c, written_chunks)
 from spanprof.conformance.generate.program import Group, Loop, Task, Wait, Work, segment_count
-from spanprof.conformance.generate.text_writer import text_of
+from spanprof.conformance.generate.text_writer import item_runs, text_of
 
 TEMPLATE = DATA / "harness" / "program.c.in"
 WAITED_FOR, CREATES = 1, 2  # what the harness delays: see delays.c
 OF_TASKS = ("untied", "mergeable", "priority")  # clauses that are written in C as in the text's comments
+
+
+class Locations:
+    """One variable for each plain name, an array for each subscripted one."""
+
+    def __init__(self, body):
+        self.plain, self.least, self.most = set(), {}, {}
+        self.collect(body, {})
+
+    def collect(self, body, bounds):
+        for node in body:
+            for item in getattr(node, "items", ()):
+                self.add(item, bounds)
+            if isinstance(node, Loop):
+                if node.turns:
+                    self.collect(node.body, {**bounds, node.var: (node.first, node.last)})
+            elif hasattr(node, "body"):
+                self.collect(node.body, bounds)
+
+    def add(self, item, bounds):
+        if item.index is None:
+            self.plain.add(item.name)
+            return
+        low, high = bounds.get(item.index.var, (0, 0))
+        least, most = low + item.index.offset, high + item.index.offset
+        self.least[item.name] = min(self.least.get(item.name, least), least)
+        self.most[item.name] = max(self.most.get(item.name, most), most)
+
+    def declarations(self):
+        lines = [f"static char at_{name};" for name in sorted(self.plain)]
+        for name in sorted(self.least):
+            lines.append(f"static char at_{name}_[{self.most[name] - self.least[name] + 1}];")
+        return "\n".join(lines)
+
+    def of(self, item):
+        """The variable of an item."""
+        if item.index is None:
+            return f"at_{item.name}"
+        offset = item.index.offset - self.least.get(item.name, 0)
+        var = f"v_{item.index.var} + " if item.index.var else ""
+        return f"at_{item.name}_[{var}{offset}]"
+
+
+def follows(item, run):
+    """Whether an item is of the same array as those of a run, at the next place."""
+    first = run[0]
+    return item.name == first.name and None not in (item.index, first.index) and \
+        item.index.var == first.index.var and item.index.offset == first.index.offset + len(run)
+
+
+def rows(items):
+    """The longest runs of neighbouring items that are at places one after another."""
+    found = []
+    for item in items:
+        if found and follows(item, found[-1]):
+            found[-1].append(item)
+        else:
+            found.append([item])
+    return found
+
+
+def over_row(kind, row, place_of):
+    """The clause of a row of items: one place, or all by an iterator."""
+    place = place_of(row[0])
+    if row[0].index is None:
+        return f" depend({kind}: {place})"
+    return f" depend(iterator(at = 0:{len(row)}), {kind}: {place[:-1]} + at])"
+
+
+def clauses(task, place_of):
+    """The clauses of a task's items; `place_of` is the variable of an item."""
+    runs = [(kind_in_c(kind, task), items) for kind, items in item_runs(task.items)]
+    if "iterator" in task.clauses:
+        return "".join(over_row(kind, row, place_of) for kind, items in runs for row in rows(items))
+    return "".join(f" depend({kind}: {', '.join(map(place_of, items))})" for kind, items in runs)
+
+
+class Objects:
+    """The items of a task as depend objects: what comes before the task, its clause, and what comes after it."""
+
+    def __init__(self, task, place_of):
+        names = [f"object_{number}" for number in range(len(task.items))]
+        self.declaration = f"omp_depend_t {', '.join(names)};"
+        self.before = [f"depobj({name}) depend({kind_in_c(item.kind, task)}: {place_of(item)})"
+                       for name, item in zip(names, task.items)]
+        self.clause = f" depend(depobj: {', '.join(names)})"
+        self.after = [f"END_OF_OBJECT({name})" for name in names]
 
 
 class Emitter:

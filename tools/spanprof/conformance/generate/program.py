@@ -1,11 +1,18 @@
-"""A program of tasks as a tree.
+"""A program of tasks as a tree, and its tasks written as tied or as untied ones.
 
 A program is the body of the root: a tuple of statements. docs/FORMATS.md says what each statement means.
 """
+import itertools
 from dataclasses import dataclass, replace
 
 KINDS = ("in", "out", "inout", "inoutset")
 C_KINDS = (*KINDS, "mutexinoutset")  # of depend items in C
+# Which tasks are untied, counted from 0 in the order of the text.
+VARIANTS = {
+    "tied": lambda number: False,
+    "untied": lambda number: True,
+    "mixed": lambda number: number % 2 == 0,
+}
 
 
 @dataclass(frozen=True)
@@ -94,3 +101,18 @@ def segment_count(body):
         elif not isinstance(node, Work):
             count += inner + (2 if isinstance(node, Task) else 1)
     return count
+
+
+def in_variant(body, variant):
+    """The program with its tasks written as this variant has them."""
+    return rewritten(body, VARIANTS[variant], itertools.count())
+
+
+def rewritten(body, is_untied, numbers):
+    made = []
+    for node in body:
+        if isinstance(node, Task):
+            rest = tuple(clause for clause in node.clauses if clause != "untied")
+            node = replace(node, clauses=("untied",) * is_untied(next(numbers)) + rest)
+        made.append(with_body(node, rewritten(node.body, is_untied, numbers)) if hasattr(node, "body") else node)
+    return tuple(made)

@@ -1,9 +1,9 @@
 """Reads a program's text into a tree. spanprof alone says what is a program; this reads only what it has accepted."""
 import re
 
+from spanprof.command import Fault
 from spanprof.conformance.emit.forms import GROUP_FORMS, LOOP_FORMS
 from spanprof.conformance.generate.program import KINDS, Group, Index, Item, Loop, Task, Wait, Work
-from spanprof.errors import Fault
 from spanprof.program_text import lines_of
 
 CLAUSE = re.compile(r"untied|mergeable|priority\([0-9]+\)|taskwait|detach|depobj|iterator|mutexinoutset|copied|target|"

@@ -8,20 +8,17 @@ from dataclasses import dataclass, field, replace
 
 from spanprof.conformance.emit.forms import is_of_regions
 from spanprof.conformance.emit.tasks import c_text
+from spanprof.conformance.generate.program import VARIANTS
 from spanprof.conformance.generate.text_writer import text_of
-from spanprof.conformance.generate.variants import VARIANTS
 from spanprof.conformance.judge.chunks import wrong_chunks
-from spanprof.conformance.judge.coverage import Coverage
+from spanprof.conformance.judge.coverage import Coverage, other_rules
 from spanprof.conformance.judge.discarding import completed, may_discard, record_of, without_discarded
 from spanprof.conformance.judge.exclusion import overlapping
-from spanprof.conformance.judge.expected import Expectations
 from spanprof.conformance.judge.explain import explain
-from spanprof.conformance.judge.other_rules import other_rules
 from spanprof.conformance.judge.segments import Table
 from spanprof.conformance.judge.tied import moved, unconstrained
-from spanprof.conformance.judge.verdicts import TOO_MANY, Verdict
-from spanprof.conformance.run.launch import Conditions, launch
-from spanprof.conformance.run.settings import without_harness
+from spanprof.conformance.judge.verdicts import TOO_MANY, Expectations, Verdict
+from spanprof.conformance.run.launch import Conditions, launch, without_harness
 from spanprof.conformance.run.toolchain import BuildFailed
 
 # Settings that programs take for the first of every two numbers of threads, by how their names begin.

@@ -5,8 +5,8 @@ finds the same."""
 import subprocess
 from dataclasses import dataclass
 
+from spanprof.command import Fault
 from spanprof.conformance.judge.segments import Made
-from spanprof.errors import Fault
 from spanprof.folders import places_of, words_for
 
 PARENT_ENDED = ", and the code of their parent has ended"

@@ -6,9 +6,8 @@ has tried, so it follows the table of docs/MODEL.md pair by pair and not the kep
 from dataclasses import dataclass, field
 from typing import NamedTuple
 
-from spanprof.conformance.emit.forms import (chunks_of, form_of, has_sum, is_cancelled, is_detached, is_of_regions,
-                                             kind_in_c)
-from spanprof.conformance.emit.loops import counts_down
+from spanprof.conformance.emit.forms import (chunks_of, counts_down, form_of, has_sum, is_cancelled, is_detached,
+                                             is_of_regions, kind_in_c)
 from spanprof.conformance.generate.program import Group, Loop, Wait, Work
 from spanprof.conformance.generate.text_writer import head_of
 from spanprof.conformance.judge.chunks import Taskloop

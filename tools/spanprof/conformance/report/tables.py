@@ -1,6 +1,5 @@
 """Tables in Markdown."""
-from spanprof.conformance.judge.coverage import MEASURES, TRIED_RULES, all_waits, never
-from spanprof.conformance.judge.other_rules import OTHERS
+from spanprof.conformance.judge.coverage import MEASURES, OTHERS, TRIED_RULES, all_waits, never
 from spanprof.conformance.report.results import EXPECTED, SEEN_ONCE
 from spanprof.conformance.run.self_checking import VARIANT as SELF_CHECKING
 

@@ -1,23 +1,193 @@
-"""Runs many cases side by side."""
+"""Runs many cases side by side, shows a terminal how far it is, and keeps the state of a test.
+
+The same command goes on from that where it was stopped: a file named for what is tested, with a line of JSON for each
+program that was tried. A last line that was cut short, since the process was ended, is taken away. The file goes once
+the whole report is there.
+
+Hangs may be those of a busy machine: such programs are run again, alone and with more time, before they count. A run in
+which each thread slept all the time hangs for sure. One in which a thread was busy may only have been slow.
+"""
 import concurrent.futures
+import fcntl
 import fnmatch
+import hashlib
+import json
 import math
+import os
+import pathlib
 import random
+import sys
 import time
+from dataclasses import dataclass, replace
 
-from spanprof.conformance.run import self_checking
-from spanprof.conformance.judge.cases import Case, Tally
+from spanprof.command import Fault
 from spanprof.conformance.generate.directed import directed_programs, kinds_of
+from spanprof.conformance.generate.program import in_variant
 from spanprof.conformance.generate.random_programs import random_program
-from spanprof.conformance.run.progress import Progress, say
+from spanprof.conformance.judge.cases import Case, Tally
 from spanprof.conformance.report.results import Results
-from spanprof.conformance.run.second_try import SecondTries, doubtful
-from spanprof.conformance.generate.variants import in_variant
+from spanprof.conformance.run import self_checking
 
+BEGUN = time.monotonic()
+MINUTE, HALF_A_MINUTE, SOON = 60, 30, 5
+TO_LINE_END = "\033[K"  # clears what is left of a longer line
+PATIENCE = 5  # times as long as the first time
 KINDS_IN_ORDER = {self_checking.VARIANT: 0, "tied": 1}
 MOST_BUILT = 400  # programs that are there at once
 TICK = 5  # seconds after which progress is reported though no case has ended
 DIRECTED_UNIT, RANDOM_UNIT = 100_000, 1_000  # nanoseconds for a cost of 1
+
+
+@dataclass(frozen=True)
+class Took:
+    """Seconds: by the wall clock, of the tester's own processor time, and of that of all that it started."""
+    wall: float
+    tester: float
+    started: float
+
+    def reported(self):
+        return f"Took {self.wall:.0f} s, and {self.tester + self.started:.0f} s of processor time: " \
+               f"{self.started:.0f} s of compilers, programs and spanprof, {self.tester:.0f} s of the tester."
+
+
+def taken():
+    """What the process took so far, with those of its children that have ended."""
+    user, system, *of_children, _ = os.times()
+    return Took(time.monotonic() - BEGUN, user + system, sum(of_children))
+
+
+def say(words, end="\n"):
+    """Words on standard error, where that is a terminal."""
+    if sys.stderr.isatty():
+        print(words, end=end, file=sys.stderr, flush=True)
+
+
+def rough(seconds):
+    """A time in words."""
+    return f"{seconds:.0f} s" if seconds < 2 * MINUTE else f"{seconds / MINUTE:.0f} min"
+
+
+class Progress:
+    """How many cases are done, and about how long the others take if they are like these: a line of a terminal that
+    changes, or a line of a log soon and then each half minute. Each new kind of failure has a line of its own."""
+
+    def __init__(self, cases):
+        self.cases, self.done, self.failed = cases, 0, 0
+        self.begun = time.perf_counter()
+        self.next, self.kinds = self.begun + SOON, set()
+
+    def add(self, tallies):
+        self.done += 1
+        self.add_failures(tallies)
+        self.show(self.done == self.cases)
+
+    def add_failures(self, tallies):
+        failures = [failure for tally in tallies for failure in tally.failures]
+        self.failed += bool(failures)
+        for failure in failures:
+            self.report(failure)
+
+    def tick(self):
+        """No case has ended, perhaps for long."""
+        if not sys.stderr.isatty():
+            self.show(False)
+
+    def show(self, is_last):
+        left = "" if is_last or not self.done else f", about {rough(self.seconds_left())} left"
+        words = f"{self.done} of {self.cases} cases, {self.failed} with failures{left}"
+        if sys.stderr.isatty():
+            say(f"\r{words}{TO_LINE_END}", "\n" if is_last else "")
+            return
+        at = time.perf_counter()
+        if is_last or at >= self.next:
+            self.next = at + HALF_A_MINUTE
+            print(words, file=sys.stderr, flush=True)
+
+    def report(self, failure):
+        """The first failure of its kind, on a line of its own."""
+        if failure.signature in self.kinds:
+            return
+        self.kinds.add(failure.signature)
+        begin, at = "\r" if sys.stderr.isatty() else "", failure.conditions
+        delays = f", with delays in the runtime by seed {at.perturb}" if at.perturb else ""
+        print(f"{begin}failed: {failure.case.name} ({failure.case.variant}) on {at.threads} threads: "
+              f"{failure.verdict.kind}: {failure.rule}{delays}{TO_LINE_END * bool(begin)}", file=sys.stderr, flush=True)
+
+    def seconds_left(self):
+        return (time.perf_counter() - self.begun) * (self.cases - self.done) / self.done
+
+
+class OtherCampaign(Fault):
+    """Another process has the file."""
+
+
+def path_of(tested, folder):
+    """The file for a test of this in a folder."""
+    digest = hashlib.sha256(json.dumps(tested, sort_keys=True).encode()).hexdigest()
+    return pathlib.Path(folder) / f"conformance-{digest[:12]}.jsonl"
+
+
+class Journal:
+    """`lines` has what an earlier process has kept of a test of the same."""
+
+    def __init__(self, tested, folder="."):
+        self.path = path_of(tested, folder)
+        self.file = open(self.path, "ab")
+        try:
+            fcntl.flock(self.file, fcntl.LOCK_EX | fcntl.LOCK_NB)
+        except BlockingIOError:
+            self.file.close()
+            raise OtherCampaign(f"{self.path}: another process makes the same test") from None
+        text = self.path.read_bytes()
+        size = text.rfind(b"\n") + 1
+        self.file.truncate(size)
+        self.lines = [json.loads(line) for line in text[:size].splitlines()]
+
+    def add(self, line):
+        """Keeps what came of a program."""
+        self.file.write(json.dumps(line).encode() + b"\n")
+        self.file.flush()
+
+    def close(self, is_whole=False):
+        if is_whole:
+            self.path.unlink()
+        self.file.close()
+
+
+def is_doubtful(failure):
+    return failure.verdict.kind == "hung" and failure.verdict.detail != "asleep"
+
+
+def doubtful(tallies):
+    """Whether any of the tallies has such a hang."""
+    return any(is_doubtful(failure) for tally in tallies for failure in tally.failures)
+
+
+class SecondTries:
+    """`again` answers a case's tally under some conditions, with nothing else running. `sure` has the signatures of
+    hangs that were seen again: others like them count without being tried."""
+
+    def __init__(self, again, sure):
+        self.again, self.sure = again, sure
+
+    def settled(self, case, tallies):
+        """The tallies, in which each hang counts or is reported as seen once."""
+        return [self.settled_tally(case, tally) for tally in tallies]
+
+    def settled_tally(self, case, tally):
+        hangs = [failure for failure in tally.failures if is_doubtful(failure)]
+        if all(self.is_sure(case, failure) for failure in hangs):
+            return tally
+        kept = [failure for failure in tally.failures if failure not in hangs]
+        return replace(tally, failures=kept, seen_once=tally.seen_once + len(hangs))
+
+    def is_sure(self, case, failure):
+        if failure.signature in self.sure:
+            return True
+        patient = replace(failure.conditions, timeout=failure.conditions.timeout * PATIENCE)
+        if any(other.verdict.kind == "hung" for other in self.again(case, patient).failures):
+            self.sure.add(failure.signature)
+        return failure.signature in self.sure
 
 
 def cases_of(name, body, variants, unit):

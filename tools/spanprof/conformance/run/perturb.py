@@ -6,9 +6,9 @@ import re
 import shutil
 import subprocess
 
+from spanprof.command import Fault
 from spanprof.conformance.data import DATA
 from spanprof.conformance.run.toolchain import BuildFailed
-from spanprof.errors import Fault
 
 FOLDER = DATA / "perturb"
 LIBRARY = "perturb.so"

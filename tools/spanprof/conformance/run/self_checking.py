@@ -13,13 +13,12 @@ import subprocess
 import time
 from dataclasses import dataclass
 
-from spanprof.conformance.judge.cases import Case, Failure, Tally
 from spanprof.conformance.data import DATA
+from spanprof.conformance.judge.cases import Case, Failure, Tally
+from spanprof.conformance.judge.explain import without_places
 from spanprof.conformance.judge.verdicts import Verdict
 from spanprof.conformance.run import perturb
-from spanprof.conformance.run.launch import breakdown
-from spanprof.conformance.run.settings import SETTINGS, is_of_harness
-from spanprof.conformance.judge.standing import without_places
+from spanprof.conformance.run.launch import SETTINGS, breakdown, is_of_harness
 from spanprof.conformance.run.toolchain import BuildFailed
 
 FOLDER = DATA / "self_checking"

@@ -8,9 +8,9 @@ import shlex
 import shutil
 import subprocess
 
+from spanprof.command import Fault
 from spanprof.conformance.data import DATA
 from spanprof.conformance.generate.program import C_KINDS
-from spanprof.errors import Fault
 
 HARNESS = DATA / "harness"
 PROBE = """#include <omp.h>

@@ -5,8 +5,8 @@ import types
 import unittest
 from unittest import mock
 
+from spanprof.command import Fault
 from spanprof.conformance import command
-from spanprof.errors import Fault
 
 
 def ended(fault):

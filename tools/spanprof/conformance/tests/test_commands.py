@@ -11,11 +11,10 @@ from unittest import mock
 from spanprof.conformance import commands
 from spanprof.conformance.judge.verdicts import Judge, Missing, Verdict
 from spanprof.conformance.opening import unit_in
-from spanprof.conformance.report.publish import publish
-from spanprof.conformance.run.took import Took
-from spanprof.conformance.run.journal import Journal
-from spanprof.conformance.tests.helpers import PLAN, StubBench, failure_of
 from spanprof.conformance.report.tests.test_texts import found_of, report_of
+from spanprof.conformance.report.texts import publish
+from spanprof.conformance.run.campaign import Journal, Took
+from spanprof.conformance.tests.helpers import PLAN, StubBench, failure_of
 
 WORKED = "omptasks 1\nwork 5 task { work 3 } work 2 taskwait work 1\n"
 LOGS = "run 0\nstart 0 0\ndone\nrun 1\nstart 0 0\nstart 0 3\ndone\n"

@@ -4,8 +4,8 @@ import io
 import unittest
 
 from spanprof.conformance.commands import COMMANDS
+from spanprof.conformance.judge.verdicts import USUAL
 from spanprof.conformance.options import parse
-from spanprof.conformance.judge.expected import USUAL
 
 
 def parsed(words):

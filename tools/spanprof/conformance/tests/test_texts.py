@@ -3,10 +3,10 @@ import unittest
 
 from spanprof.conformance.emit.forms import form_of
 from spanprof.conformance.generate.directed import directed_programs, first_comment, kinds_of
-from spanprof.conformance.generate.program import Group, Index, Item, Loop, Task, Wait, Work, nodes, segment_count
+from spanprof.conformance.generate.program import (Group, Index, Item, Loop, Task, Wait, Work, in_variant, nodes,
+                                                   segment_count)
 from spanprof.conformance.generate.text_reader import Unreadable, read_program
 from spanprof.conformance.generate.text_writer import text_of
-from spanprof.conformance.generate.variants import in_variant
 
 TEXT = """omptasks 2
 work 5

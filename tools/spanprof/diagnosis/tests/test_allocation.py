@@ -1,8 +1,7 @@
 """What allocating memory takes, by samples."""
 import unittest
 
-from spanprof.diagnosis.allocation import allocating, most_allocating, of_freeing
-from spanprof.diagnosis.calls import Sampled
+from spanprof.diagnosis.calls import Sampled, allocating, most_allocating, of_freeing
 from spanprof.diagnosis.places import SERIAL
 from spanprof.diagnosis.tests.worked import MS, facts, place
 

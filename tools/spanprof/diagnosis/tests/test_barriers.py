@@ -1,11 +1,10 @@
 import unittest
 from types import SimpleNamespace
 
-from spanprof.diagnosis.barriers import Phase, evened, needless_barriers
 from spanprof.diagnosis.facts import Region
 from spanprof.diagnosis.losses import Loss, of_barriers
 from spanprof.diagnosis.names import Names
-from spanprof.diagnosis.places import OWN
+from spanprof.diagnosis.places import OWN, Phase, evened, needless_barriers
 from spanprof.diagnosis.sentences import words_of_nowait
 from spanprof.diagnosis.tests.worked import MS, facts, program
 

@@ -1,8 +1,8 @@
 import unittest
 from types import SimpleNamespace
 
-from spanprof.diagnosis.bounds import bound_of, bounds
 from spanprof.diagnosis.calls import Sampled
+from spanprof.diagnosis.diagnose import bound_of, bounds
 from spanprof.diagnosis.losses import Loss
 from spanprof.diagnosis.places import OF_THREADS
 from spanprof.diagnosis.tests.worked import MS, facts, place
@@ -48,10 +48,29 @@ class Bounds(unittest.TestCase):
             self.assertEqual((step.after, step.low), (after * MS, low * MS))
         self.assertEqual(bound_of(run, 100 * MS, lost._replace(kind="lock"), [shared, waits]).after, 75 * MS)
 
+    def test_neighbouring_turns_write_the_same_lines_where_chunks_are_small(self):
+        name = "turns of the loop at image.c:9"
+        lost, run = Loss("small_chunks", name, 120 * MS), facts([place(name, "share")], code=200 * MS)
+        for at, after, low in ((name, 50, 0), ("task at image.c:40", 70, 70)):
+            step = bound_of(run, 100 * MS, lost, [lost, Loss("memory", at, 80 * MS)])
+            self.assertEqual((step.after, step.low), (after * MS, low * MS))
+
     def test_what_the_recorder_takes_is_part_of_neither_time(self):
         lost, run = Loss("small_regions", "image.c:25", 124 * MS), facts(code=200 * MS, recorder=8 * MS)
         self.assertEqual(bound_of(run, 92 * MS, lost).after, 67 * MS)   # of 400, 32 while threads wait for the recorder
         self.assertEqual(bound_of(run, 98 * MS, lost._replace(kind="lock")).after, 67 * MS)
+
+    def test_threads_with_a_processor_each_still_meet_at_barriers(self):
+        """Of 100 ms recording took 4: in the other 96 the greedy run of the text on four threads lasts 30."""
+        run = facts(code=80 * MS, delayed=304 * MS, recorder=16 * MS)
+        for kind in ("affinity", "too_many_threads"):
+            ends = []
+            for run.scheduled in (None, 10 * MS, 30 * MS, 200 * MS):
+                step, = bounds(run, 100 * MS, [Loss(kind, "image.c:20", 304 * MS)])
+                ends.append((step.after // MS, step.at_best))
+            self.assertEqual(ends, [(20, True), (20, True), (31, False), (100, False)])
+        run.scheduled = 90 * MS
+        self.assertTrue(bounds(run, 100 * MS, [Loss("sleep", "image.c:20", 304 * MS)])[0].after < 90 * MS)
 
     def test_the_others_wait_for_the_one_that_records_that_it_makes_tasks(self):
         made = place(TASKS, pieces=8000, tasks=8000)
@@ -59,6 +78,13 @@ class Bounds(unittest.TestCase):
         lost = Loss("small_tasks", TASKS, 112 * MS)
         for places, after in (([made, maker], 95 * 280 // 380), ([made], 95 * 280 // 392)):
             step = bound_of(facts(places, code=200 * MS, recorder=8 * MS), 95 * MS, lost)
+            self.assertEqual(step.after // MS, after)
+
+    def test_recording_takes_time_between_tasks_too(self):
+        """Of 30 ms that recording 150,000 tasks takes 8 are in code: 22 of the 112 that tasks lose are no loss."""
+        made = place(TASKS, pieces=150000, tasks=150000)
+        for kind, after in (("small_tasks", 95 * 280 // 370), ("lock", 95 * 280 // 392)):
+            step = bound_of(facts([made], code=200 * MS, recorder=8 * MS), 95 * MS, Loss(kind, TASKS, 112 * MS))
             self.assertEqual(step.after // MS, after)
 
     def test_what_passes_between_threads_with_a_lock_goes_with_it(self):
@@ -73,14 +99,17 @@ class Bounds(unittest.TestCase):
 class Sleep(unittest.TestCase):
     """Tasks that sleep for nine tenths of their time."""
 
-    def step(self, ends, **more):
+    def step(self, ends, *others, **more):
         run = facts([place(TASKS)], asleep=360 * MS, asleep_by={TASKS: 360 * MS}, **more)
         bench = SimpleNamespace(end=lambda _: ends[4], end_on=ends.__getitem__)
-        return next(step for step in bounds(run, 100 * MS, [Loss("sleep", TASKS, 360 * MS)], bench))
+        return next(step for step in bounds(run, 100 * MS, [Loss("sleep", TASKS, 360 * MS), *others], bench))
 
     def test_more_threads_run_meanwhile(self):
         step = self.step({4: 90, 20: 27})
         self.assertEqual((step.after, step.threads, step.at_best), (30 * MS, 20, False))
+
+    def test_none_more_where_threads_wait_for_processors_already(self):
+        self.assertEqual(self.step({4: 90, 20: 27}, Loss("too_many_threads", TASKS, 40 * MS)).threads, 0)
 
     def test_they_need_processors_for_the_code(self):
         self.assertEqual(self.step({4: 90, 20: 0}).after, 10 * MS)

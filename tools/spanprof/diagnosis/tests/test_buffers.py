@@ -1,13 +1,11 @@
 import unittest
 from types import SimpleNamespace
 
-from spanprof.diagnosis.buffers import renamings, rewriting
-from spanprof.diagnosis.changes import Change
+from spanprof.diagnosis.changes import Change, renamings, rewriting
+from spanprof.diagnosis.diagnose import Step, cause_of, likely
 from spanprof.diagnosis.losses import Loss
 from spanprof.diagnosis.names import Names
-from spanprof.diagnosis.plan import cause_of, likely
 from spanprof.diagnosis.sentences import change_sentence, lost_sentence
-from spanprof.diagnosis.step import Step
 from spanprof.diagnosis.tests.worked import facts, place
 from spanprof.whatif.requests import Request
 

@@ -2,18 +2,15 @@ import unittest
 from collections import Counter
 from types import SimpleNamespace
 
+from spanprof.command import Fault
 from spanprof.diagnosis import changes as module
 from spanprof.diagnosis.calls import Sampled
 from spanprof.diagnosis.changes import Bench, candidates, single
 from spanprof.diagnosis.places import SERIAL
 from spanprof.diagnosis.tests.worked import TEXT, facts, place, program
-from spanprof.errors import Fault
 from spanprof.head import read_head
-from spanprof.marks import statements
-from spanprof.program_text import Statement
-from spanprof.whatif.requests import Request
-from spanprof.marks import of_stream
-from spanprof.whatif.survey import survey
+from spanprof.program_text import Statement, of_stream, statements
+from spanprof.whatif.requests import Request, survey
 
 TASKS = "task at image.c:25"
 

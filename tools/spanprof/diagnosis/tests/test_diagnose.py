@@ -3,11 +3,9 @@ from collections import Counter
 from types import SimpleNamespace
 
 from spanprof.diagnosis.changes import Change, Tried, single
-from spanprof.diagnosis.diagnose import diagnose
-from spanprof.diagnosis.places import SERIAL, SHARE
-from spanprof.diagnosis.plan import is_at_an_end, likely
-from spanprof.diagnosis.step import predicted
+from spanprof.diagnosis.diagnose import diagnose, is_at_an_end, likely, predicted
 from spanprof.diagnosis.losses import Loss
+from spanprof.diagnosis.places import SERIAL, SHARE
 from spanprof.diagnosis.tests.worked import MS, facts, place
 from spanprof.whatif.requests import Request
 

@@ -7,20 +7,18 @@ from functools import partial
 from types import SimpleNamespace
 from unittest import mock
 
+from spanprof.command import Fault
 from spanprof.diagnosis import facts as module
 from spanprof.diagnosis.calls import AT_START, RUNTIME, Sampled, calls_of
 from spanprof.diagnosis.diagnose import diagnose
-from spanprof.diagnosis.facts import (Facts, denied_time, function_in, inner_regions,
-                                      of_those_at_once, off_by_segment, regions_of, runtime_name, set_meta, set_off,
-                                      set_ranks, set_waiting, starting_shares, stolen_share, used_by_others)
-from spanprof.diagnosis.lock_times import Held, locks_of
+from spanprof.diagnosis.facts import (Facts, Held, denied_time, function_in, inner_regions, locks_of, of_those_at_once,
+                                      off_by_segment, regions_of, runtime_name, set_meta, set_off, set_ranks,
+                                      set_waiting, starting_shares, stolen_share, used_by_others)
 from spanprof.diagnosis.places import AFTER_REGION, OWN, SERIAL
 from spanprof.diagnosis.sentences import sure_words
 from spanprof.diagnosis.tests.worked import MS, TEXT, facts, place, program
-from spanprof.errors import Fault
 from spanprof.head import read_head
-from spanprof.recording import open_recording
-from spanprof.regions import Program, Region, program_of
+from spanprof.recording import Program, Region, open_recording, program_of
 from spanprof.tests.columns import rows_of
 from spanprof.time_breakdown import TimeBreakdown
 
@@ -206,12 +204,12 @@ class Starting(unittest.TestCase):
         teams = ((10, 4, 4), (20, 2, 2), (30, 2, 3), (40, 4, 9))
         some = [Region(1 + i, 0, 0, end, threads, 0, 0, 0, 0, "a.c:1", asked) for i, (end, threads, asked) in
                 enumerate(teams)]
-        self.assertEqual(module.regions_in_sums([["a.c:1", 4, 40, [[2, 50, 3], [4, 50, 9]]]]),
+        self.assertEqual(module.regions_in_sums([["a.c:1", 4, 40, 0, [[2, 50, 3], [4, 50, 9]]]]),
                          regions_of(Program(90, some)))
         run = facts()
-        module.set_regions(run, "nowhere", SimpleNamespace(regions=(False, [["", 1, 9, [[4, 9, 0]]]])))
-        self.assertEqual((run.tasks_in_regions, [(one.place, one.asked) for one in run.regions]),
-                         (False, [("a region", None)]))
+        module.set_regions(run, "nowhere", SimpleNamespace(regions=(False, [["", 1, 9, 30, [[4, 9, 0]]]])))
+        self.assertEqual((run.tasks_in_regions, [(one.place, one.asked, one.code) for one in run.regions]),
+                         (False, [("a region", None, 30)]))
 
     def test_threads_that_only_took_turns_are_not_idle(self):
         rows = [(0, 0, 0, 10), (5, 10, 10, 30), (0, 30, 30, 40)]
@@ -269,6 +267,8 @@ class Starting(unittest.TestCase):
         few = [outer._replace(threads=2),
                *(inner[0]._replace(number=i, begin=i * 10, end=i * 10 + 9) for i in range(8))]
         self.assertEqual(denied_time(Program(100, few), 4), {"a.c:9": 2 * 72})
+        self.assertEqual(denied_time(Program(100, few), 4, 3), {"a.c:9": 2 * 72 - 8 * 3 * 4 // 2})
+        self.assertEqual(denied_time(Program(100, few), 4, 9), {})      # to start them takes longer than they win
         self.assertEqual(denied_time(None, 4), {})
 
 

@@ -1,7 +1,6 @@
 import unittest
 
-from spanprof.diagnosis.calls import Sampled
-from spanprof.diagnosis.kernel import system_time
+from spanprof.diagnosis.calls import Sampled, system_time
 from spanprof.diagnosis.tests.worked import MS, facts, place
 
 

@@ -6,9 +6,7 @@ from collections import Counter
 from spanprof.diagnosis.calls import RUNTIME, Sampled
 from spanprof.diagnosis.causes import BY_KIND, TABLE
 from spanprof.diagnosis.diagnose import diagnose
-from spanprof.diagnosis.facts import Region
-from spanprof.diagnosis.library_locks import set_library_locks
-from spanprof.diagnosis.lock_times import Held
+from spanprof.diagnosis.facts import Held, Region, set_library_locks
 from spanprof.diagnosis.losses import Loss, in_code_losses
 from spanprof.diagnosis.names import Names
 from spanprof.diagnosis.places import AFTER_REGION, OF_THREADS, OWN, SERIAL, SHARE

@@ -3,8 +3,9 @@ import unittest
 
 from spanprof.diagnosis.calls import Sampled
 from spanprof.diagnosis.facts import Region
-from spanprof.diagnosis.losses import Loss, by_place, code_on_one, divided, finest_name, losses, missing_threads
-from spanprof.diagnosis.places import OF_THREADS, SERIAL, SHARE, TASK
+from spanprof.diagnosis.losses import (Loss, by_place, code_on_one, divided, finest_name, handling, is_crowded,
+                                       losses, missing_threads, starting_times)
+from spanprof.diagnosis.places import OF_THREADS, OWN, SERIAL, SHARE, TASK
 from spanprof.diagnosis.tests.worked import MS, facts, place
 
 PARTS = ("recorder", "preempted", "asleep", "at_locks", "delayed", "starved", "outside")
@@ -43,6 +44,28 @@ class Losses(unittest.TestCase):
         found = facts([place(name, OF_THREADS, alone=9, longest=9)], starved=200 * MS, starved_by={name: 200 * MS},
                       denied={"a.c:9": 180 * MS})
         self.assertEqual(losses(found), [Loss("too_few_threads", "a.c:9", 180 * MS), Loss("serial", name, 20 * MS)])
+
+    def test_short_code_between_two_creations_is_the_runtimes(self):
+        small = place("task at a.c:1", pieces=50000, tasks=50000)
+        for each, lost in ((400, 20 * MS), (2000, 0)):
+            maker = place("after creating a task at a.c:1", cost=50000 * each, pieces=50000, tasks=0)
+            self.assertEqual(handling(facts([small, maker])), {("small_tasks", small.name): lost} if lost else {})
+
+    def test_long_delays_of_starting_regions_are_others_as_far_as_these_ran(self):
+        """Of 100 ms a runtime takes 40; of the other 60 other programs ran for 15."""
+        often, seldom = (place("%s at a.c:%d" % (OWN, line), OF_THREADS, pieces=pieces) for line, pieces in
+                         ((2, 4000), (9, 4)))
+        delayed = {often.name: 100 * MS, seldom.name: 50 * MS}
+        for others, starting in ((15 * MS, 85 * MS), (0, 100 * MS), (90 * MS, 40 * MS), (None, 40 * MS)):
+            run = facts([often, seldom], starting_by={name: 0.4 for name in delayed}, others=others)
+            self.assertEqual(starting_times(run, delayed), {often.name: starting, seldom.name: 0})
+
+    def test_threads_that_share_processors_lose_much(self):
+        name = "task at a.c:1"
+        for delayed, threads, crowded in ((200, 16, True), (200, 4, False), (10, 16, False)):
+            run = facts([place(name)], threads=threads, elapsed=400 // threads * MS, delayed=delayed * MS,
+                        delayed_by={name: delayed * MS}, preempted=10 * MS)
+            self.assertEqual(is_crowded(run), crowded)
 
     def test_tasks_are_too_small_where_most_of_them_are_made(self):
         large, small = place("task at a.c:1", cost=80 * MS, tasks=8), place("task at a.c:9", cost=9 * MS, tasks=9000)

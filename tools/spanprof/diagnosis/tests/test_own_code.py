@@ -1,15 +1,13 @@
 import unittest
 
-from spanprof.diagnosis.calls import A_SAMPLE, Sampled
+from spanprof.diagnosis.calls import (A_SAMPLE, INTERPRETER, Sampled, file_that_ran, interpreted_share,
+                                      interpreted_time, interpreter_of, own_share)
 from spanprof.diagnosis.changes import single
-from spanprof.diagnosis.diagnose import diagnose
+from spanprof.diagnosis.diagnose import diagnose, left_alone
 from spanprof.diagnosis.losses import Loss, losses
 from spanprof.diagnosis.names import Names
-from spanprof.diagnosis.own_code import (INTERPRETER, file_that_ran, interpreted_share, interpreted_time,
-                                         interpreter_of, own_share)
+from spanprof.diagnosis.output import as_json
 from spanprof.diagnosis.places import OF_THREADS, SERIAL
-from spanprof.diagnosis.plan import left_alone
-from spanprof.diagnosis.schema import as_json
 from spanprof.diagnosis.sentences import lost_sentence
 from spanprof.diagnosis.tests.worked import MS, facts, place
 

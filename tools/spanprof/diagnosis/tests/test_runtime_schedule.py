@@ -1,8 +1,7 @@
 import unittest
 
 from spanprof.diagnosis.changes import single
-from spanprof.diagnosis.runtime_schedule import as_scheduled, scheduled_end
-from spanprof.diagnosis.step import Step
+from spanprof.diagnosis.diagnose import Step, as_scheduled, scheduled_end
 from spanprof.diagnosis.tests.worked import MS, facts
 
 SMALL = "  task {\n    work 10\n  }\n"

@@ -2,9 +2,8 @@ import unittest
 from types import SimpleNamespace
 
 from spanprof.diagnosis.calls import Sampled
-from spanprof.diagnosis.names import Names
+from spanprof.diagnosis.names import Names, by_call, place_of_sleep, sleeper, sooner, threads_for_sleep, words_of_sleep
 from spanprof.diagnosis.places import OF_THREADS, OWN, SERIAL
-from spanprof.diagnosis.sleeps import by_call, place_of_sleep, sleeper, sooner, threads_for_sleep, words_of_sleep
 from spanprof.diagnosis.tests.worked import MS, facts, place
 
 PLACE = "the beginning"

@@ -1,9 +1,8 @@
 import unittest
 
 from spanprof.diagnosis.changes import single
-from spanprof.diagnosis.names import Names
-from spanprof.diagnosis.step import Step
-from spanprof.diagnosis.source_change import diff, read_only
+from spanprof.diagnosis.diagnose import Step
+from spanprof.diagnosis.names import Names, diff, read_only
 from spanprof.diagnosis.tests.test_sentences import SOURCES, TASKS, found
 
 WAIT = "taskwait at image.c:12"

@@ -1,11 +1,9 @@
 import unittest
 from dataclasses import replace
 
-from spanprof.diagnosis.calls import Sampled
-from spanprof.diagnosis.kernel import system_time
-from spanprof.diagnosis.lock_times import Held
+from spanprof.diagnosis.calls import Sampled, lock_of_switches, system_locking, system_time
+from spanprof.diagnosis.facts import Held
 from spanprof.diagnosis.losses import handling
-from spanprof.diagnosis.system_locks import lock_of_switches, system_locking
 from spanprof.diagnosis.tests.worked import MS, facts, place
 
 NAME = "task at a.c:1"

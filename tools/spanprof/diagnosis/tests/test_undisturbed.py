@@ -2,9 +2,9 @@ import unittest
 from array import array
 from unittest import mock
 
+from spanprof.diagnosis.facts import is_disturbed, set_disturbed, starved_alone
 from spanprof.diagnosis.losses import losses
 from spanprof.diagnosis.tests.worked import MS, facts, place
-from spanprof.diagnosis.undisturbed import is_disturbed, set_disturbed, starved_alone
 
 
 def run(starved, preempted):

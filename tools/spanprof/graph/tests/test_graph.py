@@ -3,8 +3,7 @@ import os
 import unittest
 from unittest import mock
 
-from spanprof.graph.command import main
-from spanprof.graph.dot import lines
+from spanprof.graph.command import lines, main
 from spanprof.tests.in_folder import InFolder, answered
 
 TABLE = "segment,task,cost,predecessors\n0,0,5,\n1,1,3,0\n2,0,2,0\n3,0,1,1 2\n"

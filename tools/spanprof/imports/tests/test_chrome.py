@@ -4,11 +4,11 @@ import json
 import os
 import unittest
 
-from spanprof.errors import Fault
+from spanprof.command import Fault
 from spanprof.imports.chrome import read
 from spanprof.imports.tasks import in_order
+from spanprof.report.exports import trace_text
 from spanprof.report.tests import worked
-from spanprof.report.trace_events import trace_text
 from spanprof.tests.in_folder import InFolder
 
 SLICES = [{"name": "a", "ph": "X", "pid": 1, "tid": 1, "ts": 0, "dur": 2.5},

@@ -4,10 +4,10 @@ import pathlib
 import unittest
 from unittest import mock
 
-from spanprof.errors import Fault
+from spanprof.command import Fault
 from spanprof.head import head_of
 from spanprof.imports.folder import write
-from spanprof.imports.tasks import Task, Imported
+from spanprof.imports.tasks import Imported, Task
 from spanprof.predict.predictions import text_of
 from spanprof.predict.recorded import recorded
 from spanprof.recording import document, open_recording

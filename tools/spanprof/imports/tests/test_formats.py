@@ -2,7 +2,7 @@
 import os
 import unittest
 
-from spanprof.errors import Fault
+from spanprof.command import Fault
 from spanprof.imports.formats import format_of, read
 from spanprof.tests.in_folder import InFolder
 

@@ -2,7 +2,7 @@
 import unittest
 
 from spanprof.head import read_head
-from spanprof.imports.program import body, head, unit_of
+from spanprof.imports.folder import body, head, unit_of
 from spanprof.imports.tasks import Task
 
 TASKS = [Task("a \t\n.o", "", 0, 7), Task(before=[0]), Task("b", "", 7, 12, before=[0, 1])]

@@ -2,10 +2,10 @@
 import random
 import unittest
 
-from spanprof.errors import Fault
-from spanprof.imports.slices import Flow, Slice, tasks_of
+from spanprof.command import Fault
+from spanprof.imports.chrome import Flow, Slice, tasks_of
+from spanprof.imports.folder import run_of
 from spanprof.imports.tasks import in_order
-from spanprof.imports.times import run_of
 
 
 def some(*slices):

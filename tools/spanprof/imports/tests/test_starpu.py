@@ -1,7 +1,7 @@
 """In tools/: python3 -m unittest discover -s spanprof/imports/tests -t ."""
 import unittest
 
-from spanprof.errors import Fault
+from spanprof.command import Fault
 from spanprof.imports.starpu import read
 from spanprof.tests.in_folder import InFolder
 

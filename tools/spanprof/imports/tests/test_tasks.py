@@ -1,7 +1,7 @@
 """In tools/: python3 -m unittest discover -s spanprof/imports/tests -t ."""
 import unittest
 
-from spanprof.errors import Fault
+from spanprof.command import Fault
 from spanprof.imports.tasks import MOST_BEFORE, Task, in_order, timed
 
 

@@ -1,8 +1,8 @@
 """In tools/: python3 -m unittest discover -s spanprof/imports/tests -t ."""
 import unittest
 
+from spanprof.imports.folder import run_of, threads_of
 from spanprof.imports.tasks import Task
-from spanprof.imports.times import run_of, threads_of
 
 
 def task(begin, end, *before, worker=None):

@@ -1,8 +1,8 @@
 import io
 import unittest
 
-from spanprof.path.table import HEADS, MOST_ROWS, lines, write_csv
-from spanprof.report.places import Place
+from spanprof.answers import Place
+from spanprof.path.command import HEADS, MOST_ROWS, lines, write_csv
 
 
 def place(span, work, segments, name):

@@ -4,7 +4,7 @@ import tempfile
 import unittest
 from unittest import mock
 
-from spanprof.errors import Fault
+from spanprof.command import Fault
 from spanprof.predict.machine import Machine, Measured, machine_file, read_machine, write_machine
 
 

@@ -4,7 +4,7 @@ import unittest
 from types import SimpleNamespace
 from unittest import mock
 
-from spanprof.record.asleep import asleep_in
+from spanprof.record.summary import asleep_in
 from spanprof.record.tests.made_up import Answers, Head
 
 OFF = "1 12000 0\n2 40000 7\n0 900 0\n"     # nanoseconds

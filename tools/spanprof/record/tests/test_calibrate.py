@@ -3,11 +3,11 @@ import io
 import unittest
 from unittest import mock
 
-from spanprof.errors import OWN_FAULT, Fault
+from spanprof.command import OWN_FAULT, Fault
 from spanprof.predict.machine import Machine, Measured
 from spanprof.predict.program import read_program
 from spanprof.record import calibrate, command
-from spanprof.record.options import parse
+from spanprof.record.command import parse
 from spanprof.tests.in_folder import answered
 
 TREE = "omptasks 1 taskgroup {\ntask {  # one of the region's threads\nwork 15000\n%s}\n}\n"
@@ -49,7 +49,7 @@ class Calibrating(unittest.TestCase):
             calibrate.run(["/none"], {})
 
     def test_a_fault_is_reported(self):
-        with mock.patch("spanprof.record.command.calibrate", side_effect=Fault("no runtime")), \
+        with mock.patch("spanprof.record.calibrate.calibrate", side_effect=Fault("no runtime")), \
                 mock.patch("signal.signal"):
             self.assertEqual(answered(command.main, ["--calibrate"]), (OWN_FAULT, "", "spanprof-record: no runtime\n"))
 

@@ -5,6 +5,7 @@ import unittest
 from unittest import mock
 
 from spanprof.record import convert_command
+from spanprof.record.tests.log_heads import log_head
 from spanprof.tests.in_folder import InFolder, answered
 from spanprof.tests.recordings import TEXT, recording, write
 
@@ -49,6 +50,14 @@ class Converts(InFolder):
         self.assertEqual((status, self.meta()["arguments"]), (0, ["./mine"]))
         self.assertIn("mine.spanprof/program.tasks: 3 tasks, 5 segments", errors)
         self.assertEqual(sorted(self.meta()["files"]), ["log/head", "program.tasks", "times"])
+
+    def test_a_program_that_was_built_since(self):
+        built = os.stat(self.converter).st_mtime_ns
+        for at, words in ((built - 1, "was built after this run: functions and lines may be wrong"), (built, "")):
+            log_head(self.recording, program=os.fsencode(self.converter), at=at)
+            _, _, errors = self.convert(self.recording)
+            self.assertEqual("warning" in errors, bool(words))
+            self.assertIn(words, errors)
 
     def test_another_recording(self):
         self.convert("--out", os.path.join(self.folder, "b"), self.recording)

@@ -6,7 +6,7 @@ import sys
 import tempfile
 import unittest
 
-from spanprof.record.counters import Counters, attributes, perf_event_open, scaled, words_of
+from spanprof.record.run import Counters, attributes, counter_words, perf_event_open, scaled
 
 PAGE_FAULTS = (1, 2)
 
@@ -67,10 +67,11 @@ class Opened(unittest.TestCase):
 
 class Told(unittest.TestCase):
     def test_a_line(self):
-        self.assertEqual(words_of({"cycles": 400, "instructions": 1000, "cache_misses": 3}), [
+        self.assertEqual(counter_words({"cycles": 400, "instructions": 1000, "cache_misses": 3}), [
             "2.50 instructions per cycle, 3.0 cache misses per 1,000 instructions (measured)"])
-        self.assertEqual(words_of({"cycles": 400, "instructions": 1000}), ["2.50 instructions per cycle (measured)"])
+        self.assertEqual(counter_words({"cycles": 400, "instructions": 1000}),
+                         ["2.50 instructions per cycle (measured)"])
 
     def test_nothing(self):
-        self.assertEqual(words_of({}), [])
-        self.assertEqual(words_of({"cache_misses": 3}), [])
+        self.assertEqual(counter_words({}), [])
+        self.assertEqual(counter_words({"cache_misses": 3}), [])

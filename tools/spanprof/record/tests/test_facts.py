@@ -3,9 +3,8 @@ import resource
 import tempfile
 import unittest
 
-from spanprof.record.facts import (facts_of_run, processors_of_quota, processors_there_are, quotas,
-                                   threads_asked, usage_of)
-from spanprof.record.run import Ended
+from spanprof.record.run import (Ended, facts_of_run, processors_of_quota, processors_there_are, quotas, threads_asked,
+                                 usage_of)
 
 USED = resource.struct_rusage((1.5, 0.25, 8, 0, 0, 0, 410, 3, 0, 0, 0, 0, 0, 0, 12, 7))
 ENDED = Ended(0, 5000, USED, {"suspended_ns": 0}, {"cycles": 7})

@@ -2,10 +2,10 @@ import os
 import unittest
 from unittest import mock
 
-from spanprof import built
-from spanprof.errors import Fault
+from spanprof import converting
+from spanprof.command import Fault
 from spanprof.converting import recorder_library
-from spanprof.record import files
+from spanprof.record.folder import check_folder
 from spanprof.tests.in_folder import InFolder
 
 
@@ -18,7 +18,7 @@ class OfARecording(InFolder):
 class Recordings(OfARecording):
     def test_a_folder_that_is_none(self):
         with self.assertRaisesRegex(Fault, "no folder"):
-            files.check_folder(os.path.join(self.out, "x"))
+            check_folder(os.path.join(self.out, "x"))
 
 
 class Recorder(OfARecording):
@@ -38,7 +38,7 @@ class Recorder(OfARecording):
         library, source = self.write("r/librecorder.so"), self.write("r/life.cpp")
         self.write("r/Makefile")
         reported = []
-        with mock.patch("spanprof.built.build") as build:
+        with mock.patch("spanprof.converting.build") as build:
             os.utime(library, (2e9, 2e9))
             self.library("r", tell=reported.append)
             build.assert_not_called()
@@ -49,8 +49,8 @@ class Recorder(OfARecording):
 
     def test_why_not(self):
         words = "make: Entering\nclang++-16 -O2\nmake: clang++-16: No such file or directory\nmake: *** Error 127\n"
-        self.assertEqual(built.why_not_built(words), "make: clang++-16: No such file or directory")
-        self.assertEqual(built.why_not_built(""), "no word of it")
+        self.assertEqual(converting.why_not_built(words), "make: clang++-16: No such file or directory")
+        self.assertEqual(converting.why_not_built(""), "no word of it")
 
 
 if __name__ == "__main__":

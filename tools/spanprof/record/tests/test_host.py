@@ -2,7 +2,7 @@ import os
 import tempfile
 import unittest
 
-from spanprof.record.host import Host, facts_of_host, host_now, sockets, stolen_and_busy
+from spanprof.record.run import Host, facts_of_host, host_now, sockets, stolen_and_busy
 
 
 class Stolen(unittest.TestCase):

@@ -3,10 +3,9 @@ import tempfile
 import unittest
 from unittest import mock
 
-from spanprof.errors import Fault
-from spanprof.record.linkage import (ELF, GCC, LLVM, Linkage, is_checked, is_static, linkage, loads_more,
-                                     shared_runtimes, symbols)
-from spanprof.record.runtime import Chosen, by_version, choose, what_it_lacks
+from spanprof.command import Fault
+from spanprof.record.runtime import (ELF, GCC, LLVM, Chosen, Linkage, by_version, choose, is_checked, is_static,
+                                     linkage, loads_more, shared_runtimes, symbols, what_it_lacks)
 from spanprof.record.tests.made_up import LDD_GCC, LDD_LLVM, LDD_MISSING, LDD_PLAIN, LDD_STATIC, SYMBOLS
 
 CALLS = "     4: 0000000000000000     0 FUNC    GLOBAL DEFAULT  UND %s@GLIBC_2.2.5 (4)\n"
@@ -39,7 +38,7 @@ class Programs(unittest.TestCase):
             path = os.path.join(folder, "mine")
             with open(path, "wb") as file:
                 file.write(first)
-            with mock.patch("spanprof.record.linkage.listed", side_effect=lambda words: listings[words[0]]):
+            with mock.patch("spanprof.record.runtime.listed", side_effect=lambda words: listings[words[0]]):
                 return linkage(path)
 
     def test_a_script_is_not_listed(self):
@@ -61,7 +60,7 @@ class Programs(unittest.TestCase):
 
     def test_a_program_whose_library_loads_others(self):
         """As python's where it is a library; that the system's own can do so says nothing."""
-        with mock.patch("spanprof.record.linkage.listed", return_value=CALLS % "dlopen"):
+        with mock.patch("spanprof.record.runtime.listed", return_value=CALLS % "dlopen"):
             self.assertTrue(loads_more({"Py_BytesMain"}, "\tlibpython3.so => /lib/libpython3.so (0x1)\n" + LDD_PLAIN))
             self.assertFalse(loads_more({"puts"}, LDD_PLAIN))
 

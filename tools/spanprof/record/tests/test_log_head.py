@@ -1,7 +1,7 @@
 import os
 import unittest
 
-from spanprof.record.log_head import begun_at, process_of, usage_in_log
+from spanprof.record.folder import begun_at, process_of, usage_in_log
 from spanprof.record.tests.log_heads import log_head
 from spanprof.tests.in_folder import InFolder
 

@@ -1,7 +1,6 @@
 import unittest
 
-from spanprof.record import messages
-from spanprof.record.messages import Messages
+from spanprof.remarks import LIMITS, STOPPED, Messages, sentence_of
 
 TEXT = {"message": "text", "file": "/tmp/mine.tasks", "tasks": 3, "segments": 7, "work": 10, "unit": "ns"}
 REMARK = {"message": "remark", "name": "/tmp/mine", "remark": {"remark": "all memory", "times": 1, "span": "low"}}
@@ -11,27 +10,27 @@ LARGE = {"message": "too large", "file": "/tmp/mine.3.tasks", "what": "items", "
 
 class Words(unittest.TestCase):
     def test_texts(self):
-        self.assertEqual(messages.in_words(dict(TEXT, times="/tmp/mine.timed")),
+        self.assertEqual(sentence_of(dict(TEXT, times="/tmp/mine.timed")),
                          "/tmp/mine.tasks and /tmp/mine.timed: 3 tasks, 7 segments, work 10 ns")
-        self.assertEqual(messages.in_words(dict(TEXT, **{"no times": "unfinished"})),
+        self.assertEqual(sentence_of(dict(TEXT, **{"no times": "unfinished"})),
                          "/tmp/mine.tasks; no times, since tasks did not run to their ends: 3 tasks, 7 segments, "
                          "work 10 ns")
 
     def test_limits(self):
-        self.assertEqual(messages.in_words(LARGE), "/tmp/mine.3.tasks is not written: it has 40 depend items of one "
+        self.assertEqual(sentence_of(LARGE), "/tmp/mine.3.tasks is not written: it has 40 depend items of one "
                          "task, and 32 is the most; give each task fewer depend items")
         for what in ("piece", "work"):
-            self.assertIn("larger --unit", messages.in_words(dict(LARGE, what=what)))
-        for what in messages.LIMITS:
-            self.assertIn(messages.LIMITS[what], messages.in_words(dict(LARGE, what=what)))
+            self.assertIn("larger --unit", sentence_of(dict(LARGE, what=what)))
+        for what in LIMITS:
+            self.assertIn(LIMITS[what], sentence_of(dict(LARGE, what=what)))
 
     def test_where_a_log_ends(self):
         for inside, where in ((True, "inside a region"), (False, "outside of regions")):
             self.assertIn("ends 1.5 ms after recording began, " + where,
-                          messages.in_words({"message": "killed", "recorded": 1500000, "inside": inside}))
-        for why in messages.STOPPED:
-            self.assertIn(messages.STOPPED[why], messages.in_words({"message": "stopped", "why": why, "recorded": 0}))
-        self.assertIn("still runs", messages.in_words({"message": "running", "recorded": 5}))
+                          sentence_of({"message": "killed", "recorded": 1500000, "inside": inside}))
+        for why in STOPPED:
+            self.assertIn(STOPPED[why], sentence_of({"message": "stopped", "why": why, "recorded": 0}))
+        self.assertIn("still runs", sentence_of({"message": "running", "recorded": 5}))
 
     def test_the_others(self):
         for one, words in (({"message": "outside", "times": 1, "at": "a.c:3"}, "1 time at a.c:3"),
@@ -41,7 +40,7 @@ class Words(unittest.TestCase):
                             "x.tasks cannot be written: No space left on device"),
                            ({"message": "fault", "log": "x.log", "what": "no log"},
                             "x.log cannot be converted: no log")):
-            self.assertIn(words, messages.in_words(one))
+            self.assertIn(words, sentence_of(one))
 
 
 class News(unittest.TestCase):

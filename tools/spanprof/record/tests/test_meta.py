@@ -3,8 +3,8 @@ import json
 import os
 import unittest
 
-from spanprof.errors import Fault
-from spanprof.record.meta import old_meta, write_meta
+from spanprof.command import Fault
+from spanprof.record.folder import old_meta, write_meta
 from spanprof.recording import open_recording
 from spanprof.tests.in_folder import InFolder
 from spanprof.tests.recordings import recording, write

@@ -2,7 +2,7 @@ import os
 import tempfile
 import unittest
 
-from spanprof.record.processes import ENDING, expect, note_of_others, started
+from spanprof.record.folder import NOTED, expect, note_of_others, started
 
 
 class Processes(unittest.TestCase):
@@ -13,7 +13,7 @@ class Processes(unittest.TestCase):
         expect(self.out)
 
     def note(self, lines, *recorded):
-        with open(self.out + ENDING, "a", encoding="utf-8") as file:
+        with open(self.out + NOTED, "a", encoding="utf-8") as file:
             file.write(lines)
         return note_of_others(started(self.out), recorded)
 

@@ -1,10 +1,9 @@
 """What the summary tells of the program's time."""
 import unittest
 
-from spanprof.record.program_lines import program_line
-from spanprof.record.summary import summary
+from spanprof.record.summary import program_line, summary
 from spanprof.record.tests.made_up import Answers
-from spanprof.regions import Program, Region
+from spanprof.recording import Program, Region
 
 
 def region(number, text, begin, end, code, place):

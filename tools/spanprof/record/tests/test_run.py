@@ -6,10 +6,10 @@ import tempfile
 import unittest
 from unittest import mock
 
-from spanprof.errors import NO_PROGRAM, NOT_EXECUTABLE, Fault
-from spanprof.record.options import parse
+from spanprof.command import NO_PROGRAM, NOT_EXECUTABLE, Fault
+from spanprof.record.command import parse
 from spanprof.record.run import PassedOn, end_as, environment, signal_name, watched, without_recorder
-from spanprof.record.target import find
+from spanprof.record.runtime import find
 
 
 def options(**given):

@@ -1,6 +1,6 @@
 import unittest
 
-from spanprof.record.runs import middle, others_share
+from spanprof.record.session import middle, others_share
 
 
 class OneOfRuns(unittest.TestCase):

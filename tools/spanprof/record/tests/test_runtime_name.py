@@ -3,7 +3,7 @@ import tempfile
 import unittest
 from unittest import mock
 
-from spanprof.record.runtime_name import in_words, note_of, runtimes_in
+from spanprof.record.runtime import in_words, note_of, runtimes_in
 
 MODULES = """55 56 57 module 
 7f10 7f20 7f30 module /r/librecorder.so
@@ -21,7 +21,7 @@ SYMBOLS = """
 
 class Names(unittest.TestCase):
     def found(self, modules, table=SYMBOLS):
-        with mock.patch("spanprof.record.runtime_name.listed", return_value=table):
+        with mock.patch("spanprof.record.runtime.listed", return_value=table):
             return runtimes_in(modules)
 
     def test_each_runtime_once(self):
@@ -34,7 +34,7 @@ class Names(unittest.TestCase):
 
     def test_the_note(self):
         self.assertEqual(note_of("/no/such/log"), "")
-        with tempfile.TemporaryDirectory() as log, mock.patch("spanprof.record.runtime_name.listed", return_value=""):
+        with tempfile.TemporaryDirectory() as log, mock.patch("spanprof.record.runtime.listed", return_value=""):
             with open(os.path.join(log, "modules"), "w", encoding="utf-8") as file:
                 file.write(MODULES)
             self.assertEqual(note_of(log), "the program ran on two runtimes: gcc's libgomp and LLVM 19's libomp")

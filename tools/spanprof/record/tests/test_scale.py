@@ -7,10 +7,9 @@ import tempfile
 import unittest
 from unittest import mock
 
-from spanprof.record.options import parse
-from spanprof.record.run import Ended
+from spanprof.record.command import parse
+from spanprof.record.run import Ended, Failed, unrecorded
 from spanprof.record.scale import costs_by_place, more_runs, scale_json, table_lines
-from spanprof.record.unrecorded import Failed, unrecorded
 from spanprof.tests.in_folder import InFolder
 
 TEXT = """# recorded: {"program": "mine", "threads": 1, "clock": "wall", "unit": "us"}
@@ -85,7 +84,7 @@ class Unrecorded(unittest.TestCase):
             return Ended(status, elapsed, None)
         made = argparse.Namespace(preload="", library="/r.so", path="./mine",
                                   options=argparse.Namespace(command=["./mine"]))
-        with mock.patch("spanprof.record.unrecorded.watched", side_effect=run):
+        with mock.patch("spanprof.record.run.watched", side_effect=run):
             return unrecorded(made, [1, 4], 2), asked
 
     def test_in_turns(self):
@@ -109,7 +108,7 @@ class MoreRuns(InFolder):
             elapsed, status = next(left)
             return Ended(status, elapsed, None)
         self.write("recording.json", '{"threads": {"most": 4}}')
-        with mock.patch("spanprof.record.unrecorded.watched", side_effect=watched), \
+        with mock.patch("spanprof.record.run.watched", side_effect=watched), \
                 contextlib.redirect_stderr(io.StringIO()) as reported, mock.patch.dict(os.environ, {}, clear=True):
             return more_runs(made, self.folder), reported.getvalue()
 

@@ -2,11 +2,10 @@
 import itertools
 import unittest
 
-from spanprof.head import Lock
+from spanprof.head import Lock, is_divided
 from spanprof.record.summary import summary
 from spanprof.record.tests.made_up import Answers, Head
 from spanprof.remarks import read_remark, remark_of
-from spanprof.validity import is_divided
 
 LOCK = Lock("critical", 1, 1, 0)
 OF_WHAT = ("proved of the recorded text", "proved of this text")

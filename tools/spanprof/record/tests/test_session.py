@@ -6,16 +6,15 @@ import resource
 import unittest
 from unittest import mock
 
-from spanprof.errors import Fault
+from spanprof.command import Fault
 from spanprof.record import command, session
-from spanprof.record.processes import Process
-from spanprof.record.messages import Messages
+from spanprof.record.folder import Process
 from spanprof.record.run import Ended
-from spanprof.record.runs import record_often
 from spanprof.record.runtime import Chosen
-from spanprof.record.session import Recorded
-from spanprof.recording import open_recording
+from spanprof.record.session import Recorded, record_often
 from spanprof.record.tests.log_heads import log_head
+from spanprof.recording import open_recording
+from spanprof.remarks import Messages
 from spanprof.tests.in_folder import InFolder
 from spanprof.tests.recordings import TEXT, recording, write
 

@@ -1,8 +1,8 @@
 """Parts of a recorded run as recordings of their own."""
 import os
 
-from spanprof.errors import Fault
-from spanprof.record.stretch import by_segment, cut, moment, region_lines, write_part
+from spanprof.command import Fault
+from spanprof.record.convert_command import by_segment, cut, moment, region_lines, write_stretch
 from spanprof.recording import open_recording
 from spanprof.tests.in_folder import InFolder
 from spanprof.tests.recordings import recording, write
@@ -44,7 +44,7 @@ class StretchTest(InFolder):
 
     def test_a_recording_of_it(self):
         made = os.path.join(self.folder, "part")
-        write_part(open_recording(recording(self.folder)), made, 0, 100000)
+        write_stretch(open_recording(recording(self.folder)), made, 0, 100000)
         with open(os.path.join(made, "program.tasks"), encoding="utf-8") as text:
             self.assertIn("# elapsed: 5\nomptasks 1\ntask {  # mine.c:9\n", text.read())
         with open(os.path.join(made, "times"), encoding="utf-8") as times:

@@ -8,11 +8,10 @@ import unittest
 from unittest import mock
 
 from spanprof.answers import take_runs
-from spanprof.record import summaries
-from spanprof.record.messages import Messages
+from spanprof.record import command
 from spanprof.record.session import Recorded
 from spanprof.record.tests.made_up import Answers, Head
-from spanprof.remarks import remark_of
+from spanprof.remarks import Messages, remark_of
 from spanprof.tests.in_folder import InFolder
 from spanprof.tests.recordings import recording
 
@@ -25,7 +24,7 @@ class Printed(InFolder):
 
     def setUp(self):
         super().setUp()
-        patch = mock.patch("spanprof.record.summaries.diagnosed", return_value=(None, ""))
+        patch = mock.patch("spanprof.record.command.diagnosed", return_value=(None, ""))
         self.diagnosed = patch.start()
         self.addCleanup(patch.stop)
         self.heads, self.works = {}, {}
@@ -38,9 +37,9 @@ class Printed(InFolder):
         chosen = argparse.Namespace(**dict(dict(json=None, runs=1, all=True, against=None), **options))
         made = mock.Mock(notes=["a note"], rank=rank, out=os.path.join(self.folder, "mine"), options=chosen,
                          work=argparse.Namespace(name="mine"), others="2 others met no OpenMP")
-        with mock.patch("spanprof.record.summaries.Answers", side_effect=self.answered), \
+        with mock.patch("spanprof.record.command.Answers", side_effect=self.answered), \
                 contextlib.redirect_stderr(io.StringIO()) as reported:
-            summaries.print_summaries(made, Recorded(0, list(folders), Messages(True, list(things))))
+            command.print_summaries(made, Recorded(0, list(folders), Messages(True, list(things))))
         return reported.getvalue().splitlines()
 
     def test_one_of_the_whole_program(self):

@@ -2,7 +2,7 @@ import unittest
 from unittest import mock
 from array import array
 
-from spanprof.errors import Fault
+from spanprof.command import Fault
 from spanprof.head import Lock
 from spanprof.record.summary import other_region, summary
 from spanprof.record.tests.made_up import Answers, Head

@@ -1,6 +1,6 @@
 import unittest
 
-from spanprof.record.waits import Waits, waited_for, waits_line, waits_of
+from spanprof.record.command import Waits, waited_for, waits_line, waits_of
 from spanprof.recording import open_recording
 from spanprof.tests.in_folder import InFolder
 from spanprof.tests.recordings import recording

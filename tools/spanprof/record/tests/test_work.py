@@ -2,9 +2,9 @@
 import os
 import unittest
 
-from spanprof.errors import Fault
+from spanprof.command import Fault
+from spanprof.record.folder import Work
 from spanprof.record.tests.log_heads import log_head
-from spanprof.record.work import Work
 from spanprof.tests.in_folder import InFolder
 from spanprof.tests.recordings import recording
 

@@ -2,8 +2,8 @@
 import unittest
 from types import SimpleNamespace
 
-from spanprof.report.part_changes import changes_part, command
-from spanprof.report.part_source import source_part
+from spanprof.report.part_diagnosis import changes_part, command
+from spanprof.report.part_places import source_part
 from spanprof.report.tests import worked
 from spanprof.report.tests.test_part_diagnosis import reported
 from spanprof.report.tests.test_parts import seen

@@ -2,7 +2,7 @@ import re
 import unittest
 from itertools import combinations
 
-from spanprof.report.colours import BARS, COLOURS, INK, INKS, colour_rules
+from spanprof.report.markup import BARS, COLOURS, INK, INKS, colour_rules
 
 # How people see who have no cones for red, for green, or for blue (Machado and others, 2009), in linear RGB.
 SEEN_BY = {

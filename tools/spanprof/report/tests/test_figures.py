@@ -1,8 +1,7 @@
 import unittest
 
 from spanprof.head import Head
-from spanprof.report.figures import MEASURED, PROVED, Figures, badge, percent
-from spanprof.report.units import Units
+from spanprof.report.figures import MEASURED, PROVED, Figures, Units, badge, percent
 from spanprof.tests.proofs import with_a_proved_program
 
 setUpModule = with_a_proved_program

@@ -2,9 +2,8 @@ import os
 import tempfile
 import unittest
 
-from spanprof.report.levels import Levels, bins_for, levels_in, levels_of_greedy
 from spanprof.report.tests import worked
-from spanprof.report.timeline_data import DIGITS, levels_data
+from spanprof.report.timeline import DIGITS, Levels, bins_for, levels_data, levels_in, levels_of_greedy
 
 
 class Bins(unittest.TestCase):

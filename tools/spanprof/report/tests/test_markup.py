@@ -1,7 +1,6 @@
 import unittest
 
-from spanprof.report.markup import Markup, breakable, details, join, note, section, tag
-from spanprof.report.tables import bar, place_cell, table
+from spanprof.report.markup import Markup, bar, breakable, details, join, note, place_cell, section, table, tag
 
 
 class Elements(unittest.TestCase):

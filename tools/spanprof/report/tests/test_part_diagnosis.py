@@ -2,11 +2,10 @@ import re
 import unittest
 
 from spanprof.diagnosis.changes import single
-from spanprof.diagnosis.diagnose import Diagnosis, diagnose
+from spanprof.diagnosis.diagnose import Diagnosis, Step, diagnose
 from spanprof.diagnosis.losses import Loss, code_on_one, losses
 from spanprof.diagnosis.names import Names
 from spanprof.diagnosis.output import Output
-from spanprof.diagnosis.step import Step
 from spanprof.diagnosis.tests.test_sentences import SOURCES, TASKS, found
 from spanprof.diagnosis.tests.worked import MS
 from spanprof.report.part_diagnosis import first_screen, has_room, parts

@@ -4,14 +4,14 @@ import unittest
 from html import unescape
 from unittest.mock import patch
 
-from spanprof.regions import Program, Region
+from spanprof.recording import Program, Region
 from spanprof.remarks import remark_of
 from spanprof.report.part_curve import curve_part, step_of
 from spanprof.report.part_diagnosis import first_part
 from spanprof.report.part_numbers import numbers_part
 from spanprof.report.part_places import places_part
-from spanprof.report.part_timeline import timeline_part
 from spanprof.report.tests import worked
+from spanprof.report.timeline import timeline_part
 from spanprof.tests.proofs import with_a_proved_program
 
 setUpModule = with_a_proved_program
@@ -94,7 +94,7 @@ class OfOneProgram(Patched):
     def test_places(self):
         words = seen(places_part(self.view))
         self.assertIn("6 segments are on the critical path", words)
-        self.assertRegex(words, r"task at mesh.c:10 #pragma omp task depend\(in: x\) 14 µs 34.1 % 19.4 % 0 µs 2 7 µs")
+        self.assertRegex(words, r"task at mesh.c:10 #pragma omp task depend\(in: x\) 14 µs 34.1 % 19.4 % 0 µs 2 7.5 µs")
         self.assertNotIn("idle while it ran", words)
 
     def test_idle_time_by_place(self):
@@ -122,7 +122,7 @@ class OfOneProgram(Patched):
         view = worked.view("split")
         regions = [Region(1 + i, 0, *stretch, 2, 0, 0, 0, 0, place) for i, (*stretch, place) in enumerate(
             ((0, 9000, "a.c:1"), (9000, 10000, "b.c:2"), (10000, 20000, "a.c:1"), (20000, 20500, "")))]
-        with patch("spanprof.report.part_timeline.program_of", return_value=Program(28000, regions)):
+        with patch("spanprof.report.timeline.program_of", return_value=Program(28000, regions)):
             found = timeline_part(view)
         self.assertIn("the whole run region at a.c:1, the longest of 2 region at b.c:2 a region", seen(found))
         self.assertIn('value="10.000 20.000"', found)

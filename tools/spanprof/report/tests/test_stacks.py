@@ -1,9 +1,9 @@
 """In tools/: python3 -m unittest discover -s spanprof/report/tests -t ."""
 import unittest
 
-from spanprof.errors import Fault
+from spanprof.command import Fault
 from spanprof.recording import open_recording
-from spanprof.report.stacks import folded, stacks
+from spanprof.report.exports import folded, stacks
 from spanprof.tests.in_folder import InFolder
 from spanprof.tests.recordings import recording
 

@@ -2,7 +2,7 @@ import unittest
 
 from spanprof.report.tests import worked
 from spanprof.report.tests.expected import unpacked
-from spanprof.report.timeline_data import base36, packed, recorded_data, timeline_data
+from spanprof.report.timeline import base36, packed, recorded_data, timeline_data
 from spanprof.report.view import RecordedRun
 
 

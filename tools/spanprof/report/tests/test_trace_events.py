@@ -2,8 +2,8 @@
 import json
 import unittest
 
+from spanprof.report.exports import trace_text
 from spanprof.report.tests import worked
-from spanprof.report.trace_events import trace_text
 
 REQUIRED = {"M": {"name", "ph", "pid", "args"}, "X": {"name", "cat", "ph", "ts", "dur", "pid", "tid"},
             "s": {"name", "cat", "ph", "ts", "pid", "tid", "id"},

@@ -3,11 +3,10 @@ import json
 import re
 import unittest
 
-from spanprof.report.part_curve import curve_part
+from spanprof.report.part_curve import Point, curve_part, true_times_beside
 from spanprof.report.tests import worked
 from spanprof.report.tests.expected import Program
 from spanprof.report.tests.page_reader import read_page
-from spanprof.report.true_times import Point, true_times_beside
 from spanprof.tests.in_folder import InFolder
 
 TOLD = {"threads": [

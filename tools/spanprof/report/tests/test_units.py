@@ -1,7 +1,7 @@
 import unittest
 
 from spanprof.head import Head
-from spanprof.report.units import Units, grouped, unit_name
+from spanprof.report.figures import Units, grouped, unit_name
 
 
 def words(unit, *values):

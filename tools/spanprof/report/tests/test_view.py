@@ -1,9 +1,9 @@
 import unittest
 
 from spanprof.report.figures import DECLARED, MEASURED, RECORDED
+from spanprof.report.markup import MOST_COLOURS
 from spanprof.report.part_curve import reached
 from spanprof.report.tests import worked
-from spanprof.report.view import COLOURS
 
 
 class Runs(unittest.TestCase):
@@ -40,4 +40,4 @@ class Kinds(unittest.TestCase):
     def test_the_last_places_share_a_colour(self):
         view = worked.view("mesh")
         view.task_places[-1].number = 40
-        self.assertEqual(view.colour_of(view.task_places[-1]), COLOURS - 1)
+        self.assertEqual(view.colour_of(view.task_places[-1]), MOST_COLOURS - 1)

@@ -9,9 +9,9 @@ import os
 import sys
 from unittest import mock
 
-from spanprof.errors import Fault
+from spanprof.command import Fault
+from spanprof.report.part_curve import NAMES, Point
 from spanprof.report.tests.worked_files import FOLDER, path
-from spanprof.report.true_times import NAMES, Point
 
 KEPT = path("answers.json")
 TEXTS = ("mesh", "split", "plain", "odd")

@@ -1,5 +1,5 @@
 """Small texts that the tests change."""
-from spanprof.marks import as_text, statements
+from spanprof.program_text import as_text, statements
 
 SORT = """\
 # recorded: {"program": "sort", "threads": 2, "clock": "cpu", "unit": "us"}

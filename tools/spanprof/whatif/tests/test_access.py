@@ -1,9 +1,7 @@
 import unittest
 
-from spanprof.marks import as_text, statements
-from spanprof.whatif.creating import Costs
-from spanprof.whatif.requests import Request, applied, changes
-from spanprof.whatif.survey import survey
+from spanprof.program_text import as_text, statements
+from spanprof.whatif.requests import Costs, Request, applied, changes, survey
 
 TEXT = """omptasks 1
 task depend(in: b) depend(inout: a) {  # m.c:3
@@ -16,7 +14,7 @@ work 4
 
 def changed(option, word):
     kept = list(statements(TEXT.splitlines(True)))
-    made = changes([Request(option, word)], survey(kept), Costs(0, None, ""))
+    made = changes([Request(option, word)], survey(kept), Costs(0, ""))
     return as_text(applied(kept, made)), made[0].words()
 
 

@@ -1,6 +1,6 @@
 import unittest
 
-from spanprof.marks import as_text, statements
+from spanprof.program_text import as_text, statements
 from spanprof.whatif.changes import DropDepend, DropName, DropWait, Factor, ReadOnly
 from spanprof.whatif.tests.made_up import ROW, SORT, changed
 

@@ -1,6 +1,6 @@
 import unittest
 
-from spanprof.whatif.rename import Rename, written
+from spanprof.whatif.changes import Rename, written
 from spanprof.whatif.tests.made_up import changed, read
 
 RING = """omptasks 1

@@ -1,9 +1,7 @@
 import unittest
 
-from spanprof.marks import as_text, statements
-from spanprof.whatif.changes import DropWait
-from spanprof.whatif.join import Join
-from spanprof.whatif.shapes import Cutoff, Grain, OwnTask, Split
+from spanprof.program_text import as_text, statements
+from spanprof.whatif.changes import Cutoff, DropWait, Grain, Join, OwnTask, Split
 from spanprof.whatif.tests.made_up import LOOPS, ROW, SORT, changed
 
 ROWS = "omptasks 1\n" + "".join("work 3\ntask { # a\nwork %d\n}\n" % cost for cost in (10, 20, 30, 40, 50))

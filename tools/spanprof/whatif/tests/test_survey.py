@@ -1,6 +1,6 @@
 import unittest
 
-from spanprof.whatif.survey import survey
+from spanprof.whatif.requests import survey
 from spanprof.whatif.tests.made_up import read
 
 TASK = "task {\n  work 100\n}\n"

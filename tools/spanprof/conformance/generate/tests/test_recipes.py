@@ -4,9 +4,8 @@ import unittest
 
 from spanprof.conformance.emit.forms import is_cancelled
 from spanprof.conformance.generate.constructs import constructs
-from spanprof.conformance.generate.location_recipes import GATED, LocationRecipes
 from spanprof.conformance.generate.program import Group, Loop, Task, Wait, Work, nodes, segment_count
-from spanprof.conformance.generate.random_programs import RECIPES
+from spanprof.conformance.generate.random_programs import GATED, RECIPES, LocationRecipes
 from spanprof.conformance.generate.text_reader import read_program
 from spanprof.conformance.generate.text_writer import text_of
 from spanprof.conformance.judge.segments import Table

@@ -5,13 +5,13 @@ import tempfile
 import unittest
 from unittest import mock
 
+from spanprof.conformance.generate.program import VARIANTS
 from spanprof.conformance.judge.cases import Bench, Examined, Plan, team_of
 from spanprof.conformance.judge.exclusion import first_overlap
 from spanprof.conformance.judge.verdicts import TOO_MANY, Record, Verdict
 from spanprof.conformance.run.launch import Log
 from spanprof.conformance.run.toolchain import BuildFailed
 from spanprof.conformance.tests.helpers import PLAN, body_of, case_of, conditions
-from spanprof.conformance.generate.variants import VARIANTS
 
 LOG = "start 0 0\nfinish 0 0\nstart 1 1\nstart 0 2\nfinish 0 2\nfinish 1 1\nstart 0 3\nfinish 0 3\n"
 EARLY = "start 0 0\nfinish 0 0\nstart 1 1\nstart 0 2\nfinish 0 2\nstart 0 3\nfinish 0 3\nfinish 1 1\n"

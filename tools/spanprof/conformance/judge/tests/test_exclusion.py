@@ -4,12 +4,12 @@ import tempfile
 import unittest
 from unittest import mock
 
+from spanprof.command import Fault
 from spanprof.conformance.judge import exclusion
 from spanprof.conformance.judge.exclusion import (PARENT_ENDED, Overlap, ProvedSearch, claims_of, first_overlap,
                                                   found_search, overlapping, rule_of)
 from spanprof.conformance.judge.segments import Table
 from spanprof.conformance.tests.helpers import body_of
-from spanprof.errors import Fault
 
 PAIR = "task depend(inoutset: a) { #: mutexinoutset\n taskwait } task depend(inoutset: a) { #: mutexinoutset\n }"
 # Segments: 0 the root, 1 and 2 the first task, 3 the root, 4 the second task, 5 the root.

@@ -1,7 +1,7 @@
 """Counts of the rules that put no segment behind another, by hand on small logs."""
 import unittest
 
-from spanprof.conformance.judge.other_rules import other_rules
+from spanprof.conformance.judge.coverage import other_rules
 from spanprof.conformance.judge.rules import LANGUAGE, PROMISE, QUALITY, RULES, at_stake, rule_of
 from spanprof.conformance.judge.segments import Table
 from spanprof.conformance.run.launch import Log

@@ -1,8 +1,8 @@
 """Where runs stood that did not come to their ends."""
 import unittest
 
+from spanprof.conformance.judge.explain import Standing, without_places
 from spanprof.conformance.judge.segments import Table
-from spanprof.conformance.judge.standing import Standing, without_places
 from spanprof.conformance.tests.helpers import body_of
 
 

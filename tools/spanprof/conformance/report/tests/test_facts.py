@@ -3,8 +3,8 @@ import types
 import unittest
 
 from spanprof.conformance.judge.cases import Tally
-from spanprof.conformance.report.facts import facts_of, tested, reported_runtimes
 from spanprof.conformance.report.results import Results
+from spanprof.conformance.report.texts import facts_of, reported_runtimes, tested
 from spanprof.conformance.tests.helpers import case_of, conditions
 
 

@@ -3,9 +3,8 @@ import collections
 import json
 import unittest
 
-from spanprof.conformance.report import store
 from spanprof.conformance.judge.cases import Tally
-from spanprof.conformance.report.results import Results
+from spanprof.conformance.report.results import Results, as_json, from_json
 from spanprof.conformance.tests.helpers import case_of, conditions, failure_of
 
 
@@ -62,26 +61,26 @@ class Sums(unittest.TestCase):
         together = results_of(LARGE, SMALL, failing=("large", "small"))
         together.seconds = 7
         self.assertEqual((together.runs, together.judged), (16, 12))
-        self.assertEqual(store.as_json(apart), store.as_json(together))
+        self.assertEqual(as_json(apart), as_json(together))
 
     def test_merging_changes_only_the_sum(self):
         other = results_of(SMALL, failing=("small",))
-        before = store.as_json(other)
+        before = as_json(other)
         total = results_of(LARGE, failing=("large",))
         total.merge(other)
         total.merge(other)
-        self.assertEqual(store.as_json(other), before)
+        self.assertEqual(as_json(other), before)
 
 
 class Store(unittest.TestCase):
     def test_there_and_back(self):
         results = results_of(LARGE, SMALL, failing=("large", "small"))
-        written = json.dumps(store.as_json(results))
-        self.assertEqual(json.dumps(store.as_json(store.from_json(json.loads(written)))), written)
+        written = json.dumps(as_json(results))
+        self.assertEqual(json.dumps(as_json(from_json(json.loads(written)))), written)
 
     def test_failures_come_back_whole(self):
         results = results_of(case_of("untied", "task { #: untied\n } taskwait", "untied"), failing=("untied",))
-        again = store.from_json(json.loads(json.dumps(store.as_json(results))))
+        again = from_json(json.loads(json.dumps(as_json(results))))
         signature, = again.groups
         self.assertEqual(again.groups[signature].smallest, results.groups[signature].smallest)
 

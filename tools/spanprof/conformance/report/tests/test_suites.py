@@ -4,7 +4,7 @@ import unittest
 import xml.etree.ElementTree
 
 from spanprof.conformance.report.results import Outcome, Results
-from spanprof.conformance.report.suites import junit
+from spanprof.conformance.report.texts import junit
 
 
 def results():

@@ -1,15 +1,14 @@
 """Reports and their tables."""
 import unittest
 
-from spanprof.conformance.judge.other_rules import OTHERS
+from spanprof.conformance.judge.coverage import OTHERS
 from spanprof.conformance.report import tables
-from spanprof.conformance.report.texts import Report, markdown, reproducer
-from spanprof.conformance.run.alone import OneFile
-from spanprof.conformance.run.reproduce import Found
 from spanprof.conformance.report.results import Results
-from spanprof.conformance.tests.helpers import case_of, failure_of
 from spanprof.conformance.report.tests.test_results import LARGE, SMALL, results_of
-from spanprof.conformance.run.took import Took
+from spanprof.conformance.report.texts import Report, markdown, reproducer
+from spanprof.conformance.run.campaign import Took
+from spanprof.conformance.run.reproduce import Found, OneFile
+from spanprof.conformance.tests.helpers import case_of, failure_of
 
 
 def found_of(failure, ways=("refused, taskwait",), failed=3):

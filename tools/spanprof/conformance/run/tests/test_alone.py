@@ -5,7 +5,7 @@ import types
 import unittest
 
 from spanprof.conformance.judge.segments import Table
-from spanprof.conformance.run import alone
+from spanprof.conformance.run import reproduce
 from spanprof.conformance.tests.helpers import case_of, failure_of
 
 
@@ -39,11 +39,11 @@ class Files(unittest.TestCase):
                                          record=types.SimpleNamespace(preds=[[], [0], [0], [1, 2]]))
         with tempfile.TemporaryDirectory() as folder:
             bench = types.SimpleNamespace(toolchain=StubToolchain(folder, status), environment={})
-            return alone.one_file(bench, failure, examined, "some.c")
+            return reproduce.one_file(bench, failure, examined, "some.c")
 
     def test_head(self):
         found = self.written(1)
-        self.assertEqual((found.failed, found.runs), (alone.RUNS, alone.RUNS))
+        self.assertEqual((found.failed, found.runs), (reproduce.RUNS, reproduce.RUNS))
         head = found.source.partition("*/")[0]
         for words in ("At stake: a promise of the standard.",
                       "gcc 12.2, libgomp1 12.2.0: 20 of 20 runs of the file fail.",

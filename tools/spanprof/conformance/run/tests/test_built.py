@@ -4,7 +4,7 @@ import pathlib
 import tempfile
 import unittest
 
-from spanprof.conformance.run import built
+from spanprof.conformance.run import mutant_campaigns
 
 DESCRIBED = {"late": {"words": "wakes late", "rule": "taskwait", "breaks": "no: slower"},
              "lost": {"words": "loses a task", "rule": "once", "breaks": "yes"},
@@ -18,7 +18,7 @@ class Folder(unittest.TestCase):
             (folder / "mutants.json").write_text(json.dumps(DESCRIBED))
             for name in ("none", "late", "lost"):
                 (folder / f"{name}.so").touch()
-            return built.built_in(folder)
+            return mutant_campaigns.built_in(folder)
 
     def test_by_rule_and_name_after_the_runtime_as_it_is(self):
         self.assertEqual([one.name for one in self.found()], ["none", "lost", "late"])

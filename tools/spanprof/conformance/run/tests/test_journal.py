@@ -3,7 +3,7 @@ import pathlib
 import tempfile
 import unittest
 
-from spanprof.conformance.run.journal import Journal, OtherCampaign, path_of
+from spanprof.conformance.run.campaign import Journal, OtherCampaign, path_of
 
 TESTED = {"compiler": "cc", "threads": "2, 4"}
 

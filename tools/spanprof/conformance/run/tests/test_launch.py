@@ -6,8 +6,7 @@ import tempfile
 import unittest
 import unittest.mock
 
-from spanprof.conformance.run.launch import Log, breakdown, command_of, launch, read_logs
-from spanprof.conformance.run.settings import OVERWRITTEN, SETTINGS
+from spanprof.conformance.run.launch import OVERWRITTEN, SETTINGS, Log, breakdown, command_of, launch, read_logs
 from spanprof.conformance.tests.helpers import conditions
 
 TEXT = """run 0 plain

@@ -3,8 +3,7 @@ import pathlib
 import types
 import unittest
 
-from spanprof.conformance.run.built import Built
-from spanprof.conformance.run.mutant_campaigns import Campaigns
+from spanprof.conformance.run.mutant_campaigns import Built, Campaigns
 from spanprof.conformance.tests.helpers import PLAN, StubBench, case_of, failure_of
 
 LOST = Built("lost", "loses a task", "once", "yes", pathlib.Path("lost.so"))

@@ -4,7 +4,7 @@ import pathlib
 import unittest
 from unittest import mock
 
-from spanprof.conformance.run.places import delays_reported, fewest, fewest_delays, passed
+from spanprof.conformance.run.reproduce import delays_reported, fewest, fewest_delays, passed
 from spanprof.conformance.tests.helpers import case_of, conditions
 
 PLACES = tuple(f"{number:x}+" for number in range(1, 33))
@@ -54,7 +54,7 @@ class Delays(unittest.TestCase):
 
 class Told(unittest.TestCase):
     def test_words(self):
-        with mock.patch("spanprof.conformance.run.places.named", lambda _, place: f"at {place}"):
+        with mock.patch("spanprof.conformance.run.reproduce.named", lambda _, place: f"at {place}"):
             self.assertEqual(delays_reported("x", "12:1+,2-"), "Threads were delayed at 1+, at 2- by seed 12.")
         self.assertEqual(delays_reported("x", "12"), "Threads were delayed at the places of seed 12.")
         self.assertEqual(delays_reported("x", "12:"), "It fails without delays in the runtime too.")

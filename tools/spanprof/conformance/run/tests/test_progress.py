@@ -4,7 +4,7 @@ import unittest
 from unittest import mock
 
 from spanprof.conformance.judge.cases import Tally
-from spanprof.conformance.run.progress import TO_LINE_END, Progress, rough
+from spanprof.conformance.run.campaign import TO_LINE_END, Progress, rough
 from spanprof.conformance.tests.helpers import PLAN, case_of, failure_of
 
 

@@ -2,12 +2,11 @@
 import unittest
 from unittest import mock
 
+from spanprof.conformance.generate.program import Wait, nodes
 from spanprof.conformance.judge.cases import Tally
 from spanprof.conformance.judge.verdicts import Refused, Verdict
-from spanprof.conformance.run.alone import OneFile
 from spanprof.conformance.run.launch import Log
-from spanprof.conformance.generate.program import Wait, nodes
-from spanprof.conformance.run.reproduce import MOST_EVENTS, Found, Limits, Reproducer, is_like, reproduce_all
+from spanprof.conformance.run.reproduce import MOST_EVENTS, Found, Limits, OneFile, Reproducer, is_like, reproduce_all
 from spanprof.conformance.tests.helpers import StubBench, body_of, case_of, failure_of
 
 

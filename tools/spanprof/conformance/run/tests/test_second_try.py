@@ -4,7 +4,7 @@ import unittest
 
 from spanprof.conformance.judge.cases import Tally
 from spanprof.conformance.judge.verdicts import Verdict
-from spanprof.conformance.run.second_try import PATIENCE, SecondTries, doubtful
+from spanprof.conformance.run.campaign import PATIENCE, SecondTries, doubtful
 from spanprof.conformance.tests.helpers import case_of, conditions, failure_of
 
 

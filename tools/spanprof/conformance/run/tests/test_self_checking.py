@@ -6,10 +6,9 @@ import time
 import unittest
 from types import SimpleNamespace
 
-from spanprof.conformance.run import self_checking
 from spanprof.conformance.judge.cases import Case
-from spanprof.conformance.judge.expected import Expectations, read_line
-from spanprof.conformance.judge.verdicts import Verdict
+from spanprof.conformance.judge.verdicts import Expectations, Verdict, read_line
+from spanprof.conformance.run import self_checking
 from spanprof.conformance.run.launch import Conditions
 from spanprof.conformance.run.toolchain import BuildFailed
 

@@ -2,7 +2,7 @@
 import unittest
 
 from spanprof.conformance.generate.program import Loop, Task, Wait, Work, nodes, segment_count
-from spanprof.conformance.run.shrink import Shrinker, Trial, fades, smaller, unrolled, without_costs
+from spanprof.conformance.run.reproduce import Shrinker, Trial, fades, smaller, unrolled, without_costs
 from spanprof.conformance.tests.helpers import body_of
 
 LARGE = body_of("""work 8

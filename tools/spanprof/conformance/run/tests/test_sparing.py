@@ -4,10 +4,10 @@ import tempfile
 import unittest
 
 from spanprof.conformance.judge.cases import Bench
-from spanprof.conformance.judge.verdicts import Verdict
-from spanprof.conformance.run.sparing import SparingBench
-from spanprof.conformance.tests.helpers import PLAN, case_of
 from spanprof.conformance.judge.tests.test_cases import EARLY, LOG, StubJudge, StubToolchain
+from spanprof.conformance.judge.verdicts import Verdict
+from spanprof.conformance.run.mutant_campaigns import SparingBench
+from spanprof.conformance.tests.helpers import PLAN, case_of
 
 
 class Sparing(unittest.TestCase):

@@ -3,7 +3,7 @@ import subprocess
 import sys
 import unittest
 
-from spanprof.conformance.run.took import Took, taken
+from spanprof.conformance.run.campaign import Took, taken
 
 
 class Times(unittest.TestCase):
