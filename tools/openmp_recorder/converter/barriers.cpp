@@ -6,28 +6,26 @@
 #include "json.hpp"
 
 namespace {
-constexpr double alone =
-    0.05;  // of the largest piece of a phase: where the others together have less, one thread runs it
-
-struct Costs {
-  int64_t most = 0, all = 0;
-  explicit Costs(const std::map<unsigned, int64_t> &by_thread) {
-    for (auto &[thread, cost] : by_thread) most = std::max(most, cost), all += cost;
-  }
-};
-
-// Of threads that had so much, until the last one has ended.
-int64_t waits_of(const std::map<unsigned, int64_t> &by_thread) {
-  Costs costs(by_thread);
-  return static_cast<int64_t>(by_thread.size()) * costs.most - costs.all;
-}
+constexpr double alone = 0.05;  // of the largest piece of a phase: where the others have less, one thread runs it
 }  // namespace
 
-int64_t Barriers::Phase::wait() const { return waits_of(costs); }
+// Of threads that had so much, until the last one has ended.
+int64_t Barriers::waits_of(const Costs &costs) {
+  int64_t most = 0, all = 0;
+  for (const Cost &one : costs) most = std::max(most, one.cost), all += one.cost;
+  return static_cast<int64_t>(costs.size()) * most - all;
+}
 
-bool Barriers::Phase::is_alone() const {
-  Costs own(costs);
-  return static_cast<double>(own.all - own.most) < alone * static_cast<double>(own.most);
+bool Barriers::is_alone(const Costs &costs) {
+  int64_t most = 0, all = 0;
+  for (const Cost &one : costs) most = std::max(most, one.cost), all += one.cost;
+  return static_cast<double>(all - most) < alone * static_cast<double>(most);
+}
+
+void Barriers::add_to(Costs &all, const Cost &one) {
+  auto known = std::find_if(all.begin(), all.end(), [&](const Cost &other) { return other.thread == one.thread; });
+  if (known == all.end()) all.push_back(one);
+  else known->cost += one.cost;
 }
 
 Barriers::Sums &Barriers::sums_of(uint32_t of_region, uint32_t kind) {
@@ -45,17 +43,19 @@ void Barriers::take(const Events &events, const std::vector<SegmentTable::Around
   take_parts(table.take_parts());
 }
 
-void Barriers::take_parts(std::vector<SegmentTable::OwnPart> parts) {
-  for (SegmentTable::OwnPart &part : parts) {
-    add(part, threads.front());
+void Barriers::take_parts(const SegmentTable::OwnParts &parts) {
+  const SegmentTable::Share *first = parts.shares.data();
+  for (const SegmentTable::OwnPart &part : parts.all) {
+    add(part, first, threads.front());
     threads.pop_front();
+    first += part.shares;
   }
 }
 
-void Barriers::add(SegmentTable::OwnPart &part, unsigned thread) {
-  Sums &all = sums_of(part.region, part.kind);
+void Barriers::add(const SegmentTable::OwnPart &part, const SegmentTable::Share *first, unsigned thread) {
   if (!is_begun || part.group != group) {
     end_phase();
+    Sums &all = sums_of(part.region, part.kind);
     is_further = is_begun && part.is_behind && part.region == region;
     is_begun = true;
     region = part.region;
@@ -63,11 +63,13 @@ void Barriers::add(SegmentTable::OwnPart &part, unsigned thread) {
     all.times += !is_further;
     if (!is_further) end_chain(all);
   }
-  Ran one{thread, part.has_tasks, 0, std::move(part.shares)};
-  for (const SegmentTable::Share &share : one.shares) one.cost += static_cast<int64_t>(share.cost);
-  auto same = std::find_if(ran.begin(), ran.end(), [&](const Ran &other) { return other.thread == thread; });
-  if (same == ran.end()) ran.push_back(std::move(one));
-  else *same = std::move(one);
+  Ran one{part.has_tasks, shares.size(), shares.size() + part.shares};
+  shares.insert(shares.end(), first, first + part.shares);
+  Cost own{thread, 0};
+  for (size_t i = one.first; i < one.end; i++) own.cost += static_cast<int64_t>(shares[i].cost);
+  auto same = std::find_if(phase.costs.begin(), phase.costs.end(), [&](auto &other) { return other.thread == thread; });
+  if (same == phase.costs.end()) phase.costs.push_back(own), ran.push_back(one);
+  else *same = own, ran[static_cast<size_t>(same - phase.costs.begin())] = one;
 }
 
 // Of all threads, and without tasks.
@@ -75,17 +77,13 @@ bool Barriers::is_whole(unsigned team) const {
   return ran.size() >= team && std::none_of(ran.begin(), ran.end(), [](const Ran &one) { return one.has_tasks; });
 }
 
-Barriers::Phase Barriers::gathered() const {
-  Phase phase;
-  std::vector<Wait> places;
-  for (const Ran &one : ran) {
-    phase.costs[one.thread] = one.cost;
-    for (const SegmentTable::Share &share : one.shares)
-      if (share.cost) add_to(places, share.place, static_cast<int64_t>(share.cost));
-  }
+void Barriers::gather() {
+  places.clear();
+  for (const Ran &one : ran)
+    for (size_t i = one.first; i < one.end; i++)
+      if (shares[i].cost) add_to(places, shares[i].place, static_cast<int64_t>(shares[i].cost));
   auto most = std::max_element(places.begin(), places.end(), [](auto &a, auto &b) { return a.time < b.time; });
-  if (most != places.end()) phase.place = most->place;
-  return phase;
+  phase.place = most == places.end() ? no_place : most->place;
 }
 
 void Barriers::add_to(std::vector<Wait> &all, Place place, int64_t time) {
@@ -97,19 +95,21 @@ void Barriers::add_to(std::vector<Wait> &all, Place place, int64_t time) {
 void Barriers::end_phase() {
   if (ran.empty()) return;
   Sums &all = sums.at(region);
-  if (all.team && is_whole(all.team)) follow(all, gathered());
+  if (all.team && is_whole(all.team)) gather(), follow(all);
   else end_chain(all);
   ran.clear();
+  shares.clear();
+  phase.costs.clear();
 }
 
-void Barriers::follow(Sums &all, const Phase &phase) {
-  int64_t wait = phase.wait();
+void Barriers::follow(Sums &all) {
+  int64_t wait = waits_of(phase.costs);
   add_to(all.waits, phase.place, wait);
-  if (phase.is_alone()) return end_chain(all);
+  if (is_alone(phase.costs)) return end_chain(all);
   for (const Wait &before : all.last) add_to(all.behind, before.place, before.time);
   all.last.assign(1, {phase.place, wait});
   all.waited += wait;
-  for (auto &[thread, cost] : phase.costs) all.costs[thread] += cost;
+  for (const Cost &one : phase.costs) add_to(all.costs, one);
 }
 
 // What its threads would have waited less without the barriers between its phases.

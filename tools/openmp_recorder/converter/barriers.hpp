@@ -24,17 +24,18 @@ class Barriers {
     Place place;
     int64_t time;
   };
-  struct Ran {  // by a thread, in a phase
+  struct Cost {
     unsigned thread;
-    bool has_tasks;
     int64_t cost;
-    std::vector<SegmentTable::Share> shares;
+  };
+  using Costs = std::vector<Cost>;  // of each thread
+  struct Ran {  // by a thread, in a phase
+    bool has_tasks;
+    size_t first, end;  // of its shares
   };
   struct Phase {
     Place place = no_place;  // with most of its code
-    std::map<unsigned, int64_t> costs;  // by thread
-    int64_t wait() const;
-    bool is_alone() const;
+    Costs costs;
   };
   struct Sums {  // of a region
     uint32_t kind = 0;
@@ -43,7 +44,7 @@ class Barriers {
     int64_t less = 0;
     std::vector<Wait> waits, behind;  // by place; at barriers
     // the phases since the last one that one thread ran
-    std::map<unsigned, int64_t> costs;
+    Costs costs;
     int64_t waited = 0;
     std::vector<Wait> last;
   };
@@ -55,14 +56,20 @@ class Barriers {
   uint32_t region = 0, group = 0;  // of the phase that is gathered
   bool is_begun = false, is_further = false;
   std::vector<Ran> ran;
+  std::vector<SegmentTable::Share> shares;  // of what ran
+  Phase phase;  // that has been gathered
+  std::vector<Wait> places;  // of it
 
   Sums &sums_of(uint32_t of_region, uint32_t kind);
-  void take_parts(std::vector<SegmentTable::OwnPart> parts);
-  void add(SegmentTable::OwnPart &part, unsigned thread);
+  void take_parts(const SegmentTable::OwnParts &parts);
+  void add(const SegmentTable::OwnPart &part, const SegmentTable::Share *first, unsigned thread);
   void end_phase();
   bool is_whole(unsigned team) const;
-  Phase gathered() const;
-  void follow(Sums &all, const Phase &phase);
+  void gather();
+  void follow(Sums &all);
+  static int64_t waits_of(const Costs &costs);
+  static bool is_alone(const Costs &costs);
+  static void add_to(Costs &all, const Cost &one);
   static void add_to(std::vector<Wait> &all, Place place, int64_t time);
   static void end_chain(Sums &all);
 };

@@ -59,35 +59,37 @@ class Reporter {
   Object &put_size(Object &line, const std::string &file, const Size &size, int64_t work);
 };
 
-// What was let go: what the head of the text and its lines have of it.
-Size measure_before(Region &region, const Options &options, RootEnds &ends) {
-  Size size;
-  Stretches &before = *region.before;
-  each_stretch(region, false, [&](Region &stretch) {
+// What was let go: what the head of the text and its lines have of it. Without loops it is written as it was let go.
+RootEnds measure_before(WholeProgram &whole, const Options &options) {
+  Stretches &before = *whole.before;
+  whole.work = before.work;
+  if (whole.chunk_list.empty()) return before.finest;
+  RootEnds ends;
+  whole.work = 0;
+  before.begin_sums();
+  each_stretch(whole, false, [&](Region &stretch) {
     add_up(stretch);
-    region.work += stretch.root->total;
+    whole.work += stretch.root->total;
     span_of(stretch, before.ends);
     ends.add(*stretch.root);
-    size.add(size_of(stretch));
     before.take_sums(stretch, options.unit);
   });
-  return size;
+  return ends;
 }
 
 // Its work and span too.
 Size Reporter::measure(Region &region) {
   remark_locks(region);
   RootEnds ends;
-  Size before;
   region.work = 0;
-  if (region.before) before = measure_before(region, options, ends);
+  if (region.before) ends = measure_before(static_cast<WholeProgram &>(region), options);
   add_up(region);
   region.work += region.root->total;
   span_of(region);
   ends.add(*region.root);
   region.span = ends.span();
   Size size = size_of(region);
-  size.add(before);
+  if (region.before) size.add(region.before->size);
   return size;
 }
 
@@ -305,7 +307,8 @@ HowToRead how_to_read(const Job &job) {
           most_held,
           {},
           job.paths,
-          job.out};
+          job.out,
+          job.options.unit};
 }
 
 // These regions, composed. Where some were let go, the log is read again, and all but these are.

@@ -177,6 +177,7 @@ void Reader::put_stretch(Region &stretch, const std::vector<Region *> &regions, 
   all.work += stretch.root->total;
   for (const Task &t : stretch.tasks) all.tasks += t.parent && !t.pieces;
   span_of(stretch, all.ends);
+  if (whole.chunk_list.empty()) all.take_sums(stretch, how.unit);  // else it may be written with other pieces
   all.put(stretch);
   for (; chunks_gone < chunks; chunks_gone++)
     if (Chunk &chunk = whole.chunk_list[chunks_gone]; chunk.is_task) chunk.at = chunk.task->first_number;

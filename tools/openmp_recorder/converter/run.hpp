@@ -233,6 +233,7 @@ struct HowToRead {
   std::set<uint32_t> held{};  // regions by number, that never are
   CallPaths *paths = nullptr;  // of creations, where they are distinguished
   std::string beside{};  // the first name of a file for what is let go of the whole program
+  int64_t unit = 1;  // of its text, in nanoseconds
 };
 
 Run read_run(const std::vector<Records *> &threads, Ending &ending, const HowToRead &how = {});

@@ -150,7 +150,7 @@ void SegmentTable::begin_own(uint32_t number, const OfKind &before_it) {
   phases.begin_part(group, of.place, of.region, is_behind);
   if (!keeps_parts) return;
   end_part();
-  part = {number, of.region, group, is_behind, false, {}};
+  part = {number, of.region, group, is_behind, false};
   has_part = true;
 }
 
@@ -159,15 +159,20 @@ void SegmentTable::add_to_part(const OfKind &of) {
     part.has_tasks = part.has_tasks || (cost && !of.is_root);
     return;
   }
-  auto same = std::find_if(part.shares.rbegin(), part.shares.rend(), [&](auto &one) { return one.place == of.place; });
-  if (same == part.shares.rend()) part.shares.push_back({of.place, cost});
+  auto same = std::find_if(shares.rbegin(), shares.rend(), [&](auto &one) { return one.place == of.place; });
+  if (same == shares.rend()) shares.push_back({of.place, cost});
   else same->cost += cost;
 }
 
 void SegmentTable::end_part() {
-  if (has_part) parts.push_back(std::move(part));
-  has_part = false;
+  if (!std::exchange(has_part, false)) return;
+  part.shares = static_cast<uint32_t>(shares.size());
+  parts.all.push_back(part);
+  parts.shares.insert(parts.shares.end(), shares.begin(), shares.end());
+  shares.clear();
 }
+
+SegmentTable::OwnParts SegmentTable::take_parts() { return std::exchange(parts, {}); }
 
 // A group around the code of a region's threads is the end of a barrier.
 void SegmentTable::name_barrier() {

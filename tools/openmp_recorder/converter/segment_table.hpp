@@ -30,6 +30,10 @@ class SegmentTable {
   struct OwnPart {  // what a thread does up to the next barrier, or to where another one begins in the text
     uint32_t kind, region, group;
     bool is_behind, has_tasks;  // right behind a barrier
+    uint32_t shares = 0;  // how many; those of one part stand behind those of the part before
+  };
+  struct OwnParts {
+    std::vector<OwnPart> all;
     std::vector<Share> shares;
   };
   explicit SegmentTable(std::function<void(std::string_view)> to) : taker(std::move(to)) { open(Nothing, 0); }
@@ -40,7 +44,7 @@ class SegmentTable {
   void end();
   std::vector<Around> take_around() { return std::exchange(around, {}); }  // those since they were taken last
   void keep_parts() { keeps_parts = true; }
-  std::vector<OwnPart> take_parts() { return std::exchange(parts, {}); }  // the same of those that are over
+  OwnParts take_parts();  // the same of those that are over
   bool is_own(uint32_t kind) const { return of_kinds[kind].is_own; }
   uint32_t kind_of(uint32_t place) const { return kinds_of_places[place]; }  // one of them
   std::string_view words_of(uint32_t region) const { return words[region]; }
@@ -81,8 +85,9 @@ class SegmentTable {
   std::vector<uint32_t> kinds_of_places;
   Phases phases;
   bool keeps_parts = false;
-  std::vector<OwnPart> parts;
+  OwnParts parts;
   OwnPart part{};  // that is not over
+  std::vector<Share> shares;  // of it
   bool has_part = false;
   std::vector<Around> around;
   std::unordered_map<uint64_t, uint32_t> kind_numbers;

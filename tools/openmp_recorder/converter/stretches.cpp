@@ -107,7 +107,8 @@ void Stretches::each(bool timed, const std::function<void(Region &, std::size_t,
   }
 }
 
-void Stretches::take_sums(const Region &stretch, int64_t unit) {
+void Stretches::take_sums(Region &stretch, int64_t unit) {
+  size.add(size_of(stretch));
   work_in_units += ::work_in_units(stretch, unit);
   for (const void *code : codes_of(stretch)) codes.insert(code);
   constructs.add(stretch);
