@@ -20,7 +20,7 @@ from spanprof.program_text import DIVIDER, PIECE, Document, TextFile, opened, re
 
 LARGE = "spanprof_large"
 SUMS = ("segments", "work", "on_path", "path", "slack")    # of a place
-IDLE = ("delayed", "starved")       # of it in a run
+BUSY, IDLE = "busy", ("delayed", "starved")      # of it in a run
 # The limits of `spanprof`. A text beyond them is a long one, which is shown by sums and bins of time, and whose changes
 # are tried for a while, where of others each segment is shown and each change is tried.
 MOST_TASKS, MOST_SEGMENTS = 4096, 16384
@@ -80,6 +80,14 @@ def run(words, text):
     start = words_to_start(words)
     with opened(text) as file, starting(start):
         return subprocess.run(start, stdin=file, capture_output=True, text=True, errors="replace", check=False)
+
+
+def meanwhile(answer, *words):
+    """Begins to ask; what is answered then waits for it."""
+    pool = ThreadPoolExecutor(1)
+    asked = pool.submit(answer, *words)
+    pool.shutdown(wait=False)
+    return asked.result
 
 
 def at_once(answer, questions):
@@ -145,13 +153,14 @@ def numbers_in(cells):
         return []
 
 
-def places(path, numbers, wanted=SUMS, times=()):
+def places(path, numbers, wanted=SUMS, times=(), file_of_times=""):
     """Of the text in a file, of which each segment stands at the place of its number, these columns of `places`.
-    `times` are lines."""
+    `times` are lines, or all stand in a file."""
     numbers = list(numbers)
     words = {number: str(number) for number in set(numbers)}
     lines = [" ".join(map(words.__getitem__, numbers)) + "\n"]
-    return columns(["places"], Document(path, chain(lines, [DIVIDER + "\n"] * bool(times), times)), wanted)
+    divider = [DIVIDER + "\n"] * bool(times or file_of_times)
+    return columns(["places"], Document(path, chain(lines, divider, times), file_of_times), wanted)
 
 
 def named_numbers(lines):

@@ -200,17 +200,21 @@ class TextFile:
 
 
 class Document(TextFile):
-    """The text in a file, and behind the divider lines on it, which are used up as it is opened."""
+    """The text in a file, and behind the divider lines on it, which are used up as it is opened, and then another
+    file."""
 
-    def __init__(self, path, rest):
+    def __init__(self, path, rest, behind=""):
         super().__init__(path)
-        self.rest = rest
+        self.rest, self.behind = rest, behind
 
     @contextmanager
     def opened(self):
         with super().opened() as text, tempfile.TemporaryFile() as file:
             shutil.copyfileobj(text, file, PIECE)
             file.writelines(map(str.encode, chain(("\n%s\n" % DIVIDER,), self.rest)))
+            if self.behind:
+                with naming(self.behind), open(self.behind, "rb") as more:
+                    shutil.copyfileobj(more, file, PIECE)
             file.seek(0)
             yield file
 

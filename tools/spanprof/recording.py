@@ -15,11 +15,11 @@ import tempfile
 from array import array
 from dataclasses import dataclass, field
 from functools import cached_property
-from operator import itemgetter
+from itertools import repeat
 from statistics import median_low
 from typing import List, NamedTuple
 
-from spanprof.command import DAMAGE, LONGEST, Fault, naming
+from spanprof.command import DAMAGE, LONGEST, Fault, naming, reading
 from spanprof.head import head_text
 from spanprof.program_text import PIECE, read_once
 
@@ -231,6 +231,15 @@ def document(recording):
     return joined(recording.text, recording.times) if recording.folder and recording.times else recording.times
 
 
+def head_in(path):
+    """Of a file of times the numbers of the first line: its threads, and the first and the last moment."""
+    with open(path, encoding="utf-8", errors="replace") as file:
+        word, threads, first, last = file.readline().split()
+    if word != "times":
+        raise ValueError("no times")
+    return int(threads), int(first), int(last)
+
+
 def times_in(path):
     """Of such a file, or of a document with a text before them: the numbers of the first line, and the columns."""
     out = [array("q") for _ in range(4)]
@@ -340,13 +349,12 @@ class Program:
 
 
 def rows_of(names, lines):
-    """A table of an older version does not say how many threads were asked for."""
+    """Column by column, since there may be a million. A table of an older version does not say how many threads were
+    asked for."""
     *numbers, place = (names.index(name) for name in COLUMNS)
-    asked = names.index("asked") if "asked" in names else None
-    chosen = itemgetter(*numbers)
-    for line in filter(None, lines):
-        row = line.split(",", len(names) - 1)
-        yield Region(*map(int, chosen(row)), row[place], int(row[asked]) if asked is not None else 0)
+    columns = list(zip(*(line.split(",", len(names) - 1) for line in filter(None, lines))))
+    asked = map(int, columns[names.index("asked")]) if "asked" in names else repeat(0)
+    return list(map(Region, *(map(int, columns[number]) for number in numbers), columns[place], asked))
 
 
 @read_once
@@ -361,6 +369,17 @@ def read_regions(path):
     if [name for name in names if name != "asked"] != list(COLUMNS) or whole.number != 0 or not whole.elapsed > 0:
         raise Fault("%s is not a table of regions" % path)
     return Program(whole.elapsed, rest)
+
+
+def most_threads(text):
+    """Of a recording's regions; None where it has none."""
+    path = os.path.join(folder_of(text), REGIONS)
+    if not folder_of(text) or not os.path.exists(path):
+        return None
+    with reading(path), open(path, encoding="utf-8", errors="replace") as file:
+        at = next(file, "").rstrip("\n").split(",").index("threads")
+        next(file, "")      # of the program
+        return max((int(line.split(",", at + 1)[at]) for line in file if line.strip()), default=None)
 
 
 def program_of(text):

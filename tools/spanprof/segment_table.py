@@ -6,7 +6,12 @@ of 65,536 segments, and then a line of JSON. There `kinds` has of each whether i
 what it follows and where, and of code around a region its place. `long` has segments and costs from 2^32 - 1 on, `own`
 the first segments of threads' own code and the groups around them. `sums` has two kinds, how many segments of the first
 stand before one of the second, what they cost together, and the most. `clauses` has kinds, words, how many tasks have
-them, and how many of these right behind another one.
+them, and how many of these right behind another one. `phases` has a kind for each place of code that is divided among
+threads, and of it what phases.Phases has. `regions`, where none is inside another one, has by place how many there are,
+how long they last, the code of all threads, and how long by their threads, with the most that those asked for. Where
+there are times, `delays` has kinds around regions, how long their segments waited in all, and of that what a runtime
+may take to start each; and `barriers` of a region a kind of its threads' code, how often its phases begin, how much
+less its threads would wait without barriers, and by kind all their waits, and those at barriers.
 """
 import json
 import os
@@ -14,7 +19,7 @@ from array import array
 from collections import Counter, defaultdict
 from contextlib import contextmanager
 from functools import cached_property
-from itertools import compress
+from itertools import chain, compress
 from operator import add
 from typing import NamedTuple
 
@@ -25,6 +30,7 @@ from spanprof.recording import SEGMENTS, folder_of
 
 OF_A_BLOCK = 1 << 16
 COLUMNS = (("H", 2), ("I", 4), ("I", 4))     # kinds, tasks, costs
+ADDED_UP = {"phases": 7, "delays": 3}       # lists that older recordings do not have, and the numbers of a row
 OF_REGIONS = (OF_A_THREAD, BARRIER)
 
 
@@ -57,10 +63,45 @@ def widened(costs, exceptions):
     return out
 
 
+def of_numbers(row, count):
+    """A row that has so many."""
+    if len(row) != count:
+        raise ValueError("a row of %d numbers" % len(row))
+    return [number + 0 for number in row]
+
+
+def of_barriers(kind, times, less, *waits):
+    """A row with two lists of kinds, or None for code without cost, and times."""
+    all_waits, behind = ([(place, time + 0) for place, time in some] for some in waits)
+    return [*of_numbers((kind, times, less), 3), all_waits, behind]
+
+
+def of_place(place, times, elapsed, code, teams):
+    """The regions there, with the number of their threads, what elapsed, and what they asked for."""
+    return [place + "", *of_numbers((times, elapsed, code), 3), [of_numbers(team, 3) for team in teams]]
+
+
+def read_sums(code, reported):
+    """What older recordings do not have, or those without times."""
+    for name, count in ADDED_UP.items():
+        if name in reported:
+            setattr(code, name, [of_numbers(row, count) for row in reported[name]])
+    if "barriers" in reported:
+        code.barriers = [of_barriers(*row) for row in reported["barriers"]]
+    if "regions" in reported:
+        code.regions = reported["regions"]["tasks"], [of_place(*row) for row in reported["regions"]["places"]]
+
+
+def kinds_named(code):
+    """In its sums."""
+    named = {kind for kind, *_ in chain(code.clauses, code.phases or (), code.delays or (), code.barriers or ())}
+    return named.union(place for *_, waits, behind in code.barriers or () for place, _ in waits + behind)
+
+
 def check(code):
     """That its numbers are of kinds and segments that it has."""
     kinds, segments = set(range(len(code.kinds))), range(len(code.of))
-    if set(code.of) != kinds or not {kind for kind, *_ in code.clauses} <= kinds | {None}:
+    if set(code.of) != kinds or not kinds_named(code) <= kinds | {None}:
         raise ValueError("kinds that it does not have")
     counts, costs, _ = map(sum, zip(*code.sums.values()))
     if {kind for pair in code.sums for kind in pair} != kinds or (counts, costs) != (len(segments), sum(code.cost)):
@@ -83,6 +124,7 @@ def read_into(code, path, kind_of):
         if "sums" in reported:      # older recordings have none
             code.sums = {(kind, following): (count + 0, cost + 0, most + 0)
                          for kind, following, count, cost, most in reported["sums"]}
+        read_sums(code, reported)
         code.clauses = [(kind, words.replace(" ", ""), count + 0, again + 0)
                         for kind, words, count, again in reported["clauses"]]
         check(code)
@@ -127,6 +169,7 @@ class Code:
         self.own, self.groups = array("I"), array("I")  # segments that begin a thread's own code, and the group of each
         # Of tasks: the kind of the first segment, what is written, how often, and how often right behind the same.
         self.clauses = []
+        self.phases = self.delays = self.barriers = self.regions = None     # as the converter adds them up
 
     def add(self, kind):
         self.numbers[kind] = len(self.kinds)

@@ -29,7 +29,8 @@ COMMENT = re.compile(r"\s*//.*")
 CALLED = re.compile(r"(?:[\w.\[\]>-]+\s*[-+*/]?=\s*)?([A-Za-z_]\w*)\s*\((.*)")
 # Of the names of places, waits and regions, and what their directives have.
 CONSTRUCTS = (("taskwait", "taskwait"), ("taskgroup", "taskgroup"), ("loop", "for"), ("section", "sections"),
-              ("task at", "task"), ("creating a task", "task"))
+              ("task", "task"))
+HAVE_STATEMENTS = ("for", "sections", "task", "parallel")
 
 
 def files_below(folders):
@@ -175,7 +176,9 @@ def stretches(answers, places, sources):
 
 
 def construct_of(name):
-    return next((construct for words, construct in CONSTRUCTS if words in name), "parallel")
+    """A name without words is that of a region."""
+    what, _, at = name.partition(" at ")
+    return next((construct for words, construct in CONSTRUCTS if at and words in what), "parallel")
 
 
 def has(line, construct):
@@ -216,9 +219,34 @@ def directive_above(lines, number):
     return here if here > 0 and DIRECTIVE.match(lines[here - 1]) else number
 
 
-def directive_line(lines, number, construct):
+def directive_around(lines, number, construct):
+    """The innermost one whose statement has this line, and where that ends; 0 where there is none. Of several that may
+    be compiled for it, the line itself."""
+    conditions, found = 0, []
+    for here in range(min(number, len(lines)), max(number - LONGEST, 0), -1):
+        end = statement_end(lines, after_directive(lines, here)) if has(lines[here - 1], construct) else 0
+        found += [(here, end)] * (end >= number)
+        condition = CONDITION.match(lines[here - 1])
+        if condition:
+            conditions = max(0, conditions + {"if": -1, "endif": 1}[condition[1]])
+        if found and not conditions or TOP_LEVEL.match(lines[here - 1]):
+            break
+    return (number, found[0][1]) if found[1:] else found[0] if found else (0, 0)
+
+
+def directive_line(lines, number, construct, is_inside=False):
     """That of the directive: gcc may give a construct the line of a statement before it, of its function, or after its
-    loop. The line itself where the function has none, or only one that may not be compiled."""
+    loop; or, where `is_inside`, of its own statement alone. The line itself where the function has none, or only one
+    that may not be compiled."""
+    around, end = directive_around(lines, number, construct) if construct in HAVE_STATEMENTS else (0, 0)
+    behind = directive_behind(lines, number, construct)
+    if around and (is_inside or not number < behind <= end):
+        return around
+    return behind or directive_before(lines, number, construct)
+
+
+def directive_behind(lines, number, construct):
+    """The first from a line on; the line itself where that may not be compiled, and 0 where the function has none."""
     conditions = 0
     for here in range(number, min(len(lines), number + LONGEST) + 1):
         if has(lines[here - 1], construct):
@@ -228,7 +256,7 @@ def directive_line(lines, number, construct):
             conditions = max(0, conditions + {"if": 1, "endif": -1}[condition[1]])
         if here > number and TOP_LEVEL.match(lines[here - 1]):
             break
-    return directive_before(lines, number, construct)
+    return 0
 
 
 def code_of(line):

@@ -4,6 +4,8 @@ the recording tells beside them, in four lines, and as JSON. docs/MODEL.md has t
 import os
 import re
 from array import array
+from collections import Counter
+from contextlib import contextmanager
 from dataclasses import dataclass, field
 from functools import cached_property
 from heapq import heappop, heappush
@@ -14,7 +16,7 @@ from spanprof import client
 from spanprof.client import proved
 from spanprof.command import Fault, naming
 from spanprof.head import lasting
-from spanprof.recording import document, open_recording
+from spanprof.recording import document, head_in, open_recording
 from spanprof.remarks import UNFINISHED
 
 FAULTS = {
@@ -47,9 +49,16 @@ def in_words(line):
 
 def answered(read, words, path, *more):
     """What `read`, of the client, makes of `account` with these words and the timed document in a file."""
+    with timed(path), open(path, "rb") as document:
+        return read(["account", *words], document, *more)
+
+
+@contextmanager
+def timed(path):
+    """Has what the program refuses there, of a file of times or a document with them, be why there is no breakdown."""
     try:
-        with naming(path), open(path, "rb") as document:
-            return read(["account", *words], document, *more)
+        with naming(path):
+            yield
     except client.Refused as refused:
         raise NoBreakdown(in_words(refused.answer)) from refused
     except Fault as wrong:
@@ -83,8 +92,20 @@ def idle_by_place(path, rows, places, threads, elapsed):
     numbers = {name: number for number, name in enumerate(names)}
     times = chain(["times %d %d %d\n" % (threads, first, first + elapsed)],
                   map("%d %d %d %d\n".__mod__, zip(count(), rows.thread, rows.begin, rows.end)))
-    found = client.places(path, map(numbers.get, places), client.IDLE, times)
-    return [{name: part for part, name in sorted(zip(parts, names), reverse=True) if part} for parts in found]
+    return [longest_first(zip(parts, names))
+            for parts in client.places(path, map(numbers.get, places), client.IDLE, times)]
+
+
+def longest_first(parts):
+    return {name: part for part, name in sorted(parts, reverse=True) if part}
+
+
+def by_name(names, parts):
+    """Sums of these parts, of which several names may be alike."""
+    sums = Counter()
+    for name, part in zip(names, parts):
+        sums[name] += part
+    return longest_first((part, name) for name, part in sums.items())
 
 
 @dataclass
@@ -116,6 +137,7 @@ class TimeBreakdown:
     path: str = ""          # of the document
     rows: Optional[Rows] = None
     places: List[str] = field(default_factory=list)     # of the segments
+    idle_parts: Optional[list] = None   # of idle time, where they are known without rows
 
     @property
     def whole(self):
@@ -135,6 +157,8 @@ class TimeBreakdown:
     @cached_property
     def idle(self):
         """Delayed and starved time by place: the parts add up to the sums. Without rows there are no places."""
+        if self.idle_parts:
+            return self.idle_parts
         if not self.rows:
             return {}, {}
         return idle_by_place(self.path, self.rows, self.places, self.threads, self.elapsed)
@@ -185,12 +209,28 @@ def breakdown_of(head, work, path, places=()):
         found.rows = Rows(*answered(client.columns, ["--rows"], path, Rows._fields))
         if len(found.rows.thread) != len(places):
             raise NoBreakdown("there are times of %d segments, and not of %d" % (len(found.rows.thread), len(places)))
+    return divide(found, head, work)
+
+
+def divide(found, head, work):
+    """What the head of the text tells of the time in code."""
     # lines that are rounded to whole units may have less than the text covers
     found.blocked, found.recorder = divide_busy(found, head, max(work, head.covered or 0))
     found.by_processor = head.clock == "cpu"
     found.of_whole = bool(head.whole)
     found.left_out = (head.not_covered.get("of this region", 0) + head.untimed) * head.nanoseconds
     return found
+
+
+def breakdown_by_kind(head, work, text, of, names, times):
+    """The same of a recording's text, each segment of which has the number of a kind with a name, and all times stand
+    in a file: without rows, of which there may be millions."""
+    with timed(times):
+        busy, *idle = client.places(text, of, (client.BUSY, *client.IDLE), file_of_times=times)
+        (threads, first, last), parts = head_in(times), [sum(busy), *map(sum, idle)]
+    found = TimeBreakdown(threads, last - first, *parts, threads * (last - first) - sum(parts))
+    found.idle_parts = [by_name(names, one) for one in idle]
+    return divide(found, head, work)
 
 
 def times_name(path):

@@ -13,7 +13,6 @@ AT = r"callers\.c:\d+"
 RIGHT = {
     "callers": [
         r"recorded from callers, the whole program: 1 region",
-        r"serial code 1 task [\d.]+ % of the work",
         r"called from solve at " + AT,
     ],
 }

@@ -73,8 +73,8 @@ def rows(path):
 
 def read_recording(path):
     one = recorded_as(path.read_text(encoding="utf-8"), path.name)
-    take_times(one, path.with_suffix(".timed"))
     one.runtime = RUNTIME
+    take_times(one, path.with_suffix(".timed"))
     return one
 
 

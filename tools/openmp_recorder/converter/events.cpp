@@ -28,10 +28,12 @@ constexpr size_t longest_piece = 1 << 16;
 
 void put_row(Piece &piece, uint64_t segment, const SegmentTime &time) {
   piece.number(segment);
-  for (int64_t value : {int64_t{time.worker}, time.begin, time.end}) {
-    piece.put(" ");
-    piece.number(value);
-  }
+  piece.put(" ");
+  piece.number(time.worker);
+  piece.put(" ");
+  piece.number(time.begin);
+  piece.put(" ");
+  piece.number(time.end);
   piece.put("\n");
 }
 }  // namespace

@@ -22,6 +22,7 @@ class Events {
   void take(const Region &region, const Region &part, uint32_t first, uint32_t end);  // with these segments
   bool are_whole() const { return finished == first + times.size(); }  // every segment of the text began and ended
   size_t workers() const { return numbers.size(); }
+  uint32_t first_segment() const { return first; }  // of the last part
   // What follows the text in a timed document: the times of all segments, on the threads of the region and those that
   // ran its tasks beside them.
   void print(const Region &region, const Taker &taker);

@@ -250,15 +250,16 @@ void Head::remarks(const Region &region) {
 }  // namespace
 
 Beside beside_each_other(const std::vector<Part> &parts) {
-  std::map<unsigned, std::vector<int64_t>> phases;
+  std::vector<std::pair<unsigned, int64_t>> costs;  // by phase, in order
   for (const Part &part : parts)
-    if (part.task->parent && !part.task->pieces) phases[part.phase].push_back(without_chunks(*part.task));
+    if (part.task->parent && !part.task->pieces) costs.push_back({part.phase, without_chunks(*part.task)});
+  std::sort(costs.begin(), costs.end());
   Beside out;
-  for (auto &[number, costs] : phases) {
-    if (costs.size() < 2) continue;
-    out.parts += costs.size();
-    for (int64_t cost : costs) out.cost += cost;
-    out.cost -= *std::max_element(costs.begin(), costs.end());
+  for (size_t first = 0, end = 0; first < costs.size(); first = end) {
+    while (end < costs.size() && costs[end].first == costs[first].first) end++;
+    if (end - first < 2) continue;
+    out.parts += end - first;
+    for (size_t i = first; i + 1 < end; i++) out.cost += costs[i].second;  // all but the largest, which is the last
   }
   return out;
 }

@@ -1,6 +1,8 @@
 #include "off_times.hpp"
 
+#include <algorithm>
 #include <map>
+#include <utility>
 
 #include "run.hpp"
 
@@ -28,26 +30,39 @@ void OffTimes::add(const OffTime &one) {
   all.back().preempted += one.preempted;
 }
 
-void OffTimes::move(size_t from, const Task &of, const Task &to, unsigned first_segment) {
-  for (size_t i = from; i < all.size(); i++)
+void OffTimes::move(std::size_t since, const Task &of, const Task &to, unsigned first_segment) {
+  for (std::size_t i = since - std::min(since, gone); i < all.size(); i++)
     if (all[i].task == &of) all[i].task = &to, all[i].segment += first_segment;
 }
 
-void OffTimes::release(std::size_t stretch, const Task &root, const Task &of_stretch) {
+void OffTimes::release(const Task &root, const Task &of_stretch) {
+  std::vector<OffTime> &own = released.emplace_back(), left;
   for (OffTime &one : all) {
     bool is_of_root = one.task == &root;
-    if (is_of_root && one.segment >= of_stretch.segment) one.segment -= of_stretch.segment;
-    else if (is_of_root || (one.task && one.task->is_released)) {
-      one.stretch = static_cast<uint32_t>(stretch);
-      one.in_stretch = (is_of_root ? of_stretch : *one.task).first_number;
-      one.task = nullptr;
-    }
+    bool is_left = is_of_root ? one.segment >= of_stretch.segment : !one.task->is_released;
+    if (is_of_root && is_left) one.segment -= of_stretch.segment;
+    if (!is_left) one.in_stretch = (is_of_root ? of_stretch : *one.task).first_number, one.task = nullptr;
+    (is_left ? left : own).push_back(one);
   }
+  own.shrink_to_fit();
+  gone += own.size();
+  all = std::move(left);
+}
+
+void OffTimes::begin_again() {
+  rest = std::move(all);
+  numbered.clear();
 }
 
 void OffTimes::take_back(std::size_t stretch, const std::vector<Task *> &tasks) {
-  for (OffTime &one : all)
-    if (one.stretch == stretch && one.in_stretch != none) one.task = tasks[one.in_stretch];
+  read = stretch;
+  all = stretch < released.size() ? released[stretch] : std::vector<OffTime>();
+  for (OffTime &one : all) one.task = one.in_stretch == none ? nullptr : tasks[one.in_stretch];
+}
+
+void OffTimes::go_on() {
+  read = SIZE_MAX;
+  all = std::move(rest);
 }
 
 void OffTimes::number(const Region &region) {
@@ -56,17 +71,18 @@ void OffTimes::number(const Region &region) {
     OffTime &one = all[i];
     if (i % at_once == 0) table_memory::stay_within();
     if (!one.task) continue;
-    if (uint32_t number = number_in_text(*one.task, one.segment, region); number != none)
-      one.number = number, one.pieces = tasks_for(*one.task);
-    if (one.stretch != none) one.task = nullptr;
+    one.number = number_in_text(*one.task, one.segment, region);
+    one.pieces = tasks_for(*one.task);
+    if (one.number != none) numbered.push_back(one);
   }
+  all = {};
+  if (read < released.size()) released[read] = {};
 }
 
 std::string off_lines(const Region &region, OffTimes &times) {
   times.number(region);
   ByNumber found;
-  for (const OffTime &one : times.all)
-    if (one.number != none) add(found, one);
+  for (const OffTime &one : times.in_text()) add(found, one);
   std::string out;
   for (auto &[number, off] : found) {
     if (!off.first && !off.second) continue;

@@ -1,9 +1,12 @@
 #include "outputs.hpp"
 
 #include <algorithm>
+#include <optional>
 
+#include "barriers.hpp"
 #include "chosen.hpp"
 #include "compose.hpp"
+#include "delays.hpp"
 #include "events.hpp"
 #include "files.hpp"
 #include "head.hpp"
@@ -33,7 +36,7 @@ class Reporter {
   void write(Region &region, const std::string &name);
   void report_outside(const Occurrences &outside);
   void write_regions(const Run &run, const WholeTime &time, const std::string &name);
-  std::vector<Region *> chosen(const Run &run, std::vector<Region *> regions);
+  std::vector<Region *> chosen(std::vector<Region *> regions);
   void write_locks(const std::vector<Records *> &threads, const std::string &name);
   void write_off(WholeProgram &whole, const Stacks &stacks, const std::string &name);
 
@@ -41,6 +44,7 @@ class Reporter {
   const Options &options;
   Recording recording;
   Places places;
+  RegionSums of_regions;
 
   Size measure(Region &region);
   std::string head(Region &region, int64_t work);
@@ -48,40 +52,44 @@ class Reporter {
   void write_times(Region &region, Events &events, const std::string &name, Object &line);
   bool write_text(Region &region, const std::string &file, const std::string &head, const Style &style,
                   SegmentTable *table, const PartTaker &behind_part);
-  bool write_whole(Region &region, const std::string &name, const std::string &head, const Style &style,
-                   const PartTaker &behind_part);
+  bool write_whole(WholeProgram &whole, const std::string &name, const std::string &head, const Style &style,
+                   Events &events);
+  bool write_parts(Region &region, const std::string &name, const std::string &head, const Style &style,
+                   Events &events);
   Object &put_size(Object &line, const std::string &file, const Size &size, int64_t work);
 };
 
-// What was let go: what the head of the text and its lines have of it.
-Size measure_before(Region &region, const Options &options, RootEnds &ends) {
-  Size size;
-  Stretches &before = *region.before;
-  each_stretch(region, false, [&](Region &stretch) {
+// What was let go: what the head of the text and its lines have of it. Without loops it is written as it was let go.
+RootEnds measure_before(WholeProgram &whole, const Options &options) {
+  Stretches &before = *whole.before;
+  whole.work = before.work;
+  if (whole.chunk_list.empty()) return before.finest;
+  RootEnds ends;
+  whole.work = 0;
+  before.begin_sums();
+  each_stretch(whole, false, [&](Region &stretch) {
     add_up(stretch);
-    region.work += stretch.root->total;
+    whole.work += stretch.root->total;
     span_of(stretch, before.ends);
     ends.add(*stretch.root);
-    size.add(size_of(stretch));
     before.take_sums(stretch, options.unit);
   });
-  return size;
+  return ends;
 }
 
 // Its work and span too.
 Size Reporter::measure(Region &region) {
   remark_locks(region);
   RootEnds ends;
-  Size before;
   region.work = 0;
-  if (region.before) before = measure_before(region, options, ends);
+  if (region.before) ends = measure_before(static_cast<WholeProgram &>(region), options);
   add_up(region);
   region.work += region.root->total;
   span_of(region);
   ends.add(*region.root);
   region.span = ends.span();
   Size size = size_of(region);
-  size.add(before);
+  if (region.before) size.add(region.before->size);
   return size;
 }
 
@@ -123,17 +131,63 @@ bool Reporter::write_text(Region &region, const std::string &file, const std::st
   });
 }
 
+// What is added up of the segments of the whole program beside their table, where they have times.
+class TimedSums {
+ public:
+  TimedSums(WholeProgram &program, SegmentTable &of, Events &times, const RegionSums &regions)
+      : whole(program),
+        table(of),
+        events(times),
+        barriers(of, [&](std::string_view place) { return regions.most_threads(place); }) {}
+  void take(Region &part, uint32_t first, uint32_t end) {
+    events.take(whole, part, first, end);
+    std::vector<SegmentTable::Around> around = table.take_around();
+    delays.take(whole, part, events, around);
+    barriers.take(events, around);
+  }
+  void put(Object &line) {
+    if (!events.are_whole()) return;
+    delays.put(events, line);
+    barriers.put(line);
+  }
+
+ private:
+  WholeProgram &whole;
+  SegmentTable &table;
+  Events &events;
+  Delays delays;
+  Barriers barriers;
+};
+
 // Of the whole program, with the table of its segments where that has room for all.
-bool Reporter::write_whole(Region &region, const std::string &name, const std::string &head, const Style &style,
-                           const PartTaker &behind_part) {
+bool Reporter::write_whole(WholeProgram &whole, const std::string &name, const std::string &head, const Style &style,
+                           Events &events) {
   std::string file = name + ".segments";
   NewFile out(file);
   SegmentTable table([&](std::string_view piece) { out.put(piece); });
-  bool is_text = write_text(region, name + ".tasks", head, style, &table, behind_part);
-  bool has_room = table.finish();
+  std::optional<TimedSums> sums;
+  if (whole.has_events) sums.emplace(whole, table, events, of_regions);
+  auto take_part = [&](Region &part, uint32_t first, uint32_t end) {
+    if (sums) sums->take(part, first, end);
+    else table.take_around();
+    whole.off.number(whole);
+  };
+  bool is_text = write_text(whole, name + ".tasks", head, style, &table, take_part);
+  bool has_room = table.finish([&](Object &line) {
+    of_regions.put(line);
+    if (sums) sums->put(line);
+  });
   bool is_table = out.end();
   if (!has_room) remove(file.c_str());
   return is_text && is_table;
+}
+
+bool Reporter::write_parts(Region &region, const std::string &name, const std::string &head, const Style &style,
+                           Events &events) {
+  auto take_part = [&](Region &part, uint32_t first, uint32_t end) {
+    if (region.has_events) events.take(region, part, first, end);
+  };
+  return write_text(region, name + ".tasks", head, style, nullptr, take_part);
 }
 
 Object &Reporter::put_size(Object &line, const std::string &file, const Size &size, int64_t work) {
@@ -154,12 +208,8 @@ void Reporter::write(Region &region, const std::string &name) {
   bool has_off = recording.whole && static_cast<WholeProgram &>(region).has_off;
   Style style{options.unit, size.tasks > most_tasks, region.has_events || has_off};
   Events events(name);
-  auto take_part = [&](const Region &part, uint32_t first, uint32_t end) {
-    if (region.has_events) events.take(region, part, first, end);
-    if (recording.whole) static_cast<WholeProgram &>(region).off.number(region);
-  };
-  if (!(recording.whole ? write_whole(region, name, words, style, take_part)
-                        : write_text(region, file, words, style, nullptr, take_part)))
+  if (!(recording.whole ? write_whole(static_cast<WholeProgram &>(region), name, words, style, events)
+                        : write_parts(region, name, words, style, events)))
     return;
   report_remarks(region, name);
   Message line("text");
@@ -175,17 +225,20 @@ void Reporter::report_outside(const Occurrences &outside) {
 
 // Of a run without regions there is no table.
 void Reporter::write_regions(const Run &run, const WholeTime &time, const std::string &name) {
-  if (run.regions.empty()) return;
+  if (run.rows.empty()) return;
   if (options.lines) places.look_up(codes_of_regions(run));
   write_file(name + ".regions", [&](const Taker &taker) { print_regions(run, time, places, taker); });
+  of_regions = sums_of_regions(run, time, places);
 }
 
 // All, or where one is asked for that of median work at its place, so that one that a busy machine held up stands for
 // none.
-std::vector<Region *> Reporter::chosen(const Run &run, std::vector<Region *> regions) {
+std::vector<Region *> Reporter::chosen(std::vector<Region *> regions) {
   if (!options.one_region) return regions;
   if (!options.region.empty()) {
-    if (options.lines) places.look_up(codes_of_regions(run));
+    std::vector<const void *> codes;
+    for (const Region *region : regions) codes.push_back(region->code);
+    if (options.lines) places.look_up(codes);
     auto is_elsewhere = [&](const Region *region) { return places.at(region->code) != options.region; };
     regions.erase(std::remove_if(regions.begin(), regions.end(), is_elsewhere), regions.end());
   }
@@ -254,7 +307,8 @@ HowToRead how_to_read(const Job &job) {
           most_held,
           {},
           job.paths,
-          job.out};
+          job.out,
+          job.options.unit};
 }
 
 // These regions, composed. Where some were let go, the log is read again, and all but these are.
@@ -296,11 +350,12 @@ void report(const Job &job, Ending &ending) {
   Recording recording{job.program, job.date, with_tasks.size(), time, threads};
   Reporter reporter(job, std::move(recording));
   if (with_tasks.empty() && !job.may_be_empty) Message("no tasks").put("inside", ending.wall != 0);
-  std::vector<Region *> written = held(reporter.chosen(run, with_tasks), job, unread, run);
+  std::vector<Region *> written = held(reporter.chosen(with_tasks), job, unread, run);
   for (size_t i = 0; i < written.size(); i++) {
     written[i]->text = i + 1;
     for (Remark remark : job.unseen) written[i]->remarks[remark];
   }
+  list_regions(run);
   reporter.write_regions(run, {job.start, end, threads.outside}, job.out);
   for (size_t i = 0; i < written.size(); i++)
     reporter.write(*written[i], job.out + (i ? "." + std::to_string(i + 1) : ""));

@@ -21,7 +21,7 @@ using Taker = std::function<void(std::string_view piece)>;
 std::vector<const void *> codes_of(const Region &region);  // whose places stand in its text
 int64_t work_in_units(const Region &region, int64_t unit);  // as the text has it, rounded line by line
 // Of a part of the text that is written, with the numbers of its first segment and behind its last.
-using PartTaker = std::function<void(const Region &part, uint32_t first, uint32_t end)>;
+using PartTaker = std::function<void(Region &part, uint32_t first, uint32_t end)>;
 // Piece by piece, and the table of its segments where one is wanted.
 void print_program(Region &region, const Style &style, const Places &places, const Taker &taker,
                    SegmentTable *table = nullptr, const PartTaker &behind = nullptr);

@@ -10,6 +10,7 @@ int64_t in_code(const Region &region) {
 int64_t in_code(const Run &run) {
   int64_t sum = 0;
   for (auto &[number, region] : run.regions) sum += in_code(*region);
+  for (const RegionRow &row : run.rows) sum += run.regions.count(row.number) ? 0 : row.in_code;
   return sum;
 }
 

@@ -40,6 +40,7 @@ struct Turns {
 };
 
 struct ImplicitTask {
+  uint32_t region = 0;  // its number
   unsigned phase = 0;  // barriers before it
   std::vector<const void *> groups;  // that are open around the barrier that it is at
   unsigned loops = 0;  // that it met
@@ -115,6 +116,7 @@ class Reader {
   void look_at_new_part(uint32_t number) const;
   void implicit_begin();
   void leave_region(Met &met);
+  void leave_released(uint32_t number);
   void implicit_end();
   void count_divided();
   void hand_on_divided(unsigned thread, uint32_t first, uint32_t last);
@@ -158,6 +160,9 @@ class Reader {
   void put_stretch(Region &stretch, const std::vector<Region *> &regions, size_t chunks);
   void forget_loops(const Placed &end);
   void take_from_placed(const Placed &gone);
+  Numbers over;  // regions of which a row is left
+  static bool is_over(const Region &region);
+  void leave_rows();
 
   // waits.cpp: dependences, barriers, groups, `taskwait`
   static void begin_group(Task *t, const void *code);

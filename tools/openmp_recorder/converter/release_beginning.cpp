@@ -89,9 +89,33 @@ void Reader::release_until(const Placed &found) {
   }
   put_stretch(stretch, {begun.begin(), begun.begin() + static_cast<std::ptrdiff_t>(end.regions)}, end.chunks);
   before().finest.add(*stretch.root);
-  run.whole->off.release(before().count() - 1, *run.whole->root, *stretch.root);
+  run.whole->off.release(*run.whole->root, *stretch.root);
   take_from_placed(end);
+  leave_rows();
   room = std::min(room, least_stretch);
+}
+
+// All its threads have left it, and nothing names it.
+bool Reader::is_over(const Region &region) {
+  bool has_ended = region.is_ended && region.ended >= region.threads;
+  return region.whole && region.is_released && has_ended && !region.is_named && !region.owner;
+}
+
+void Reader::leave_rows() {
+  for (auto one = run.regions.begin(); one != run.regions.end();) {
+    Region &region = *one->second;
+    if (!is_over(region)) {
+      ++one;
+      continue;
+    }
+    run.rows.push_back(row_of(region));
+    run.whole->cost_of_over += region.cost;
+    if (!region.remarks.empty() || region.differing.is_made() || region.asleep.is_made())
+      run.whole->of_over[region.number] = {std::move(region.remarks), std::move(region.differing),
+                                           std::move(region.asleep)};
+    over.add(region.number);
+    one = run.regions.erase(one);
+  }
 }
 
 // The first steps of the program's root are those of the stretch's.
@@ -153,6 +177,7 @@ void Reader::put_stretch(Region &stretch, const std::vector<Region *> &regions, 
   all.work += stretch.root->total;
   for (const Task &t : stretch.tasks) all.tasks += t.parent && !t.pieces;
   span_of(stretch, all.ends);
+  if (whole.chunk_list.empty()) all.take_sums(stretch, how.unit);  // else it may be written with other pieces
   all.put(stretch);
   for (; chunks_gone < chunks; chunks_gone++)
     if (Chunk &chunk = whole.chunk_list[chunks_gone]; chunk.is_task) chunk.at = chunk.task->first_number;

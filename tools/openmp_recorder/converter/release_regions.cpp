@@ -6,6 +6,11 @@
 #include "auxiliary.hpp"
 #include "compose.hpp"
 #include "reader.hpp"
+#include "table_memory.hpp"
+
+// They come and go by the million.
+void *Region::operator new(size_t bytes) { return table_memory::get(bytes); }
+void Region::operator delete(void *memory, size_t bytes) { table_memory::give_back(memory, bytes); }
 
 // No record that follows is of one of its tasks.
 bool Reader::is_ended(const Region &region) const {

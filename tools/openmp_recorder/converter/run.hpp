@@ -10,6 +10,7 @@
 
 #include "event_list.hpp"
 #include "locations.hpp"
+#include "numbers.hpp"
 #include "off_times.hpp"
 #include "remarks.hpp"
 #include "seldom.hpp"
@@ -96,6 +97,8 @@ class CallPaths;
 class Stretches;
 
 struct Region {
+  static void *operator new(size_t bytes);
+  static void operator delete(void *memory, size_t bytes);
   uint32_t number = 0;
   const void *code = nullptr;
   unsigned asked = 0;  // how many threads its program asked for; 0 where that is not reported
@@ -116,6 +119,7 @@ struct Region {
   uint64_t created = 0;  // tasks
   uint64_t chunks = 0;  // of these, chunks of loops
   bool has_auxiliary = false;  // tasks
+  bool is_named = false;  // by a region of the runtime that it met, or in a damaged log by a later part
   bool of_program = true;  // else of the runtime, for threads that it keeps for itself
   int64_t cost = 0;  // of all its code
   Seldom<std::map<LockName, LockUse>> locks;
@@ -152,6 +156,31 @@ inline uint32_t number_in_text(const Task &t, unsigned segment, const Region &re
 inline Region &home(Region &region) { return region.whole ? *region.whole : region; }
 
 // The whole program, where that is asked for.
+struct Run;
+
+// What the table of regions has of one, and is left of one that is over.
+struct RegionRow {
+  uint32_t number = 0, text = 0, threads = 0, asked = 0, tasks = 0, loops = 0;
+  bool of_program = true, is_in_whole = false;
+  bool is_outermost = true;
+  const void *code = nullptr;
+  int64_t in_code = 0;
+  int64_t begin = 0, end = 0;  // on the wall clock; an end that is not known is 0
+  void set(const RegionTime &time) {
+    begin = time.begin;
+    end = time.end;
+    is_outermost = time.is_outermost;
+  }
+};
+RegionRow row_of(const Region &region);
+void list_regions(Run &run);  // those that are not among the rows yet
+
+// What the whole program has of a region beside that; most have nothing.
+struct SeldomSums {
+  Seldom<Remarks> remarks;
+  Seldom<Differing> differing, asleep;
+};
+
 struct ShortChunks {
   uint64_t times = 0, turns = 0;
 };
@@ -169,6 +198,9 @@ struct WholeProgram : Region {
   OffTimes off;  // of its segments
   bool has_off = false;  // else the text has others than ran
   int64_t serial = 0, in_loops = 0;  // of the cost: outside of regions; in chunks of loops
+  std::map<uint32_t, SeldomSums> of_over;  // of regions that are over, by number
+  int64_t cost_of_over = 0;
+  Numbers numbers;  // of the regions that are in the text
   std::map<const void *, ShortChunks> short_chunks;  // by the loop's code: those that began soon after others
   std::map<const void *, MostTurns> most_turns;  // by the loop's code: of one time, and the threads that divide them
   std::deque<Loop> loop_list;
@@ -177,6 +209,7 @@ struct WholeProgram : Region {
 
 struct Run {
   std::map<uint32_t, std::unique_ptr<Region>> regions;  // by number, so in order
+  std::vector<RegionRow> rows;  // of regions that are over and not among these; in the end of all
   Occurrences outside;  // tasks created outside any region
   std::unique_ptr<WholeProgram> whole;
 };
@@ -200,6 +233,7 @@ struct HowToRead {
   std::set<uint32_t> held{};  // regions by number, that never are
   CallPaths *paths = nullptr;  // of creations, where they are distinguished
   std::string beside{};  // the first name of a file for what is let go of the whole program
+  int64_t unit = 1;  // of its text, in nanoseconds
 };
 
 Run read_run(const std::vector<Records *> &threads, Ending &ending, const HowToRead &how = {});

@@ -224,11 +224,10 @@ std::string sampled_lines(const Region &region, OffTimes &times, const Stacks &s
   std::vector<Contended> contended = all_contended(stacks, places);
   times.number(region);
   std::map<uint64_t, Sum> found;
-  for (const OffTime &one : times.all) {
+  for (const OffTime &one : times.in_text()) {
     if (!one.stands_for || one.stack >= names.size()) continue;
     const Named &named = names[one.stack];
     if (named.calls.empty() || (named.in_recorder && !one.asleep)) continue;
-    if (one.number == none) continue;
     auto &by_calls = found[one.number].by_calls;
     by_calls[{one.asleep ? slept : ran, named.calls}] += one.stands_for;
     Contended shared = one.sample ? contended[one.sample - 1] : Contended{};

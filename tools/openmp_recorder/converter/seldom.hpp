@@ -26,6 +26,7 @@ class Seldom {
   std::size_t size() const { return get().size(); }
   bool empty() const { return get().empty(); }
   void clear() { there.reset(); }
+  bool is_made() const { return there != nullptr; }
 
  private:
   std::unique_ptr<T> there;

@@ -107,7 +107,8 @@ void Stretches::each(bool timed, const std::function<void(Region &, std::size_t,
   }
 }
 
-void Stretches::take_sums(const Region &stretch, int64_t unit) {
+void Stretches::take_sums(Region &stretch, int64_t unit) {
+  size.add(size_of(stretch));
   work_in_units += ::work_in_units(stretch, unit);
   for (const void *code : codes_of(stretch)) codes.insert(code);
   constructs.add(stretch);
@@ -117,9 +118,11 @@ void each_stretch(Region &region, bool numbered, const std::function<void(Region
   if (!region.before) return;
   auto &whole = static_cast<WholeProgram &>(region);
   bool timed = numbered && region.has_events;
+  if (numbered) whole.off.begin_again();
   whole.before->each(timed, [&](Region &stretch, std::size_t number, const std::vector<Task *> &tasks) {
     if (numbered) whole.off.take_back(number, tasks);
     put_pieces(whole, number, tasks, stretch.events);
     take(stretch);
   });
+  if (numbered) whole.off.go_on();
 }

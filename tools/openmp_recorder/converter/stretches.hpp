@@ -10,6 +10,7 @@
 #include "head.hpp"
 #include "lines.hpp"
 #include "run.hpp"
+#include "size.hpp"
 #include "span.hpp"
 
 class Stretches {
@@ -30,7 +31,9 @@ class Stretches {
   std::vector<std::size_t> chunks;  // of the program's, until the end of each
 
   // sums of them as they are written
-  void take_sums(const Region &stretch, int64_t unit);
+  void begin_sums() { size = {}, work_in_units = 0, constructs = {}; }
+  void take_sums(Region &stretch, int64_t unit);
+  Size size;
   int64_t work_in_units = 0;
   std::set<const void *> codes;
   Constructs constructs;

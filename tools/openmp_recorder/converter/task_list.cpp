@@ -1,7 +1,6 @@
 #include "task_list.hpp"
 
 #include <memory>
-#include <new>
 
 TaskList::Block TaskList::new_block(uint32_t room) {
   return {static_cast<Task *>(table_memory::get(room * sizeof(Task))), 0, room};

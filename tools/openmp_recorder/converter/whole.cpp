@@ -59,6 +59,7 @@ void Reader::meet_region(Region &region) {
   release_beginning();
   Task *t = find(r->task), *root = run.whole->root;
   region.whole = run.whole.get();
+  run.whole->numbers.add(region.number);
   region.has_events = false;
   if (ImplicitTask *own = in_loop(); own && own->chunk && t && t->part) {
     t = own->chunk;  // whose turns are not told apart then
@@ -200,7 +201,7 @@ void Reader::begin_chunk(ImplicitTask &own, uint64_t turns) {
   t->region->chunks++;
   own.loop->reported += turns;
   own.left = run.whole->events.size() - 1;
-  own.off = run.whole->off.all.size();
+  own.off = run.whole->off.seen();
   chunk->code = own.loop->code;
   chunk->of_loop = true;
   chunk->origin = own.loop->what == Divided::Sections ? Origin::Section : Origin::Turns;

@@ -32,23 +32,43 @@ void take_over_parts(WholeProgram &whole, Region &region) {
   region.parts = std::vector<Part>();
 }
 
+void add_seldom(WholeProgram &whole, const Remarks &remarks, const Differing &differing, const Differing &asleep) {
+  for (auto &[what, seen] : remarks) whole.remarks[what].add(seen);
+  add_differing(whole.differing.made(), differing);
+  add_differing(whole.asleep.made(), asleep);
+}
+
 void take_over(WholeProgram &whole, Region &region) {
   whole.regions++;
   whole.cost += region.cost;
   whole.in_tasks += region.cost;
   take_over_parts(whole, region);
-  for (auto &[name, use] : region.locks) whole.locks[name].add(use);
-  for (auto &[what, seen] : region.remarks) whole.remarks[what].add(seen);
-  add_differing(whole.differing.made(), region.differing);
-  add_differing(whole.asleep.made(), region.asleep);
+  add_seldom(whole, region.remarks, region.differing, region.asleep);
+}
+
+// In the order of their numbers, with those that are over.
+void take_over_all(WholeProgram &whole, Run &run) {
+  whole.regions = run.rows.size();
+  whole.cost += whole.cost_of_over;
+  whole.in_tasks += whole.cost_of_over;
+  auto over = whole.of_over.begin(), end = whole.of_over.end();
+  auto add_until = [&](uint64_t number) {
+    for (; over != end && over->first < number; ++over)
+      add_seldom(whole, over->second.remarks, over->second.differing, over->second.asleep);
+  };
+  for (auto &[number, region] : run.regions) {
+    add_until(number);
+    if (region->whole) take_over(whole, *region);
+  }
+  add_until(UINT64_MAX);
 }
 
 // At once. A region inside another one has the thread of it that met it.
 unsigned most_threads(const Run &run) {
   std::vector<std::pair<int64_t, int>> changes;
-  for (auto &[number, region] : run.regions) {
-    int more = static_cast<int>(region->threads) - !region->time.is_outermost;
-    if (region->whole) changes.insert(changes.end(), {{region->time.begin, more}, {region->time.end, -more}});
+  for (const RegionRow &row : run.rows) {
+    int more = static_cast<int>(row.threads) - !row.is_outermost;
+    if (row.is_in_whole) changes.insert(changes.end(), {{row.begin, more}, {row.end, -more}});
   }
   std::sort(changes.begin(), changes.end());
   int now = 0, most = 1;
@@ -77,8 +97,8 @@ void finish_whole(Run &run, const RegionTime &time, int64_t unit) {
   size_t parts = 0;
   for (auto &[number, region] : run.regions) parts += region->parts.size();
   whole.parts.reserve(parts);
-  for (auto &[number, region] : run.regions)
-    if (region->whole) take_over(whole, *region);
+  take_over_all(whole, run);
+  list_regions(run);
   add_up(whole);
   whole.work = whole.root->total + (whole.before ? whole.before->work : 0);
   measure_chunks(whole, whole.before ? whole.before->chunks.back() : 0, whole.chunk_list.size());

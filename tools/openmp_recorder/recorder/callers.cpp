@@ -22,20 +22,32 @@ int find_segment(dl_phdr_info *module, size_t, void *range) {
   return 0;
 }
 
-// Whether it lies in a function of the runtime whose name begins so. `dladdr` locks the loader: not in a handler.
-bool is_in_function(const void *code, const char *name) {
+// What passes on an address inside itself, and not its caller's: the calls of gcc's code, and a taskloop.
+enum class Inside : uintptr_t { Neither, CallOfGcc, Taskloop };
+
+bool begins(const char *name, const char *with) { return !strncmp(name, with, strlen(with)); }
+
+// `dladdr` locks the loader: not in a handler. It takes 20 us.
+Inside find_function(const void *code) {
   Dl_info info;
-  return dladdr(const_cast<void *>(code), &info) && info.dli_sname && !strncmp(info.dli_sname, name, strlen(name));
+  if (!dladdr(const_cast<void *>(code), &info) || !info.dli_sname) return Inside::Neither;
+  if (begins(info.dli_sname, "__kmpc_taskloop") || begins(info.dli_sname, "GOMP_taskloop")) return Inside::Taskloop;
+  return begins(info.dli_sname, "GOMP_") ? Inside::CallOfGcc : Inside::Neither;
 }
 
-// Functions that pass on an address inside themselves, and not their caller's: the calls of gcc's code, and a taskloop.
-constexpr const char *call_of_gcc = "GOMP_", *taskloop = "__kmpc_taskloop", *taskloop_of_gcc = "GOMP_taskloop";
-bool is_in_called_function(const void *code) {
-  return is_in_function(code, call_of_gcc) || is_in_function(code, taskloop);
-}
+// The answers for the last places, each an address with its answer in the lowest bits: any thread may write one.
+constexpr unsigned answer_bits = 2, most_answers = 64;
+std::atomic<uintptr_t> answers[most_answers];
 
-// The last places inside the runtime at which a task of a taskloop was made, and another one.
-std::atomic<const void *> in_taskloop{nullptr}, elsewhere{nullptr};
+Inside function_of(const void *code) {
+  auto address = reinterpret_cast<uintptr_t>(code);
+  std::atomic<uintptr_t> &known = answers[address % most_answers];
+  uintptr_t kept = known.load(std::memory_order_relaxed);
+  if (kept >> answer_bits == address) return static_cast<Inside>(kept & ((1 << answer_bits) - 1));
+  Inside found = find_function(code);
+  known.store(address << answer_bits | static_cast<uintptr_t>(found), std::memory_order_relaxed);
+  return found;
+}
 }  // namespace
 
 CodeRange runtime_code, recorder_code;
@@ -57,16 +69,10 @@ const void *nearest_in_program() {
   return nullptr;
 }
 
-bool makes_tasks_of_loop(const void *code) {
-  if (!runtime_code.has(code) || code == elsewhere.load(std::memory_order_relaxed)) return false;
-  if (code == in_taskloop.load(std::memory_order_relaxed)) return true;
-  bool is_of_loop = is_in_function(code, taskloop) || is_in_function(code, taskloop_of_gcc);
-  (is_of_loop ? in_taskloop : elsewhere).store(code, std::memory_order_relaxed);
-  return is_of_loop;
-}
+bool makes_tasks_of_loop(const void *code) { return runtime_code.has(code) && function_of(code) == Inside::Taskloop; }
 
 // The caller of such a call, from the stack. After a tail call of the program the place is in no such function,
 // and the caller is lost; a taskloop has too many arguments for one.
 const void *caller_in_program(const void *code) {
-  return !recorder_code.has(code) && is_in_called_function(code) ? nearest_in_program() : nullptr;
+  return !recorder_code.has(code) && function_of(code) != Inside::Neither ? nearest_in_program() : nullptr;
 }

@@ -1,6 +1,7 @@
 // Which regions are written, and the table of them all.
 #include "chosen.hpp"
 #include "region_table.hpp"
+#include "json.hpp"
 #include "check.hpp"
 
 namespace {
@@ -52,6 +53,7 @@ TEST(regions_are_told_in_the_order_of_time) {
     region.text = number == 2 ? 1 : 0;
   }
   run.regions[3]->divided[Divided::Loops].times = 2;
+  list_regions(run);
   Places places;
   places.put(&codes[0], "steps.c:9");
   EXPECT(codes_of_regions(run).size(), 2u);
@@ -60,4 +62,32 @@ TEST(regions_are_told_in_the_order_of_time) {
   EXPECT(told, "number,text,begin_ns,end_ns,threads,asked,tasks,loops,code_ns,inside,place\n0,0,0,1000,1,0,0,0,80,0,\n"
                "1,0,300,350,4,8,30,2,21,0,steps.c:9\n2,1,400,450,4,8,20,0,14,0,\n"
                "3,0,500,1000,4,8,10,0,7,1,steps.c:9\n");
+}
+
+TEST(regions_of_a_place_are_added_up) {
+  Run run;
+  int64_t begin = 100;
+  for (unsigned threads : {4u, 2u, 4u}) {
+    Region &region = *(run.regions[threads + static_cast<uint32_t>(begin)] = std::make_unique<Region>());
+    region.code = &codes[0];
+    region.threads = threads;
+    region.asked = 8 - threads;
+    region.time = {0, true, begin, begin + 60};  // the next one begins before
+    begin += 50;
+  }
+  list_regions(run);
+  Places places;
+  places.put(&codes[0], "steps.c:9");
+  WholeTime time{100, 400, 0};
+  RegionSums sums = sums_of_regions(run, time, places);
+  Object line;
+  sums.put(line);
+  EXPECT(line.end(), "{\"regions\": {\"tasks\": false, "
+                     "\"places\": [[\"steps.c:9\", 3, 160, 0, [[2, 60, 6], [4, 120, 4]]]]}}");
+  EXPECT(sums.most_threads("steps.c:9"), 4u);
+  EXPECT(sums.most_threads("other.c:9"), 0u);
+  run.rows[0].is_outermost = false;
+  Object none;
+  sums_of_regions(run, time, places).put(none);
+  EXPECT(none.end(), "{}");
 }

@@ -56,7 +56,7 @@ TEST(segments_have_a_kind_a_task_and_a_cost) {
       "[true, \"\", \"taskgroup\", \"barrier of the region at a.c:8\", \"a.c:8\"]], "
       "\"long\": [6,4294967296], "
       "\"sums\": [[0, 1, 1, 7, 7], [1, 2, 1, 5, 5], [2, 3, 1, 6, 6], [3, 4, 1, 0, 0], [4, 5, 1, 1, 1], [5, 6, 1, 0, 0], "
-      "[6, 0, 1, 4294967296, 4294967296]], \"own\": [4,1], \"clauses\": [[1, \" depend(inout: x)\", 1, 0]]}\n");
+      "[6, 0, 1, 4294967296, 4294967296]], \"own\": [4,1], \"phases\": [[4, 1, 1, 0, 0, 1, 0]], \"clauses\": [[1, \" depend(inout: x)\", 1, 0]]}\n");
 }
 
 TEST(a_group_of_a_loop_is_no_barrier) {
@@ -84,6 +84,53 @@ TEST(more_kinds_than_a_column_takes_are_told) {
   Written out;
   for (unsigned i = 0; i < 1 << 16; i++) out.table.wait("a.c:" + std::to_string(i));
   EXPECT(out.table.finish(), false);
+}
+
+namespace {
+// A phase of a region, whose threads have so much.
+void phase(Written &out, const std::vector<uint64_t> &costs, std::string_view place = "a.c:5") {
+  out.table.group(place);
+  for (uint64_t cost : costs) out.table.task({}, of_a_thread), out.table.work(cost), out.table.end();
+  out.table.end();
+}
+
+std::string phases_of(Written &out) {
+  out.table.finish();
+  std::string tail = out.tail();
+  size_t first = tail.find("\"phases\": ");
+  return tail.substr(first, tail.find(", \"clauses\"") - first);
+}
+}  // namespace
+
+// Of each place a kind, the largest pieces, those of phases that one thread ran, what others had less, and of that what
+// is a turn; phases, and those right behind another one.
+TEST(phases_are_added_up) {
+  Written out;
+  phase(out, {80, 1}), out.table.work(3), phase(out, {20, 10, 10, 10}), phase(out, {8, 8});
+  EXPECT(phases_of(out), "\"phases\": [[1, 108, 80, 109, 109, 3, 1]]");
+}
+
+TEST(divided_code_is_uneven_phase_by_phase) {
+  Written out;
+  for (int time = 0; time < 2; time++) {
+    out.table.group("a.c:2");
+    for (const std::vector<uint64_t> &turns : {std::vector<uint64_t>{5, 3}, {6}, {}}) {
+      out.table.task({}, of_a_thread), out.table.group("the loop at a.c:3");
+      for (uint64_t turn : turns)
+        out.table.task({}, "turns of the loop at a.c:3"), out.table.work(turn), out.table.end();
+      out.table.end(), out.table.end();
+    }
+    out.table.end(), out.table.work(1);
+  }
+  EXPECT(phases_of(out), "\"phases\": [[1, 0, 0, 0, 0, 2, 0], [2, 0, 0, 20, 0, 0, 0]]");
+}
+
+TEST(regions_inside_others_have_phases_of_their_own) {
+  Written out;
+  out.table.group("a.c:2"), out.table.task({}, of_a_thread), out.table.work(4);
+  phase(out, {9, 2}, "a.c:7");
+  out.table.end(), out.table.task({}, of_a_thread), out.table.work(1), out.table.end(), out.table.end();
+  EXPECT(phases_of(out), "\"phases\": [[1, 4, 0, 3, 0, 2, 0], [2, 9, 0, 7, 7, 1, 0]]");
 }
 
 TEST(a_text_is_written_with_its_segments) {

@@ -15,7 +15,7 @@ from spanprof.diagnosis.calls import innermost
 from spanprof.diagnosis.losses import holds_neighbours, kind_of_starved, most_shared
 from spanprof.diagnosis.places import LEAST_HOLDERS, OF_THREADS, SERIAL, SHARE, in_text
 from spanprof.program_text import BARRIER
-from spanprof.whatif.requests import Request, applied, best_first, changes, costs_for, seconds_for, survey
+from spanprof.whatif.requests import Request, applied, best_first, changes, costs_for, survey
 
 LEAST_TIMES = 2     # that a location is written by tasks of a place
 MOST_NAMES = 8      # that are renamed one by one
@@ -199,12 +199,12 @@ def candidates(facts, seen):
 
 
 class Bench:
-    """A text on which changes are tried, on as many threads as the run could have had. All have these seconds, or as
-    long as the run took and no less than ten seconds; `longest` is what one of them took."""
+    """A text on which changes are tried, on as many threads as the run could have had. All have these seconds, with
+    the reading of the text; `longest` is what one of them took."""
 
-    def __init__(self, text, facts, end_of, seconds=None):
+    def __init__(self, text, facts, end_of, seconds):
         self.facts, self.end_of, self.path = facts, end_of, text.path
-        self.until, self.longest = time.monotonic() + (seconds or seconds_for(facts.elapsed)), 0
+        self.until, self.longest = time.monotonic() + seconds, 0
         self.unit = text.head.nanoseconds or 1
         self.kept = text.statements()
         self.seen = survey(self.kept)

@@ -114,10 +114,11 @@ def left(facts, now, loss, found):
 
 
 def meets_at(facts, loss, place):
-    """Whether threads meet in this code for what they lose: at a region, or to spin or wait for a lock."""
+    """Whether threads meet in this code for what they lose: at a region, in chunks so small that neighbouring turns use
+    the same lines, or to spin or wait for a lock."""
     if loss.kind == "lock":
         return loss.place in facts.calls.at.get(place, {})
-    return {"small_regions": where(place), "spin": place}.get(loss.kind) == loss.place
+    return {"small_regions": where(place), "small_chunks": place, "spin": place}.get(loss.kind) == loss.place
 
 
 def freed_with(facts, loss, found):
@@ -139,12 +140,20 @@ def bound_of(facts, now, loss, found=()):
                 is_between=0 < low < after)
 
 
+def queueing(facts, name, threads):
+    """Threads that sleep at once wake up at once: the last one waits while the others' code runs on the processors."""
+    place = facts.places.get(name)
+    code = max(0, place.cost - facts.asleep_by.get(name, 0)) // max(place.pieces, 1) if place else 0
+    return max(0, code * (threads - facts.usable) // facts.usable)
+
+
 def while_asleep(facts, bench, step, is_crowded=False):
     """The same step where other threads run meanwhile, if these win back much of what sleep costs; none where threads
     wait for processors already."""
     number = 0 if is_crowded or is_of_programs(facts, step.place) else threads_for_sleep(facts)
     least = least_time(facts, facts.code + facts.recorder)
-    after = max(least, predicted(step.before, bench.end([]), bench.end_on(number))) if number else step.before
+    end = predicted(step.before, bench.end([]), bench.end_on(number)) if number else step.before
+    after = min(step.before, max(least, end + queueing(facts, step.place, number)))
     if step.before - after < HIDDEN * step.gain:
         return replace(step, threads=0)
     return replace(step, after=after, low=after, threads=number)
@@ -174,9 +183,9 @@ def code_of_region(facts, region):
 
 
 def on_one(facts, step):
-    """In place of a step for small regions, or for barriers in one: the same on one thread, which has no barriers. To
-    start two threads takes about as long as to start four, so that some of them are no faster than all. None where the
-    code of all threads together is longer than the regions, or other programs took processors."""
+    """In place of a step for small regions, or for barriers in one: the same on one thread, which has no barriers. How
+    starting grows with the number of threads one run does not tell, so none between is named. None where the code of
+    all threads together is longer than the regions, or other programs took processors."""
     region = next((one for one in facts.regions if one.place == step.place), None)
     if step.kind != "small_regions" or not region or region.threads < 2 or facts.taken:
         return []

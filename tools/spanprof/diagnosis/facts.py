@@ -22,9 +22,9 @@ from spanprof.diagnosis.losses import divided, is_crowded
 from spanprof.diagnosis.places import A_START, AROUND_REGIONS, TASK, in_text, needless_barriers, read_places
 from spanprof.head import head_of, number, words
 from spanprof.program_text import BEGINNING, TextFile, read_once
-from spanprof.recording import document, program_of, union
+from spanprof.recording import UNKNOWN, document, head_in, program_of, times_in, union
 from spanprof.segment_table import code_in
-from spanprof.time_breakdown import NoBreakdown, Rows, breakdown_of, idle_by_place
+from spanprof.time_breakdown import NoBreakdown, Rows, breakdown_by_kind, breakdown_of, idle_by_place
 
 LEAST_INSIDE = 0.05    # of a place's samples, in a function that has a lock
 LITTLE = 0.02       # of the time in code: threads preempted for less keep others waiting for little
@@ -32,7 +32,8 @@ MOST_SEGMENTS = 300000       # segments of a text whose schedule is asked for: s
 RUNTIMES = {"llvm": "LLVM", "gnu": "gcc"}
 EXCLUDING = "mutexinoutset"     # the remark of a text that has inoutset in its place
 OWN_CLOCK = "own"               # by which costs are without the time in which a thread was preempted
-# Nanoseconds: gcc's runtime keeps no threads for regions inside others, and makes them for each: 63 to 100 us in all.
+# Nanoseconds: gcc's runtime keeps no threads for regions inside others, and makes them for each. The least that was
+# measured, on a busy machine, was 63 and 96 us; on an idle one it may be less.
 A_TEAM = 80000
 OF_GCC = "lines of gcc"         # that of a text whose tasks or waits are of gcc's code
 
@@ -302,18 +303,49 @@ def starting_shares(found):
     return {name: starting[name] / time for name, time in whole.items() if time}
 
 
+def starting_of_kinds(delays, names):
+    """The same of kinds with these names, as the converter adds them up."""
+    whole, starting = Counter(), Counter()
+    for kind, delayed, part in delays:
+        whole[names[kind]] += delayed
+        starting[names[kind]] += part
+    return {name: starting[name] / time for name, time in whole.items() if time}
+
+
+def has_sums(facts, recording, code):
+    """Whether the table of segments tells what rows of the times would tell: where the run's threads are numbered as it
+    had them at once."""
+    return code.delays is not None and head_in(recording.times)[0] == facts.threads
+
+
+def breakdown_of_sums(facts, recording, head, work, program):
+    """Without rows, of which there may be millions."""
+    code, times = program.code, recording.times
+    found = breakdown_by_kind(head, work, recording.text, code.of, program.kinds, times)
+    facts.starting_by = starting_of_kinds(code.delays, program.kinds)
+    facts.barriers = needless_barriers(program, facts.regions, lambda: times_in(times)[1][1])
+    return found
+
+
+def breakdown_of_rows(facts, timed, head, work, program):
+    found = of_those_at_once(breakdown_of(head, work, timed, program.names), facts.threads)
+    facts.starting_by = starting_shares(found)
+    facts.barriers = needless_barriers(program, facts.regions, lambda: found.rows.thread)
+    return found
+
+
 def set_breakdown(facts, recording, head, work, program):
     """By the times of the run."""
-    timed = document(recording)
-    if not timed:
+    if not recording.times:
         raise NoBreakdown("it has no times")
-    found = of_those_at_once(breakdown_of(head, work, timed, program.names), facts.threads)
+    if has_sums(facts, recording, program.code):
+        found = breakdown_of_sums(facts, recording, head, work, program)
+    else:
+        found = breakdown_of_rows(facts, document(recording), head, work, program)
     facts.threads = found.threads
     for name, part in found.parts.items():
         setattr(facts, name.replace(" ", "_"), part)
-    facts.starting_by = starting_shares(found)
     facts.delayed_by, facts.starved_by = found.idle
-    facts.barriers = needless_barriers(program, facts.regions, found.rows.thread)
 
 
 @read_once
@@ -499,6 +531,23 @@ def regions_of(program):
     return [regions_at(place, added[place.name]) for place in program.places if not place.is_inside] if program else []
 
 
+def regions_in_sums(places):
+    """The same of sums by place, where no region is inside another one."""
+    return [Region(place or UNKNOWN, max(threads for threads, *_ in teams), elapsed, min(teams)[2] or None, times,
+                   teams={threads: time for threads, time, _ in teams}, code=code)
+            for place, times, elapsed, code, teams in places]
+
+
+def set_regions(facts, path, code):
+    if code.regions:
+        facts.tasks_in_regions, facts.regions = code.regions[0], regions_in_sums(code.regions[1])
+        return
+    regions = program_of(path)
+    facts.regions, facts.inner = regions_of(regions), inner_regions(regions)
+    facts.denied = denied_time(regions, facts.usable, A_TEAM if facts.is_on_gcc else 0)
+    facts.tasks_in_regions = not regions or any(region.tasks for region in regions.regions)
+
+
 def of_text(head, program, numbers):
     """What the text alone tells: its head, its places, its work and span."""
     unit = head.nanoseconds or 1
@@ -518,16 +567,15 @@ def of_text(head, program, numbers):
 def facts_of(recording, end_of=greedy_end):
     """Of a recording's folder, or of a plain text with what lies beside it. `end_of` is asked only without times."""
     path, meta = recording.text, recording.meta
+    measured = client.meanwhile(client.measured, path)
     code, head = code_in(path), head_of(path)
     off = {segment: times for segment, times in off_by_segment(recording.file("off"), head).items()
            if 0 <= segment < len(code)}
-    program, numbers = read_places(code, head.nanoseconds or 1), client.measured(path)
+    program, numbers = read_places(code, head.nanoseconds or 1), measured()
     facts = of_text(head, program, numbers)
     set_meta(facts, meta)
-    facts.locks, regions = locks_of(recording.file("locks"), head), program_of(path)
-    facts.regions, facts.inner = regions_of(regions), inner_regions(regions)
-    facts.denied = denied_time(regions, facts.usable, A_TEAM if facts.is_on_gcc else 0)
-    facts.tasks_in_regions = not regions or any(region.tasks for region in regions.regions)
+    facts.locks = locks_of(recording.file("locks"), head)
+    set_regions(facts, path, code)
     set_off(facts, off, program)
     facts.calls = calls_of(recording.file("calls"), code.of, program.kinds)
     set_ranks(facts)

@@ -25,6 +25,7 @@ STARTED = 5000000       # nanoseconds that a program and its runtime take to sta
 SIBLINGS = 2            # times as much that code costs at most where two threads share a core
 BEYOND_CACHES = 1 << 27     # bytes
 OF_ITS_LINE = 7 / 8     # of the uses of numbers of 8 bytes one after the other, those whose line was used before
+SAME = 0.1              # of a cost, by which runs of the same code differ
 UNSHARED = 0.02         # of the samples of code, below which it uses no line that other threads use
 NO_CAUSE = ("recorder", "startup")
 CROWDED = ("too_many_threads", "affinity")      # threads share processors
@@ -304,12 +305,21 @@ def idle_losses(facts):
     add_idle(kinds, divided(starved, facts.starved_by or at_serial(facts)), kind_of_starved, facts, starved_off_share,
              for_sleep=True)
     delayed = divided(facts.delayed - short_delayed, facts.delayed_by or {"": 1})
-    starting = {name: int(time * starting_share(facts, name)) for name, time in delayed.items()}
+    starting = starting_times(facts, delayed)
     add_idle(kinds, starting, lambda *_: "small_regions", facts, delayed_off_share)
     add_idle(kinds, {name: time - starting[name] for name, time in delayed.items()}, kind_of_delayed, facts,
              delayed_off_share)
     return start_of(facts, [Loss(*key, time) for key, time in kinds.items()]) + \
         by_place("too_few_threads", short, missing)
+
+
+def starting_times(facts, delayed):
+    """Of the delays by place, those while regions start and end: what a runtime takes, and what other programs did not
+    run for meanwhile."""
+    found = {name: int(time * starting_share(facts, name)) for name, time in delayed.items()}
+    longer = sum(delayed[name] - time for name, time in found.items() if time)
+    unseen = 1 - facts.others / longer if facts.others is not None and longer > facts.others else 0
+    return {name: time + int(unseen * (delayed[name] - time)) * bool(time) for name, time in found.items()}
 
 
 def starting_share(facts, name):
@@ -427,9 +437,29 @@ def is_bandwidth(facts, name):
     """Whether code costs so much more than on one thread since all use the memory at once: more than two threads of one
     core slow each other, with more memory than caches hold, and in lines that no two threads use."""
     place, alone = facts.places.get(name), (facts.cost_on_one or {}).get(name)
+    return bool(place and alone) and is_large(facts) and place.cost > SIBLINGS * alone and is_unshared(facts, name)
+
+
+def is_large(facts):
+    """Whether it had more memory than caches hold."""
+    return ((facts.usage or {}).get("peak_bytes") or 0) >= BEYOND_CACHES
+
+
+def is_unshared(facts, name):
+    """Whether code was sampled, and hardly ever in lines that other threads use."""
     shared, ran = (sum(found.get(name, {}).values()) for found in (facts.calls.shares, facts.calls.ran))
-    is_large = ((facts.usage or {}).get("peak_bytes") or 0) >= BEYOND_CACHES
-    return bool(place and alone and ran) and is_large and place.cost > SIBLINGS * alone and shared < UNSHARED * ran
+    return bool(ran) and shared < UNSHARED * ran
+
+
+def is_repeated(facts, name):
+    """Whether it is as if each thread of a region ran all of their own code: all take the same time, together as many
+    times what it costs on one thread. Code that shares lines, or may lack bandwidth, is none of it."""
+    place, alone = facts.places.get(name), (facts.cost_on_one or {}).get(name)
+    region = next((one for one in facts.regions if name == "%s at %s" % (OWN, one.place)), None)
+    if not (place and alone and region) or region.threads < 2 or is_large(facts) or not is_unshared(facts, name):
+        return False
+    is_even = place.uneven < SAME * place.cost
+    return is_even and abs(place.cost - region.threads * alone) < SAME * place.cost
 
 
 def lock_name(lock):

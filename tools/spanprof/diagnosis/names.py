@@ -8,18 +8,23 @@ from typing import NamedTuple
 
 from spanprof.diagnosis.calls import (A_SAMPLE, LEAST, NO_NAME, OF_SYSTEM, OFFSET, called_code, caller_of, innermost,
                                       is_of_program, plain)
+from spanprof.diagnosis.losses import is_repeated
 from spanprof.diagnosis.places import ALLOCATION, OF_THREADS, OWN, SERIAL, lines_between
 from spanprof.program_text import BEGINNING, where
 from spanprof.source_lines import (COMMENT, DIRECTIVE, LONGEST, STRING, after_directive, code_lines, code_of,
                                    construct_of, directive_above, directive_line, is_needless, line_of, meets_at_end,
                                    own_item, statement_below, statement_end)
 
+LONG_ITEM = 20
 FUNCTION = re.compile(r"^[A-Za-z_][\w\s:*&<>,~]*\b%s\s*\(")
 CALL = re.compile(r"^(?:[\w.\[\]>-]+\s*[-+*/]?=\s*)?([A-Za-z_]\w*)\s*\(")
 DEPEND = re.compile(r"depend\s*\(\s*(\w+)\s*:\s*((?:[^()]|\([^()]*\))*)\)")
 LINE = re.compile(r"[^\s:/]+:\d+$")
 LONGEST_CALLED = 50     # columns of a function and its caller
 ATOMIC = re.compile(r"omp\s+atomic|\bstd::atomic\b|\bfetch_(add|sub|or|and|xor)\b|__atomic_|__sync_", re.I)
+DIVIDED = re.compile(r"\b(for|do|sections|loop|taskloop|workshare)\b", re.IGNORECASE)
+BY_NUMBER = re.compile(r"omp_get_(thread_num|num_threads)|#\s*pragma\s+omp\s+(single|ma(ster|sked)|critical|task|"
+                       r"ordered)|\batomic|\bfetch_", re.IGNORECASE)
 ORDERED = re.compile(r"\bordered\b")
 OF_TURNS = re.compile(r"\s*#\s*pragma\s+omp\s+ordered\b")
 MUCH_CODE = 0.2         # of all code, from which on a place is looked at
@@ -93,14 +98,19 @@ class Suspect(NamedTuple):
     def __str__(self):
         if self.is_atomic:
             return "the atomic at " + self.at
-        return "%s next to others' (%s)" % self[:2] if self.item else "what %s writes" % self.at
+        return "%s next to others' (%s)" % (self.short, self.at) if self.item else "what %s writes" % self.at
+
+    @property
+    def short(self):
+        """The item, where it is long without its index."""
+        return self.item if len(self.item) <= LONG_ITEM else re.sub(r"\[.*\]", "[..]", self.item)
 
     @property
     def instead(self):
         """What to write in its place."""
         if self.is_atomic:
             return "a reduction in place of the atomic at " + self.at
-        what = "%s (%s)" % self[:2] if self.item else str(self)
+        what = "%s (%s)" % (self.short, self.at) if self.item else str(self)
         return "keep %s in a local variable" % what
 
 
@@ -132,8 +142,8 @@ class Names:
             return self.ordered(line)
         if not line or not self.facts.is_of_gcc or lock and lock.kind != "critical" or name.startswith(ALLOCATION):
             return line
-        construct = lock.kind if lock else construct_of(name)
-        return line._replace(number=directive_line(self.lines_of(line.file), line.number, construct))
+        construct, is_inside = lock.kind if lock else construct_of(name), self.facts.is_on_gcc
+        return line._replace(number=directive_line(self.lines_of(line.file), line.number, construct, is_inside))
 
     def ordered_loops(self):
         """The lines and the directives of loops with such turns."""
@@ -180,14 +190,24 @@ class Names:
         return " ".join(COMMENT.sub("", one).strip().rstrip("\\") for one in lines[number - 1:end - 1])
 
     def loops_inside(self, name):
-        """The loops and sections of a region at whose ends its threads meet; of directives that stand above one statement,
-        as in `#if` and `#else`, the last one."""
+        """The loops and sections of a region at whose ends its threads meet; of directives above one statement, as in
+        `#if` and `#else`, the last one."""
         region = self.begin(name, name)
         lines = self.lines_of(region.file) if region else []
         begin = after_directive(lines, region.number) if lines else 0
         inside = range(begin, statement_end(lines, begin) + 1) if lines else ()
         of_statements = {statement_below(lines, here): here for here in inside if meets_at_end(lines, here)}
         return [region._replace(number=here) for here in of_statements.values()]
+
+    def is_repeated(self, name):
+        """The same of a region whose source is known, and neither asks for its threads' numbers nor has constructs by
+        which one of them does more than the others."""
+        region = self.begin(name, name) if is_repeated(self.facts, name) else None
+        lines = self.lines_of(region.file) if region else []
+        begin = after_directive(lines, region.number) if lines else 0
+        code = [COMMENT.sub("", line) for line in lines[begin - 1:statement_end(lines, begin)]] if lines else []
+        is_divided = DIVIDED.search(self.directive(name, name)) or any(map(BY_NUMBER.search, code))
+        return bool(code) and not is_divided
 
     def stretch(self, place):
         """File, first and last line of a place's code, as far as they are known."""

@@ -5,6 +5,7 @@ Their places are matched by their kind, their function and their order in the so
 """
 import os
 import re
+import time
 from dataclasses import dataclass
 from typing import List, Optional
 
@@ -111,18 +112,18 @@ class Output:
         return as_json(self.found, self.names)
 
 
-def needs_trials(facts, seconds=None):
+def needs_trials(facts, seconds):
     """Of a long text that has lost most to a cause that no change of the text tells, none is tried: each is a pass over
-    all of it. Nor is one where there is no time to read the text."""
+    all of it. Nor is one where the text takes most of the time to read."""
     pieces, found = sum(place.pieces for place in facts.places.values()), losses(facts)
-    if pieces * A_PIECE > (seconds or seconds_for(facts.elapsed)):
+    if 2 * pieces * A_PIECE > seconds:
         return False
     facts.taken = taken_by_others(facts, found)
     first = next(iter(bounds(facts, facts.now, found)), None)
     return pieces < LONG or not first or first.gain < MOST_OF_IT * first.before
 
 
-def bench_of(path, facts, end_of, seconds=None):
+def bench_of(path, facts, end_of, seconds):
     """None where no change can be tried, as on a text of version 2."""
     if version_of(path) == 2:
         return None
@@ -133,10 +134,11 @@ def bench_of(path, facts, end_of, seconds=None):
 
 
 def output_of(recording, folders=(), seconds=None, end_of=greedy_end):
-    """`folders` are where the source is; without them beside the recording, and here. Changes are tried for so many
-    seconds, or as long as a person waits."""
-    facts = facts_of(recording, end_of)
-    bench = bench_of(recording.text, facts, end_of, seconds) if needs_trials(facts, seconds) else None
+    """`folders` are where the source is; without them beside the recording, and here. All takes so many seconds, or as
+    long as a person waits: changes are tried in what is left of them."""
+    begun, facts = time.monotonic(), facts_of(recording, end_of)
+    left = (seconds or seconds_for(facts.elapsed)) - (time.monotonic() - begun)
+    bench = bench_of(recording.text, facts, end_of, left) if needs_trials(facts, left) else None
     beside = [os.path.dirname(os.path.abspath(recording.folder or recording.text)), os.getcwd()]
     names = Names(facts, Sources(list(folders) or beside, facts.sources, bool(folders)))
     if bench:

@@ -3,24 +3,19 @@ between loops of a region at which threads wait for each other, though each has 
 """
 import itertools
 from array import array
-from bisect import bisect_right
 from collections import Counter, defaultdict
 from dataclasses import dataclass, field
 from functools import cached_property
-from itertools import compress
 from operator import itemgetter
 from typing import List, NamedTuple, Tuple
 
-from spanprof.program_text import BARRIER, CREATING, OF_A_THREAD, construct, is_share, named
+from spanprof.phases import AFTER_REGION, ALONE, OWN, added_up, names_with_regions, phases_in
+from spanprof.program_text import CREATING, OF_A_THREAD, construct, is_share
 from spanprof.segment_table import Code
 from spanprof.source_lines import line_of
 
 SERIAL, OF_THREADS, TASK, SHARE = "serial", "of threads", "task", "share"
-AFTER_REGION = "after the " + BARRIER
 ALLOCATION = "allocation at "       # before a line that allocates memory
-OWN = named("task", OF_A_THREAD)    # the name of a thread's own code, in a text the same in all regions
-ALONE = 0.05        # of the largest piece of a phase: where the others together have less, one thread runs it
-ABOUT = 0.25        # of a turn, by which those of one length differ
 A_START = 50000     # nanoseconds: a thread starts a region's code in less, or goes on after it
 LEAST_HOLDERS = 3   # tasks that hold an item to write
 AROUND_REGIONS = (OWN, AFTER_REGION)
@@ -153,77 +148,19 @@ def costs_of(code, unit):
     return code.cost if unit == 1 else array("Q", map(unit.__mul__, code.cost))
 
 
-def firsts(names):
-    """Of each name where it stands first."""
-    found = {}
-    return [found.setdefault(name, number) for number, name in enumerate(names)]
-
-
-def set_longest(program):
-    """Of threads' own code, by place, the largest pieces of the phases of a region, which run at once."""
-    code, width, largest, whole = program.code, len(program.kinds), {}, defaultdict(int)
-    numbers = firsts(program.kinds)
-    for segment, group in zip(code.own, code.groups):
-        phase, cost = group * width + numbers[code.of[segment]], program.costs[segment]
-        whole[phase] += cost
-        if cost >= largest.get(phase, 0):
-            largest[phase] = cost
-    for phase, cost in largest.items():
-        place = program.places[program.kinds[phase % width]]
-        place.longest += cost
-        place.alone += cost * (whole[phase] - cost < ALONE * cost)
-
-
-def are_turns(less, length):
-    """Whether each is about none of this length or one, and some are one."""
-    about = ABOUT * length
-    if 2 * max(less) <= length:
-        return False
-    for one in less:    # there are many: a generator of each takes three times as long
-        if one >= about and abs(length - one) >= about:
-            return False
-    return True
-
-
-def is_by_a_turn(costs, threads):
-    """Whether it is as if they had a turn of a loop, or none, and some of them one more."""
-    most, least = max(costs), min(costs) if len(costs) >= threads else 0
-    if 4 * (most - least) <= most:
-        return False
-    less = [most - one for one in costs] + [most] * (len(costs) < threads)
-    return are_turns(less, most) or are_turns(less, most / 2)
-
-
-def shares_of(program):
-    """What each part had of divided code, and of threads' own, by the number of its group and of the place."""
-    code, width, had, shares = program.code, len(program.kinds), defaultdict(int), defaultdict(list)
-    is_shared = [kind_of(kind) == SHARE or name.startswith(OWN) for kind, name in zip(code.kinds, program.kinds)]
-    numbers = firsts(program.kinds)
-    for segment in compress(range(len(code)), map(is_shared.__getitem__, code.of)):
-        part = bisect_right(code.own, segment) - 1
-        if part >= 0:
-            had[part, numbers[code.of[segment]]] += program.costs[segment]
-    for (part, number), cost in had.items():
-        shares[code.groups[part] * width + number].append(cost)
-    return shares
-
-
-def set_uneven(program):
-    """Of such code, by place: phase by phase, what the parts had less than that with the most."""
-    width, parts = len(program.kinds), Counter(program.code.groups)
-    places = [program.places.get(name) for name in program.kinds]
-    for share, costs in shares_of(program).items():
-        (group, number), most = divmod(share, width), max(costs)
-        less = parts[group] * most - sum(costs)
-        if less:
-            places[number].uneven += less
-            places[number].by_a_turn += less * is_by_a_turn(costs, parts[group])
+def set_phases(program, unit):
+    """Of code that is divided among threads, by place, what its phases tell."""
+    for row in added_up(program.code):
+        place = program.places[program.kinds[row.kind]]
+        place.longest += unit * row.longest
+        place.alone += unit * row.alone
+        place.uneven += unit * row.uneven
+        place.by_a_turn += unit * row.by_a_turn
 
 
 def read_places(code, unit=1):
-    """A program whose costs are in so many nanoseconds. Threads' own code has its regions in its names."""
-    names = ["%s at %s" % (OWN, kind.region) if name == OWN and kind.region else name
-             for name, kind in zip(code.names, code.kinds)]
+    """A program whose costs are in so many nanoseconds."""
+    names = names_with_regions(code)
     program = Program(code, costs_of(code, unit), names, {})
     for (number, following), (pieces, cost, most) in code.sums.items():
         kind = code.kinds[number]
@@ -233,8 +170,7 @@ def read_places(code, unit=1):
     for number, clauses, count, again in code.clauses:
         if number is not None:      # a thread's own code has none
             program.places[names[number]].add_tasks(count, clauses, again)
-    set_longest(program)
-    set_uneven(program)
+    set_phases(program, unit)
     return program
 
 
@@ -283,34 +219,26 @@ def part_of(kinds, costs):
     return found
 
 
-def phases_in(program):
-    """Of each phase its region, whether it goes on there, where no code stands behind the barrier, and its parts: their
-    first segments, and those behind them."""
-    code, before = program.code, ""
-    is_barrier = [name.startswith(AFTER_REGION) for name in program.kinds]
-    parts = zip(code.own, itertools.chain(code.own[1:], (len(code),)), code.groups)
-    for _, some in itertools.groupby(parts, itemgetter(2)):
-        some = list(some)
-        first = some[0][0]
-        region = code.kinds[code.of[first]].region
-        goes_on = region == before and is_barrier[code.of[first - 1]] and not program.costs[first - 1]
-        yield region, goes_on, [part[:2] for part in some]
-        before = region
+def regions_with_several(program):
+    """Those whose threads go on behind a barrier of theirs more than seldom."""
+    phases, further = Counter(), Counter()
+    for row in added_up(program.code):
+        region = program.code.kinds[row.kind].region
+        phases[region] += row.phases
+        further[region] += row.further
+    return {region for region, count in phases.items() if count and further[region] >= SELDOM * count}
 
 
-def times_of_regions(program, threads):
+def times_of_regions(program, several, threads):
     """By region, of each time that it began its phases, and of these the parts by thread. Regions whose threads seldom
     go on behind a barrier are left out: there are many."""
-    found, phases, more = defaultdict(list), Counter(), Counter()
-    for region, goes_on, _ in phases_in(program):
-        phases[region] += 1
-        more[region] += goes_on
-    several = {region for region, count in phases.items() if more[region] >= SELDOM * count}
-    of, costs, name_of = program.code.of, program.costs, kinds_of(program).__getitem__
-    for region, goes_on, parts in phases_in(program) if several else ():
+    found = defaultdict(list)
+    code, costs, name_of = program.code, program.costs, kinds_of(program).__getitem__
+    for kind, goes_on, parts in phases_in(code):
+        region = code.kinds[kind].region
         if region in several:
             found[region] += [] if goes_on else [[]]
-            found[region][-1].append({threads[first]: part_of(map(name_of, of[first:end]), costs[first:end])
+            found[region][-1].append({threads[first]: part_of(map(name_of, code.of[first:end]), costs[first:end])
                                       for first, end in parts})
     return found
 
@@ -358,14 +286,33 @@ def barrier_of(times):
     return waits, max(behind, key=behind.get, default=""), less / max(1, sum(waits.values()))
 
 
-def needless_barriers(program, regions, threads):
-    """By place of code in regions whose barriers are the cause of its waits: the place before such a barrier, and the
-    share of the waits. `threads` has that of each segment."""
-    out, known = {}, {(one.place, one.times): one.threads for one in regions}
-    for region, times in times_of_regions(program, threads).items():
+def barriers_by_rows(program, several, known, threads):
+    """Of each region what barrier_of answers, with the threads of each segment."""
+    for region, times in times_of_regions(program, several, threads).items():
         team = known.get((region, len(times)), 0)
-        phases = [[phase_of(parts, team) for parts in one] for one in times]
-        waits, behind, share = barrier_of(phases) if team else ({}, "", 0)
+        if team:
+            yield barrier_of([[phase_of(parts, team) for parts in one] for one in times])
+
+
+def barriers_by_kind(program, several, known):
+    """The same, as the converter adds them up."""
+    names = {**dict(enumerate(program.kinds)), None: ""}
+    for kind, times, less, waits, behind in program.code.barriers:
+        region = program.code.kinds[kind].region
+        if region in several and known.get((region, times)):
+            waits = {names[place]: time for place, time in waits}
+            at = max(behind, key=itemgetter(1), default=(None, 0))
+            yield waits, names[at[0]], less / max(1, sum(waits.values()))
+
+
+def needless_barriers(program, regions, threads_of):
+    """By place of code in regions whose barriers are the cause of its waits: the place before such a barrier, and the
+    share of the waits. `threads_of` answers that of each segment."""
+    out, known = {}, {(one.place, one.times): one.threads for one in regions}
+    several = regions_with_several(program)
+    found = () if not several else barriers_by_kind(program, several, known) if program.code.barriers is not None else \
+        barriers_by_rows(program, several, known, threads_of())
+    for waits, behind, share in found:
         if share >= EVENED:
             out.update(dict.fromkeys(waits, (behind, share)))
     return out

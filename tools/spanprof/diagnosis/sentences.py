@@ -10,7 +10,7 @@ from spanprof.diagnosis.diagnose import holder
 from spanprof.diagnosis.facts import Region
 from spanprof.diagnosis.losses import (A_TASK, MANY, average_task, holds_neighbours, is_bandwidth, is_in_a_row,
                                        is_maker, losses, missing_threads, most_shared, useful_time)
-from spanprof.diagnosis.names import place_of_sleep, sleeper, sooner, words_of_sleep
+from spanprof.diagnosis.names import DIVIDED, place_of_sleep, sleeper, sooner, words_of_sleep
 from spanprof.diagnosis.places import AFTER_REGION, OWN, SERIAL, SHARE
 from spanprof.head import grouped, lasting
 from spanprof.program_text import SECTION, where
@@ -20,6 +20,7 @@ WIDTH, MOST_LINES = 100, 8
 LABEL = 6
 NO_FASTER = 1.1
 MOST_SHARED = 2
+ALIKE, MOST_REGIONS = 2, 3
 A_CHUNK = 50000        # nanoseconds that one lasts which is worth taking
 LEAST_TOLD = 0.005     # of the threads' time, from which on a part of it is reported
 MUCH_STOLEN = 0.02     # of the processors' time, from which on that of the machine's host is reported
@@ -35,7 +36,6 @@ TRIED = {
 ON_ONE = "one thread at {at} is faster: if or num_threads(1)"
 REWRITES = "tasks of {where} wait until others have read {written}"
 BOUNDS = {ABOUT: "about %s", AT_BEST: "%s"}     # the first of several holds for all
-DIVIDED = r"\b(for|do|sections|loop|taskloop|workshare)\b"
 ONE_EACH = re.compile(r"schedule\s*\(\s*(\w+\s*:\s*)?(dynamic|(static|dynamic)\s*,\s*1)\s*\)", re.IGNORECASE)
 ONE_BY_ONE = r"schedule\s*\(\s*(\w+\s*:\s*)?(dynamic|guided)"
 SPLIT = {"serial": "parallelise {where}: loop or tasks", "imbalance": "divide the longest tasks at {where}",
@@ -70,6 +70,9 @@ def words_of_memory(facts, names, place):
     """What its code costs more than on one thread, or by samples its lines that use memory which threads share."""
     alone = (facts.cost_on_one or {}).get(place.name)
     if alone:
+        if names.is_repeated(place.name):
+            return "each of %d threads seems to do all of %s: %.1f times what it costs on one" % (
+                facts.threads, names.place(place.name), place.cost / alone)
         return "%s costs %.1f times as much on %d threads as on one: memory %s" % (
             names.place(place.name), place.cost / alone, facts.threads,
             "bandwidth" if is_bandwidth(facts, place.name) else "is contended")
@@ -106,7 +109,7 @@ def words_of_schedule(names, name, place):
     directive = names.directive(name, place.at) if place else ""
     if few_turns(names.facts, name, place):
         return "collapse the loops at %s, or parallelise inside them" % at
-    if not is_share and re.search(r"\bparallel\b", directive) and not re.search(DIVIDED, directive, re.IGNORECASE):
+    if not is_share and re.search(r"\bparallel\b", directive) and not DIVIDED.search(directive):
         loops = names.loops_inside(name)
         if len(loops) != 1:
             return "divide the longest work at %s, or start it first" % at
@@ -139,7 +142,8 @@ def words_of_division(facts, name, place):
 def words_of_kernel(facts, names, usage):
     """Page faults only where they are most of it."""
     if has_many_faults(facts) or maps_memory(facts):
-        copying, reuse = copying_at(facts), "reuse memory: no large malloc, mmap or free in each task"
+        each = "task" if facts.tasks_in_regions else "iteration"
+        copying, reuse = copying_at(facts), "reuse memory: no large malloc, mmap or free in each " + each
         smaller = "smaller firstprivate data at %s: a pointer, or shared" % names.at("task at " + copying)
         return {"kernel": "%s page faults" % grouped(usage.get("minor_faults") or 0) if has_many_faults(facts) else
                 "mapping memory", "less_kernel": smaller if copying else reuse}
@@ -205,9 +209,26 @@ def words_of_barriers(facts, names, name):
         apart = lasting(region.elapsed // after.pieces)
         return {"short_regions": words % (several(after.pieces, "barrier"), at, apart),
                 "longer_regions": "fewer barriers at %s: nowait, or larger loops" % at}
-    words = "%s at %s take %s each: starting them"
-    return {"short_regions": words % (several(region.times, "region"), at, lasting(region.elapsed // region.times)),
+    alike = alike_regions(facts, region)
+    at, times = lines_of_regions(names, alike), sum(one.times for one in alike)
+    words, each = "%s at %s take %s each: starting them", lasting(sum(one.elapsed for one in alike) // times)
+    return {"short_regions": words % (several(times, "region"), at, each),
             "longer_regions": "move parallel at %s out of the loop around it" % at}
+
+
+def alike_regions(facts, region):
+    """Those that are about as many and as short, and the region itself."""
+    return [region] + [one for one in facts.regions if one.place != region.place and
+                       one.times * ALIKE >= region.times and
+                       one.elapsed * region.times <= ALIKE * region.elapsed * one.times]
+
+
+def lines_of_regions(names, regions):
+    """Of the first few."""
+    lines = [line_of(names.place(one.place)) for one in regions[:MOST_REGIONS]]
+    more = ", .." * (len(regions) > MOST_REGIONS)
+    several_lines = joined(lines).replace(" and ", ", ") + more if all(lines) else ""
+    return several_lines if len(lines) > 1 and several_lines else names.place(regions[0].place)
 
 
 def is_confined(facts):
@@ -330,6 +351,8 @@ def words_of_line(facts):
 
 def instead(names, place, name):
     """What to write in place of what threads contend for."""
+    if names.is_repeated(name):
+        return "divide it among the threads of %s, or do it once: single" % names.at(name)
     if is_bandwidth(names.facts, name):
         return "touch the data of %s once: fuse or block loops" % names.at(name)
     suspect = names.suspect([place]) if place else None

@@ -98,6 +98,24 @@ def simulated(runs, program, costs, threads, seeds):
         runs.simulation(program, costs, threads, runs.spent, seed, runs.came).run().end for seed in seeds)
 
 
+def is_by_run(base, threads, runtime):
+    return base.as_run > 0 and (threads, runtime) == (base.threads, base.runtime)
+
+
+def by_model(one, machine, seeds):
+    """On as many threads as were recorded."""
+    runs = runs_of(one.runtime, one, machine, one.threads)
+    costs = burdened(one.program, one.program.costs, runs.dispatch, runs.resumption)
+    return simulated(runs, one.program, costs, one.threads, seeds) + one.outside
+
+
+def by_run(base, machine, seeds):
+    """As recorded, the run itself tells what the model leaves out, of a changed text by what the change does in it."""
+    if base.before is None:
+        return base.as_run
+    return by_model(base, machine, seeds) * base.as_run // max(by_model(base.before, machine, seeds), 1)
+
+
 def of_one(base, growth, machine, threads, runtime, seeds):
     """By one recording, and by how code grows; without an interval."""
     costs = growth.costs(base.program, threads) if growth else base.program.costs
@@ -105,7 +123,8 @@ def of_one(base, growth, machine, threads, runtime, seeds):
     runs = runs_of(runtime, base, machine, threads)
     costs = burdened(base.program, costs, runs.dispatch, runs.resumption)
     outside = int(growth.outside(base, threads)) if growth else base.outside
-    end = simulated(runs, base.program, costs, threads, seeds) + outside
+    end = by_run(base, machine, seeds) if is_by_run(base, threads, runtime) else \
+        simulated(runs, base.program, costs, threads, seeds) + outside
     time = max(end, base.held)
     return Estimate(base, threads, time, time, time, costs, outside, runs.dispatch, runs.spent.steal, grown,
                     base.held > end, growth.unmatched if growth else 0.0, runtime)

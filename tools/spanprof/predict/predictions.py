@@ -1,5 +1,7 @@
 """Predictions of recordings, each with what no schedule of the burdened text passes."""
 import os
+import statistics
+from dataclasses import replace
 
 from spanprof import client
 from spanprof.command import Fault
@@ -11,7 +13,8 @@ from spanprof.predict.recorded import LLVM, RUNTIMES, recorded, with_text
 from spanprof.predict.words import changed_json, changed_words
 from spanprof.recording import folder_of, open_recording, text_of as plain_text
 
-SLOW = 1.15     # times as long as the quickest recording on as many threads
+SLOW = 1.15     # times as long as what undisturbed recordings on as many threads took
+NEAR = 1.03     # on a quiet machine the second quickest of five runs is within that of the quickest in nine of ten
 
 
 def text_of(path, tell=lambda words: None):
@@ -26,9 +29,12 @@ def text_of(path, tell=lambda words: None):
 
 
 def undisturbed(several):
-    """Of the recordings on one number of threads those that were made in no slow moment, as the quickest shows."""
-    quickest = min(one.elapsed for one in several)
-    return [one for one in several if one.elapsed <= SLOW * quickest or not quickest]
+    """Of the recordings on one number of threads those that were made in no slow moment. The quickest that another one
+    is near to shows it: where none is, the machine's own speed changes, or schedules differ, and the middle counts."""
+    times = sorted(one.elapsed for one in several)
+    pairs = (one for one, next_one in zip(times, times[1:]) if next_one <= NEAR * one)
+    undisturbed_time = next(pairs, statistics.median_low(times))
+    return [one for one in several if one.elapsed <= SLOW * undisturbed_time or not undisturbed_time]
 
 
 def by_threads(several):
@@ -48,11 +54,16 @@ def least_end(text, costs, threads):
     return max(numbers["span"], -(-numbers["work"] // threads))
 
 
+def with_least(one):
+    """The estimate, no less than that, and that."""
+    least = least_end(one.base.text, one.costs, one.threads)
+    return replace(one, time=max(one.time, least), high=max(one.high, least)), least
+
+
 def predictions(recordings, machine, numbers=None, runtime=None):
     """Pairs of an estimate and its least end; without numbers, on as many threads as recorded and on twice as many."""
     most = max(recordings)
-    found = [estimate(recordings, machine, threads, runtime) for threads in numbers or [most, 2 * most]]
-    return [(one, least_end(one.base.text, one.costs, one.threads)) for one in found]
+    return [with_least(estimate(recordings, machine, threads, runtime)) for threads in numbers or [most, 2 * most]]
 
 
 def of_both(path, change, threads):
@@ -60,9 +71,8 @@ def of_both(path, change, threads):
     if not os.path.exists(machine_file()):
         return None
     machine, base = read_machine(machine_file()), recorded(*text_of(path))
-    found = [estimate({base.threads: [with_text(base, text)]}, machine, threads)
-             for text in (base.text, change(base.text))]
-    return [(one, least_end(one.base.text, one.costs, threads)) for one in found]
+    found = (base, with_text(base, change(base.text)))
+    return [with_least(estimate({base.threads: [one]}, machine, threads)) for one in found]
 
 
 def changed_reported(path, change, threads):

@@ -8,6 +8,7 @@ from spanprof.command import Fault, reading
 from spanprof.head import Head, comments, is_divided, read_head
 from spanprof.predict.burden import text_with
 from spanprof.predict.program import Program, read_program
+from spanprof.predict.replay import replayed
 from spanprof.predict.times import times_of
 from spanprof.program_text import has_loops
 from spanprof.recording import open_recording, times_in
@@ -35,6 +36,8 @@ class Recorded:
     preempted: int = 0      # what other programs took
     is_changed: bool = False    # the text is that of a changed program
     runtime: str = LLVM         # on which it was recorded
+    as_run: int = 0     # on gcc's runtime, what it took without the recorder and other programs, by its times
+    before: Optional["Recorded"] = None     # of a changed text, the recording
 
     @property
     def work(self):
@@ -78,7 +81,7 @@ def with_text(base, text):
     """The same recording with a changed text in its unit: the times around its code stay."""
     program = read_program(text)
     program.costs = [cost * base.head.nanoseconds for cost in program.costs]
-    return replace(base, program=program, text=text, is_changed=text != base.text)
+    return replace(base, program=program, text=text, is_changed=text != base.text, before=base)
 
 
 def take_times(one, path):
@@ -88,6 +91,8 @@ def take_times(one, path):
     times = times_of(one.program, list(zip(*columns)))
     if times:
         one.arrivals, one.dispatch, one.resumption = times.arrivals(), times.dispatch(), times.resumption()
+    if times and one.runtime == GNU:
+        one.as_run = replayed(times, one.head.clock_reading or 0) + one.outside
 
 
 def recorded(path, name="", runtime=LLVM):

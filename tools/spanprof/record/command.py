@@ -51,11 +51,13 @@ class Waits(NamedTuple):
 def waits_of(recording):
     """None of a process that is no rank, or without samples."""
     rank, time, sampled = rank_in(recording.folder), 0, 0
+    if rank is None:
+        return None
     for _, did, one, calls in samples_in(recording.file("calls")):
         if did in IN_CALLS:
             sampled += one
             time += one * is_of_ranks(calls)
-    return Waits(rank, time, sampled) if rank is not None and sampled else None
+    return Waits(rank, time, sampled) if sampled else None
 
 
 def halves(waits):
@@ -145,7 +147,8 @@ def print_measured(session, pairs, news, is_cut):
         return
     waits = list(filter(None, (waits_of(recording) for recording, _ in pairs)))
     late, ranks = waited_for(waits), waits_line(waits)
-    first = max(pairs, key=lambda pair: (late is not None and waits_of(pair[0]) == late, pair[1].work))
+    first = pairs[0] if len(pairs) == 1 else max(
+        pairs, key=lambda pair: (late is not None and waits_of(pair[0]) == late, pair[1].work))
     others = [rank_line(*pair) for pair in pairs if pair is not first]
     print_summary(session, *first, others, news, is_cut)
     show(["rank  " + ranks] if ranks else [])

@@ -16,7 +16,7 @@ from spanprof.command import DAMAGE, Fault, writing
 from spanprof.converting import logs_in
 from spanprof.head import head_of
 from spanprof.record.runtime import runtimes_of
-from spanprof.recording import ENDING, LOG, META, SCHEMA, TEXT, checksum, program_of
+from spanprof.recording import ENDING, LOG, META, SCHEMA, TEXT, checksum, most_threads
 
 # Each rank with how many there are: of OpenMPI, MVAPICH, MPICH and Intel MPI, and of a step of Slurm.
 VARIABLES = (("OMPI_COMM_WORLD_RANK", "OMPI_COMM_WORLD_SIZE"), ("MV2_COMM_WORLD_RANK", "MV2_COMM_WORLD_SIZE"),
@@ -148,17 +148,12 @@ def files_in(folder):
     return sorted(name for name in found if name != META and not name.startswith("."))
 
 
-def facts_of_program(program):
-    """What the table of its regions tells, with the names of recording.json."""
-    return {"threads": {"most": max((region.threads for region in program.regions), default=None) if program else None}}
-
-
 def of_text(text):
     """What the head of the text and the table of regions tell."""
-    head, program = head_of(text), program_of(text)
+    head = head_of(text)
     covered = head.covered / head.thread_time if head.thread_time and head.covered is not None else None
     return {"program": head.program, "date": head.date, "clock": head.clock, "unit": head.unit, "coverage": covered,
-            **facts_of_program(program)}
+            "threads": {"most": most_threads(text)}}
 
 
 def merged(old, new):

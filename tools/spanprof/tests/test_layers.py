@@ -7,7 +7,7 @@ import unittest
 
 PACKAGE = os.path.dirname(os.path.dirname(os.path.abspath(__file__)))
 ENDS = {"command.py", "convert_command.py", "run.py"}  # run.py ends as the recorded program did
-MOST_FILES = 36     # of which a reader of one summary has to know
+MOST_FILES = 36     # that a reader of one summary has to know
 SHARED = ""     # the modules of the package itself
 # Each may import those before it.
 LAYERS = (SHARED, "conformance", "predict", "whatif", "diagnosis", "report", "path", "record", "graph", "imports",
@@ -49,7 +49,8 @@ class Layers(unittest.TestCase):
     def test_a_summary_loads_few_files(self):
         """What `spanprof record` loads before it prints; what few runs need is loaded where it is used."""
         code = "import sys; from spanprof.front import command; command.main_of('record'); " \
-            "print(*(name for name in sys.modules if name.partition('.')[0] == 'spanprof'), sep='\\n')"
+            "print(*(name for name, module in sys.modules.items() " \
+            "if name.startswith('spanprof.') and not hasattr(module, '__path__')), sep='\\n')"
         reported = subprocess.run([sys.executable, "-B", "-c", code], cwd=os.path.dirname(PACKAGE), capture_output=True,
                                   text=True, check=True)
         self.assertLessEqual(len(reported.stdout.split()), MOST_FILES, reported.stdout)

@@ -4,7 +4,7 @@ import tempfile
 import unittest
 
 from spanprof.command import Fault
-from spanprof.recording import program_of, read_regions
+from spanprof.recording import LOG, most_threads, program_of, read_regions
 
 TABLE = """\
 number,text,begin_ns,end_ns,threads,tasks,loops,code_ns,inside,place
@@ -47,6 +47,22 @@ class Tables(unittest.TestCase):
 
     def test_a_plain_text_has_none(self):
         self.assertIsNone(program_of(os.path.join(self.folder, "other.tasks")))
+
+    def test_the_most_threads_of_a_recording(self):
+        text = os.path.join(self.folder, "program.tasks")
+        self.assertIsNone(most_threads(text))
+        os.mkdir(os.path.join(self.folder, LOG))
+        for path in (text, os.path.join(self.folder, LOG, "head")):
+            with open(path, "w", encoding="utf-8"):
+                pass
+        self.assertIsNone(most_threads(text))
+        self.kept("regions", TABLE + "\n")
+        self.assertEqual(most_threads(text), 4)
+        self.kept("regions", "\n".join(TABLE.split("\n")[:2]))
+        self.assertIsNone(most_threads(text))
+        self.kept("regions", "")
+        with self.assertRaisesRegex(Fault, "regions is damaged"):
+            most_threads(text)
 
     def test_a_sign_that_ends_a_line_elsewhere_and_an_empty_line(self):
         program = read_regions(self.kept(words=TABLE.replace("inner", "in\u2028ner") + "\n"))

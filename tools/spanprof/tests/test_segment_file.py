@@ -51,6 +51,21 @@ class OfARecording(unittest.TestCase):
     def test_older_ones_have_no_sums(self):
         self.check(read(table(ROWS, {name: value for name, value in LAST.items() if name != "sums"})))
 
+    def test_what_else_is_added_up(self):
+        more = {"phases": [[4, 1, 1, 0, 0, 1, 0]], "delays": [[4, 900, 50], [6, 0, 0]],
+                "barriers": [[4, 1, 30, [[4, 70], [None, 0]], [[4, 20]]]],
+                "regions": {"tasks": True, "places": [["a.c:8", 2, 70, 90, [[4, 50, 9], [2, 20, 0]]]]}}
+        found = read(table(ROWS, {**LAST, **more}))
+        self.check(found)
+        self.assertEqual((found.phases, found.delays), (more["phases"], more["delays"]))
+        self.assertEqual(found.barriers, [[4, 1, 30, [(4, 70), (None, 0)], [(4, 20)]]])
+        self.assertEqual(found.regions, (True, more["regions"]["places"]))
+        for name, value in (("phases", [[7, 1, 1, 0, 0, 1, 0]]), ("phases", [[4, 1]]), ("delays", [[4, 900, ""]]),
+                            ("barriers", [[4, 1, 30, [[7, 70]], []]]), ("barriers", [[4, 1, 30, []]]),
+                            ("regions", {"tasks": True, "places": [["a.c:8", 2, 70, 90, [[4, 50]]]]}), ("regions", {})):
+            with self.assertRaisesRegex(Fault, "segments is damaged"):
+                read(table(ROWS, {**LAST, **more, name: value}))
+
     def test_block_by_block(self):
         with mock.patch("spanprof.segment_table.OF_A_BLOCK", 3):
             self.check(read(table(ROWS, LAST, 3)))

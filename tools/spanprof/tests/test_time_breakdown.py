@@ -9,8 +9,8 @@ from spanprof.head import Lock
 from spanprof.record.tests.made_up import Answers, Head
 from spanprof.remarks import remark_of
 from spanprof.tests.columns import code_of, rows_of
-from spanprof.time_breakdown import (Blocked, NoBreakdown, TimeBreakdown, breakdown_of, divide_busy,
-                                     recorded_breakdown, times_name)
+from spanprof.time_breakdown import (Blocked, NoBreakdown, TimeBreakdown, breakdown_by_kind, breakdown_of,
+                                     divide_busy, recorded_breakdown, times_name)
 
 SUMS = "threads 2\nelapsed 14\nbusy 11\ndelayed 7\nstarved 8\noutside 2\n"
 ROWS = [(0, 0, 0, 5), (0, 5, 6, 9), (0, 5, 9, 11), (1, 11, 12, 13)]
@@ -54,6 +54,26 @@ class Asked(unittest.TestCase):
             self.assertEqual(found.starved_by, {"the beginning": 7, "after a taskwait": 1})
         self.assertEqual(asked, ["mine.timed", [0, 1, 2, 0], ("delayed", "starved"),
                                  ["times 2 0 14\n", "0 0 0 5\n", "1 0 6 9\n", "2 0 9 11\n", "3 1 12 13\n"]])
+
+    def test_by_kind_without_rows(self):
+        asked = []
+
+        def places(*words, **more):
+            asked.extend((words, more))
+            return [5, 4, 2], [3, 0, 4], [7, 0, 1]
+
+        with tempfile.TemporaryDirectory() as folder:
+            path = os.path.join(folder, "times")
+            with open(path, "w", encoding="utf-8") as file:
+                file.write("times 2 3 17\n")
+            with mock.patch("spanprof.client.places", places):
+                found = breakdown_by_kind(answers().head, 11, "mine.tasks", [0, 1, 2, 0], ["a", "b", "a"], path)
+            self.assertEqual(asked, [("mine.tasks", [0, 1, 2, 0], ("busy", "delayed", "starved")),
+                                     {"file_of_times": path}])
+        self.assertEqual((found.threads, found.elapsed, found.busy, found.outside), (2, 14, 11, 2))
+        self.assertEqual((found.code, found.delayed_by, found.starved_by), (11, {"a": 7}, {"a": 8}))
+        with self.assertRaisesRegex(NoBreakdown, "No such file"):
+            breakdown_by_kind(answers().head, 11, "mine.tasks", [0], ["a"], "nowhere")
 
     def test_on_as_few_threads_as_ran_at_once(self):
         rows = rows_of([(9, 0, 0, 4), (7, 0, 2, 6), (5, 0, 3, 3), (5, 0, 4, 8), (9, 0, 6, 7)])

@@ -12,9 +12,7 @@ from spanprof.command import Console, Fault, Version, check_files, count, end_wi
 from spanprof.predict.predictions import changed_reported
 from spanprof.program_text import TextFile, as_text, statements
 from spanprof.recording import text_of
-from spanprof.whatif.listing import listing
-from spanprof.whatif.output import as_json, lines, notes
-from spanprof.whatif.relaxation import proof_of
+from spanprof.whatif.output import as_json, lines, listing, notes, proof_of
 from spanprof.whatif.requests import OPTIONS, Request, Text, applied, changes, costs_for, survey, version_of, write
 
 DESCRIPTION = """Changes a recorded program text as one might change the program, and compares work, span, and the
@@ -34,9 +32,6 @@ def parse(words):
     add("--threads", type=count(1, 1024), metavar="P", help="numbers for P threads (default: as many as were recorded)")
     add("--creating", type=count(0, 10 ** 12), metavar="COST",
         help="the cost of creating a task (default: as in the text)")
-    add("--least", type=count(0, 10 ** 12), metavar="COST",
-        help="neither split code that costs less nor make it a task (default: where a part would cost less than its "
-        "creation)")
     add("-o", "--output", metavar="CHANGED.tasks",
         help="write the changed text to this file; - is standard output, and the numbers go to standard error then")
     add("--places", action="store_true", help="list the places and depend items that can be changed")
@@ -55,7 +50,7 @@ def compare(chosen, text, before, path):
     threads = list(before.on)
     found = text.statements()
     seen = survey(found)
-    costs = costs_for(text.head, seen, chosen.creating, chosen.least)
+    costs = costs_for(text.head, seen, chosen.creating)
 
     def asked():
         return changes(chosen.requests, seen, costs)

@@ -1,11 +1,50 @@
-"""What is reported of a text and its changed text, in lines and as JSON."""
+"""What is reported of a text and its changed text, in lines and as JSON: what can be changed in it, the numbers of
+both, and whether the changed text has the segments of the text and waits for no more, as spanprof_large finds.
+"""
 import json
 
+from spanprof import client
 from spanprof.client import proved
+from spanprof.command import Fault
 from spanprof.head import grouped, speaks_of, why_not_of_more_threads
+from spanprof.program_text import Document, TextFile
 from spanprof.whatif.requests import OPTIONS
 
+MOST_NAMES = 30
+PROVED = "proved of the text as changed: the same segments, no more to wait for"
 HEADS = "%-22s %18s %18s %9s"
+
+
+def by_count(title, counted):
+    """The first names by their count, and how many more there are."""
+    names = [(name, number) for name, number in counted.most_common() if number]
+    if not names:
+        return []
+    more = ["%14s  of %d more names" % ("", len(names) - MOST_NAMES)] if len(names) > MOST_NAMES else []
+    return [title] + ["%14s  %s" % (grouped(number), name) for name, number in names[:MOST_NAMES]] + more
+
+
+def listing(seen, costs):
+    """`costs` are those of the code at each place."""
+    yield from by_count("code, with its cost (--factor, --split, --grain, --task):", costs)
+    yield from by_count("tasks (--join):", seen.tasks)
+    yield from by_count("waits (--drop-wait):", seen.waits)
+    yield from by_count("tasks with depend items (--drop-depend, --read-only, --rename):", seen.dependent)
+    yield from by_count("names of depend items, with their items (--drop-name):", seen.items)
+    yield "depth of the tasks (--cutoff): %d" % seen.depth
+
+
+def proof_of(made, old, new):
+    """A line on these changes of the text in the file `old`, which made that in `new`; none where nothing is proved."""
+    if client.not_proved() or not all(one.relaxes for one in made):
+        return []
+    try:
+        client.ask(["relaxation"], Document(old, [str(TextFile(new)), "\n"]))
+    except client.Refused as refused:
+        if refused.is_of_memory:
+            return []
+        raise Fault("the change is wrong, which is a fault of this tool: %s" % refused) from refused
+    return [PROVED]
 
 
 def change(before, after):

@@ -9,7 +9,7 @@ from collections import Counter
 from dataclasses import dataclass, field
 from difflib import get_close_matches
 from itertools import compress
-from typing import Callable, NamedTuple, Optional
+from typing import Callable, NamedTuple
 
 from spanprof import client
 from spanprof.command import Fault, writing
@@ -35,25 +35,24 @@ IS_DIVISIBLE = "whether that code can be divided, or run in parallel to what fol
 
 
 class Costs(NamedTuple):
-    """`least` is the cost from which on code becomes tasks, where that is given."""
+    """What creating a task costs, and why it is known."""
     creating: int
-    least: Optional[int]
     why: str
 
     def for_parts(self, parts):
-        """A part costs no less than its creation."""
-        return self.least if self.least is not None else parts * self.creating
+        """From what on code is divided: a part costs no less than its creation."""
+        return parts * self.creating
 
 
-def costs_for(head, seen, creating=None, least=None):
+def costs_for(head, seen, creating=None):
     """A text whose costs are declared has none of the runtime's part."""
     if creating is not None:
-        return Costs(creating, least, "as given")
+        return Costs(creating, "as given")
     found = seen.creating() if head.is_measured else None
     if found is None:
-        return Costs(0, least, "the text does not tell it")
-    return Costs(found, least, "a quarter of the %d pieces of code between two creations cost at most that "
-                 "(measured)" % sum(seen.between.values()))
+        return Costs(0, "the text does not tell it")
+    return Costs(found, "a quarter of the %d pieces of code between two creations cost at most that (measured)" %
+                 sum(seen.between.values()))
 
 
 @dataclass

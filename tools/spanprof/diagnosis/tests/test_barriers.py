@@ -29,13 +29,21 @@ def barriers(phases, threads, times=1, **more):
     ran = [0] * len(one.code)
     for segment, thread in zip(one.code.own, threads):
         ran[segment] = thread
-    return needless_barriers(one, [Region("image.c:2", len(set(threads)), MS, times=times)], ran)
+    return needless_barriers(one, [Region("image.c:2", len(set(threads)), MS, times=times)], lambda: ran)
 
 
 class Barriers(unittest.TestCase):
     def test_threads_that_have_as_much_in_all_need_no_barrier(self):
         self.assertEqual(barriers([(90, 10), (10, 90)], [0, 1, 0, 1]), {HERE: (HERE, 1.0)})
         self.assertEqual(barriers([(90, 10), (90, 10)], [0, 1, 1, 0]), {HERE: (HERE, 1.0)})
+
+    def test_as_a_converter_adds_them_up(self):
+        one, regions = program(text((90, 10), (10, 90))), [Region("image.c:2", 2, MS)]
+        kind = one.code.of[one.code.own[0]]
+        for times, less, needless in ((1, 160, True), (2, 160, False), (1, 100, False)):
+            one.code.barriers = [[kind, times, less, [(kind, 160), (None, 0)], [(None, 0), (kind, 80)]]]
+            self.assertEqual(needless_barriers(one, regions, None),
+                             {HERE: (HERE, 1.0), "": (HERE, 1.0)} if needless else {})
 
     def test_where_the_same_thread_has_more_the_schedule_is_the_cause(self):
         self.assertEqual(barriers([(90, 10), (90, 10)], [0, 1, 0, 1]), {})

@@ -2,7 +2,7 @@ import unittest
 from types import SimpleNamespace
 
 from spanprof.diagnosis.calls import Sampled
-from spanprof.diagnosis.diagnose import bound_of, bounds
+from spanprof.diagnosis.diagnose import bound_of, bounds, queueing
 from spanprof.diagnosis.losses import Loss
 from spanprof.diagnosis.places import OF_THREADS
 from spanprof.diagnosis.tests.worked import MS, facts, place
@@ -47,6 +47,13 @@ class Bounds(unittest.TestCase):
             step = bound_of(run, 100 * MS, lost, [lost, *found])
             self.assertEqual((step.after, step.low), (after * MS, low * MS))
         self.assertEqual(bound_of(run, 100 * MS, lost._replace(kind="lock"), [shared, waits]).after, 75 * MS)
+
+    def test_neighbouring_turns_write_the_same_lines_where_chunks_are_small(self):
+        name = "turns of the loop at image.c:9"
+        lost, run = Loss("small_chunks", name, 120 * MS), facts([place(name, "share")], code=200 * MS)
+        for at, after, low in ((name, 50, 0), ("task at image.c:40", 70, 70)):
+            step = bound_of(run, 100 * MS, lost, [lost, Loss("memory", at, 80 * MS)])
+            self.assertEqual((step.after, step.low), (after * MS, low * MS))
 
     def test_what_the_recorder_takes_is_part_of_neither_time(self):
         lost, run = Loss("small_regions", "image.c:25", 124 * MS), facts(code=200 * MS, recorder=8 * MS)
@@ -103,6 +110,12 @@ class Sleep(unittest.TestCase):
 
     def test_none_more_where_threads_wait_for_processors_already(self):
         self.assertEqual(self.step({4: 90, 20: 27}, Loss("too_many_threads", TASKS, 40 * MS)).threads, 0)
+
+    def test_they_wake_up_together(self):
+        """8 tasks of 1 ms of code: the last of 20 threads waits for 16 on four processors."""
+        run = facts([place(TASKS, cost=368 * MS)], asleep=360 * MS, asleep_by={TASKS: 360 * MS})
+        self.assertEqual([queueing(run, TASKS, threads) for threads in (20, 4, 0)], [4 * MS, 0, 0])
+        self.assertEqual(queueing(run, "", 20), 0)
 
     def test_they_need_processors_for_the_code(self):
         self.assertEqual(self.step({4: 90, 20: 0}).after, 10 * MS)

@@ -71,7 +71,7 @@ class Tries(unittest.TestCase):
         self.head = read_head('# recorded: {"threads": 4, "unit": "us"}\n')
         text = SimpleNamespace(head=self.head, path=TEXT,
                                statements=lambda: of_stream(statements(TEXT.splitlines(True))))
-        self.bench = Bench(text, found_in(program().places), self.measured)
+        self.bench = Bench(text, found_in(program().places), self.measured, 10)
 
     def tearDown(self):
         module.greedy_end, module.client.at_once = self.was
@@ -93,7 +93,7 @@ class Tries(unittest.TestCase):
     def test_none_is_begun_that_may_end_too_late(self):
         wait = single("drop-wait", "taskwait at image.c:30")
         self.assertTrue(self.bench.has_time())
-        self.bench.longest = module.seconds_for(self.bench.facts.elapsed)    # as long as there is for all of them
+        self.bench.longest = 10     # as long as there is for all of them
         self.assertFalse(self.bench.has_time())
         self.assertEqual(self.bench.tries([wait]), [])
 

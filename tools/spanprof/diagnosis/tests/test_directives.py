@@ -31,6 +31,8 @@ class Directives(unittest.TestCase):
         self.assertEqual([construct_of(name) for name in (
             "task at a.c:1", "after creating a task at a.c:1", "taskwait at a.c:2", "after taskwait at a.c:2", "a.c:9",
             "turns of the loop at a.c:3")], ["task", "task", "taskwait", "taskwait", "parallel", "for"])
+        self.assertEqual([construct_of(name) for name in ("tasks_in_loop.c:9", "code of one of the region's threads at "
+                                                          "loop.c:9")], ["parallel", "parallel"])
 
     def test_a_line_before_the_directive(self):
         self.assertEqual(directive_line(BATCHES, 1, "task"), 3)
@@ -39,6 +41,27 @@ class Directives(unittest.TestCase):
 
     def test_a_line_after_the_directive(self):
         self.assertEqual(directive_line(BATCHES, 7, "task"), 3)
+
+    def test_a_line_inside_the_statement_of_a_directive(self):
+        """The first task's statement has a task in it, and a loop follows another one."""
+        lines = ["void f() {", "#pragma omp task", "  {", "    grow(1);", "#pragma omp task", "    grow(2);", "  }",
+                 "#pragma omp parallel for", "  for (int i = 0; i < 9; i++)", "    grow(i);", "  grow(3);",
+                 "#pragma omp parallel for", "  for (;;) {", "  }", "}"]
+        self.assertEqual([directive_line(lines, number, "task", True) for number in (2, 4, 6, 9)], [2, 2, 5, 5])
+        self.assertEqual([directive_line(lines, number, "for", True) for number in (9, 10, 11)], [8, 8, 12])
+        self.assertEqual([directive_line(lines, number, "for") for number in (9, 10, 11)], [8, 8, 12])
+        # of gcc's code on another runtime the line may be that of the statement before the inner task
+        self.assertEqual(directive_line(lines, 4, "task"), 5)
+
+    def test_a_line_inside_a_statement_with_a_directive_for_each_condition(self):
+        loop = ["  for (int i = 0; i < 9; i++) {", "#ifdef LESS", "    grow(1);", "#endif", "    grow(i);", "  }",
+                "#pragma omp for", "  for (;;) {", "  }", "}"]
+        either = ["void f() {", "#ifdef FIXED", "#pragma omp for nowait", "#else", "#pragma omp for", "#endif"]
+        for above, first in ((either, 0), (["void f() {", "#ifndef ONE", "#pragma omp for", "#endif"], 3),
+                             (["void f() {", "#pragma omp for"], 2)):
+            lines, begin = above + loop, len(above) + 1
+            self.assertEqual([directive_line(lines, begin + more, "for", True) for more in (0, 2, 4)],
+                             [first or begin, first or begin + 2, first or begin + 4])
 
     def test_the_directive_right_above_a_statement(self):
         lines = ["#pragma omp for \\", "    schedule(dynamic)", " // rows", "for (;;) work();", "more();", "for (;;) {"]

@@ -185,6 +185,32 @@ class Starting(unittest.TestCase):
         found = starting_shares(SimpleNamespace(rows=rows_of(rows), places=places))
         self.assertEqual(found, {places[0]: 52000 / 152000, places[2]: 1.0})
 
+    def test_the_same_as_a_converter_adds_them_up(self):
+        self.assertEqual(module.starting_of_kinds([[0, 100, 40], [1, 0, 0], [2, 60, 24]], ["a", "b", "a"]), {"a": 0.4})
+
+    def test_rows_are_asked_for_where_threads_are_numbered_anew(self):
+        run, code = facts(threads=2), SimpleNamespace(delays=[])
+        with tempfile.TemporaryDirectory() as folder:
+            path = os.path.join(folder, "times")
+            with open(path, "w", encoding="utf-8") as file:
+                file.write("times 2 0 9\n0 0 0 9\n")
+            made = SimpleNamespace(times=path)
+            self.assertTrue(module.has_sums(run, made, code))
+            run.threads = 4
+            self.assertFalse(module.has_sums(run, made, code))
+            self.assertFalse(module.has_sums(run, made, SimpleNamespace(delays=None)))
+
+    def test_regions_as_a_converter_adds_them_up(self):
+        teams = ((10, 4, 4), (20, 2, 2), (30, 2, 3), (40, 4, 9))
+        some = [Region(1 + i, 0, 0, end, threads, 0, 0, 0, 0, "a.c:1", asked) for i, (end, threads, asked) in
+                enumerate(teams)]
+        self.assertEqual(module.regions_in_sums([["a.c:1", 4, 40, 0, [[2, 50, 3], [4, 50, 9]]]]),
+                         regions_of(Program(90, some)))
+        run = facts()
+        module.set_regions(run, "nowhere", SimpleNamespace(regions=(False, [["", 1, 9, 30, [[4, 9, 0]]]])))
+        self.assertEqual((run.tasks_in_regions, [(one.place, one.asked, one.code) for one in run.regions]),
+                         (False, [("a region", None, 30)]))
+
     def test_threads_that_only_took_turns_are_not_idle(self):
         rows = [(0, 0, 0, 10), (5, 10, 10, 30), (0, 30, 30, 40)]
         found = TimeBreakdown(8, 50, 40, 0, 240, 120, rows=rows_of(rows), places=["a", "b", "c"])

@@ -4,8 +4,8 @@ import unittest
 from spanprof.diagnosis.calls import Sampled
 from spanprof.diagnosis.facts import Region
 from spanprof.diagnosis.losses import (Loss, by_place, code_on_one, divided, finest_name, handling, is_crowded,
-                                       losses, missing_threads)
-from spanprof.diagnosis.places import OF_THREADS, SERIAL, SHARE, TASK
+                                       losses, missing_threads, starting_times)
+from spanprof.diagnosis.places import OF_THREADS, OWN, SERIAL, SHARE, TASK
 from spanprof.diagnosis.tests.worked import MS, facts, place
 
 PARTS = ("recorder", "preempted", "asleep", "at_locks", "delayed", "starved", "outside")
@@ -50,6 +50,15 @@ class Losses(unittest.TestCase):
         for each, lost in ((400, 20 * MS), (2000, 0)):
             maker = place("after creating a task at a.c:1", cost=50000 * each, pieces=50000, tasks=0)
             self.assertEqual(handling(facts([small, maker])), {("small_tasks", small.name): lost} if lost else {})
+
+    def test_long_delays_of_starting_regions_are_others_as_far_as_these_ran(self):
+        """Of 100 ms a runtime takes 40; of the other 60 other programs ran for 15."""
+        often, seldom = (place("%s at a.c:%d" % (OWN, line), OF_THREADS, pieces=pieces) for line, pieces in
+                         ((2, 4000), (9, 4)))
+        delayed = {often.name: 100 * MS, seldom.name: 50 * MS}
+        for others, starting in ((15 * MS, 85 * MS), (0, 100 * MS), (90 * MS, 40 * MS), (None, 40 * MS)):
+            run = facts([often, seldom], starting_by={name: 0.4 for name in delayed}, others=others)
+            self.assertEqual(starting_times(run, delayed), {often.name: starting, seldom.name: 0})
 
     def test_threads_that_share_processors_lose_much(self):
         name = "task at a.c:1"

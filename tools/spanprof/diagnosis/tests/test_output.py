@@ -10,15 +10,13 @@ def run(pieces, **parts):
 
 class Trials(unittest.TestCase):
     def test_of_a_long_text_only_where_its_shape_may_be_the_cause(self):
-        self.assertFalse(needs_trials(run(90000, at_locks=200 * MS)))
-        self.assertTrue(needs_trials(run(90, at_locks=200 * MS)))
-        self.assertTrue(needs_trials(run(90000, at_locks=20 * MS)))
-        self.assertTrue(needs_trials(run(90000)))
+        self.assertFalse(needs_trials(run(90000, at_locks=200 * MS), 10))
+        self.assertTrue(needs_trials(run(90, at_locks=200 * MS), 10))
+        self.assertTrue(needs_trials(run(90000, at_locks=20 * MS), 10))
+        self.assertTrue(needs_trials(run(90000), 10))
 
-    def test_none_where_the_text_takes_longer_to_read_than_the_program_ran(self):
-        self.assertFalse(needs_trials(run(2000000)))
-        self.assertTrue(needs_trials(run(2000000), 20))
-        self.assertTrue(needs_trials(run(2000000, elapsed=20000 * MS)))
+    def test_none_where_the_text_takes_most_of_the_time_to_read(self):
+        self.assertEqual([needs_trials(run(1000000), seconds) for seconds in (-1, 10, 20)], [False, False, True])
 
 
 if __name__ == "__main__":

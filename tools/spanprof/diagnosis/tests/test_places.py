@@ -1,7 +1,9 @@
 import unittest
 
-from spanprof.diagnosis.places import (OF_THREADS, OWN, SERIAL, SHARE, TASK, in_text, is_by_a_turn, lines_between)
+from spanprof import segment_table
+from spanprof.diagnosis.places import OF_THREADS, OWN, SERIAL, SHARE, TASK, in_text, lines_between, read_places
 from spanprof.diagnosis.tests.worked import TEXT, program
+from spanprof.phases import is_by_a_turn
 from spanprof.tests.columns import segments_of
 
 
@@ -65,6 +67,12 @@ class Places(unittest.TestCase):
             lines += ["}\n"]
         own = program("".join(lines)).places[OWN + " at a.c:3"]
         self.assertEqual((own.longest, own.alone, own.has_several), (96, 80, False))
+
+    def test_phases_as_a_converter_adds_them_up(self):
+        code = segment_table.read_code(TEXT.splitlines(True), "the text")
+        code.phases = [[code.of[code.own[0]], 7, 5, 3, 1, 1, 0]]
+        own = read_places(code, 1000).places[OWN + " at image.c:20"]
+        self.assertEqual((own.longest, own.alone, own.uneven, own.by_a_turn), (7000, 5000, 3000, 1000))
 
     def test_the_lines_between_two_constructs(self):
         places = program().places

@@ -137,13 +137,13 @@ class Sentences(unittest.TestCase):
 
     def test_page_faults_are_reported_where_they_are_most_of_it(self):
         at = " in image.c:9 (tone)"
-        for faults, reported in ((90000, "85 % of the processor time is spent in the kernel: 90,000 page faults" + at),
-                                 (600, "85 % of the processor time is spent in the kernel: system calls" + at)):
+        for faults, reported in ((90000, "85 % of processor time is in the kernel: 90,000 page faults" + at),
+                                 (600, "85 % of processor time is in the kernel: system calls" + at)):
             run = found(usage={"user_ns": 60 * MS, "system_ns": 340 * MS, "minor_faults": faults})
             self.assertEqual(lost_sentence(run, Names(run, SOURCES), Loss("system", TASKS, 1)), reported)
         run.calls = Sampled({TASKS: {("main", "tone", "munmap@libc.so.6"): 9000, ("main", "read@libc.so.6"): 5000}}, {})
         self.assertEqual(lost_sentence(run, Names(run, SOURCES), Loss("system", TASKS, 1)),
-                         "85 % of the processor time is spent in the kernel: mapping memory" + at)
+                         "85 % of processor time is in the kernel: mapping memory" + at)
 
     def test_page_faults_in_the_copies_of_data_that_tasks_have(self):
         after, reuse = "after creating a task at image.c:9", "reuse memory: no large malloc, mmap or free in each task"
@@ -201,6 +201,7 @@ class Sentences(unittest.TestCase):
     def test_in_place_of_what_is_contended(self):
         found = [Suspect("", "a.c:9", True), Suspect("part[me]", "a.c:9")]
         self.assertEqual(list(map(str, found)), ["the atomic at a.c:9", "part[me] next to others' (a.c:9)"])
+        self.assertEqual(str(Suspect("part[omp_get_thread_num()]", "a.c:9")), "part[..] next to others' (a.c:9)")
         self.assertEqual([one.instead for one in found + [Suspect("", "a.c:9")]], [
             "a reduction in place of the atomic at a.c:9", "keep part[me] (a.c:9) in a local variable",
             "keep what a.c:9 writes in a local variable"])
@@ -244,6 +245,26 @@ class Sentences(unittest.TestCase):
             self.assertNotIn("fuse", reported()[1])
             setattr(run, field, kept)
 
+    def test_what_costs_once_more_with_each_thread_seems_to_be_repeated(self):
+        """Four threads have 400 ms of their own code, which is 100 ms on one."""
+        name, begin = OWN + " at image.c:2", ["int main() {", "  #pragma omp parallel", "  {"]
+        step = Step("memory", name, 100 * MS, 50 * MS, 50 * MS, 60 * MS)
+
+        def reported(code="    fill(table);", directive=begin[1], alone=100, **more):
+            lines = [begin[0], directive, begin[2], code, "  }", "  omp_get_thread_num();", "}"]
+            run = facts([place(name, OF_THREADS, cost=400 * MS, pieces=4, **more)], cost_on_one={name: alone * MS},
+                        regions=[Region("image.c:2", 4, 99 * MS)])
+            run.calls = Sampled({name: {("main", "fill"): 400000}}, {})
+            names = Names(run, SimpleNamespace(lines_of=lambda _: lines))
+            return [lost_sentence(run, names, Loss("memory", name, 1)), change_sentence(run, names, step)]
+        self.assertEqual(reported(), [
+            "each of 4 threads seems to do all of fill (called by main): 4.0 times what it costs on one",
+            "divide it among the threads of image.c:2, or do it once: single"])
+        for code in ("    part(omp_get_thread_num());", "    #pragma omp single", "    next = count.fetch_add(1);"):
+            self.assertIn("memory is contended", reported(code)[0])
+        for other in ({"alone": 150}, {"alone": 50}, {"uneven": 80 * MS}, {"directive": "  #pragma omp parallel for"}):
+            self.assertIn("memory is contended", reported(**other)[0])
+
     def test_memory_is_allocated_at_a_line_of_a_function(self):
         run = found(is_of_gcc=True)
         run.functions = {"image.c:12": "tone"}
@@ -280,6 +301,15 @@ class Sentences(unittest.TestCase):
         run.places[name] = Place(name, SERIAL, pieces=9000)
         self.assertEqual(lost_sentence(run, Names(run, SOURCES), Loss("small_regions", "image.c:6", 1)),
                          "9,000 barriers at image.c:6, 10.0 us apart: waiting at them costs too much")
+
+    def test_regions_of_several_places_that_are_as_short(self):
+        run = found(regions=[Region("image.c:%d" % line, 4, elapsed * MS, times=times) for line, elapsed, times in (
+            (6, 90, 9000), (9, 46, 8000), (12, 90, 20), (15, 900, 9000))])
+        names = Names(run, SOURCES)
+        self.assertEqual(lost_sentence(run, names, Loss("small_regions", "image.c:6", 1)),
+                         "17,000 regions at image.c:6, 9 take 8.00 us each: starting them costs too much")
+        step = Step("small_regions", "image.c:6", 100 * MS, 50 * MS, 40 * MS, 60 * MS)
+        self.assertEqual(change_sentence(run, names, step), "move parallel at image.c:6, 9 out of the loop around it")
 
     def test_processors_that_the_program_may_not_use(self):
         run = found(threads=4, regions=[Region("image.c:6", 4, 90 * MS)])

@@ -9,6 +9,7 @@ from unittest import mock
 
 from spanprof.command import Fault
 from spanprof.predict import command, predictions
+from spanprof.predict.estimate import Estimate
 from spanprof.predict.machine import Machine, Measured, write_machine
 from spanprof.predict.recorded import recorded
 from spanprof.remarks import in_words
@@ -130,9 +131,25 @@ class Command(InAFolder):
 
     def test_slow_recordings_are_left_out(self):
         paths = [self.write(name, TEXT.replace("elapsed: 30", "elapsed: %d" % elapsed) % 2)
-                 for name, elapsed in (("a.tasks", 30), ("b.tasks", 34), ("c.tasks", 35))]
+                 for name, elapsed in (("a.tasks", 40), ("b.tasks", 41), ("c.tasks", 47))]
         two = self.answer(*paths).splitlines()[1]
         self.assertRegex(two, "; the median by 2 recordings")
+
+    def test_what_shows_a_slow_moment(self):
+        """Two near one another, of which the quicker counts; else the middle one. One alone stays."""
+        for times, left in (([100], 1), ([100, 116], 1), ([100, 114], 2), ([100, 104, 116], 3), ([100, 103, 116], 2),
+                            ([70, 100, 103, 114, 116], 4), ([60, 70, 80, 92, 93], 5), ([60, 70, 80, 93, 97], 3),
+                            ([0, 0], 2)):
+            several = [mock.Mock(elapsed=time) for time in times]
+            self.assertEqual(len(predictions.undisturbed(several)), left, times)
+
+    def test_no_time_is_less_than_the_least(self):
+        """As a run's may be, in which the recorder's time is no more."""
+        one = Estimate(mock.Mock(), 2, 70, 50, 90, [], 0)
+        for least, times in ((60, (70, 90)), (80, (80, 90)), (95, (95, 95))):
+            with mock.patch.object(predictions, "least_end", return_value=least):
+                found, reported = predictions.with_least(one)
+            self.assertEqual((found.time, found.high, reported), (*times, least))
 
     def test_two_regions(self):
         paths = [self.write("a.tasks", TEXT % 2), self.write("b.tasks", TEXT.replace("a.c:9", "b.c:7") % 1)]

@@ -1,5 +1,6 @@
 import unittest
 from math import exp, log
+from unittest.mock import Mock
 
 from spanprof.command import Fault
 from spanprof.predict import estimate as estimating
@@ -9,7 +10,7 @@ from spanprof.predict.gnu import LOCK
 from spanprof.predict.interval import ALONE, AS_RECORDED, ON_GCC, ON_OTHERS, width
 from spanprof.predict.machine import Machine, Measured
 from spanprof.predict.program import read_program
-from spanprof.predict.recorded import GNU, Recorded
+from spanprof.predict.recorded import GNU, Recorded, with_text
 from spanprof.tests.columns import segments_of
 
 TASKS = "omptasks 1\n" + "task {  # a.c:1\nwork 1000\n}\n" * 8
@@ -90,6 +91,14 @@ class Estimates(unittest.TestCase):
         found = estimate({2: [one]}, machine(dispatch=50, steal=400), 2, GNU)
         self.assertEqual((found.runtime, found.dispatch), (GNU, 0))
         self.assertEqual(found.time, 4 * 1000 + 5 * LOCK)
+
+    def test_on_gccs_runtime_as_recorded_the_run_tells(self):
+        """By the model 8 tasks take 4 times 2000 on two threads, and half of them half of that."""
+        one = recording(2, dispatch=1000, runtime=GNU, as_run=10000)
+        costs = machine(dispatch=50, steal=400)
+        self.assertEqual([estimate({2: [one]}, costs, threads).time for threads in (2, 1)], [10000, 8 * 2000])
+        one.head, half = Mock(nanoseconds=1), "omptasks 1\n" + "task {  # a.c:1\nwork 1000\n}\n" * 4
+        self.assertEqual(estimate({2: [with_text(one, half)]}, costs, 2).time, 5000)
 
     def test_recorded_on_gccs_runtime(self):
         """The second thread comes late. A dispatch as recorded has the wait for the lock in it."""

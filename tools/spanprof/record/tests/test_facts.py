@@ -3,16 +3,11 @@ import resource
 import tempfile
 import unittest
 
-from spanprof.record.folder import facts_of_program
 from spanprof.record.run import (Ended, facts_of_run, processors_of_quota, processors_there_are, quotas, threads_asked,
                                  usage_of)
-from spanprof.recording import Program, Region
 
 USED = resource.struct_rusage((1.5, 0.25, 8, 0, 0, 0, 410, 3, 0, 0, 0, 0, 0, 0, 12, 7))
 ENDED = Ended(0, 5000, USED, {"suspended_ns": 0}, {"cycles": 7})
-PROGRAM = Program(5000, [Region(1, 1, 0, 100, 4, 8, 0, 90, 0, "a.c:3"),
-                         Region(2, 0, 200, 900, 2, 0, 1, 90, 0, "a.c:9"),
-                         Region(3, 2, 1000, 1300, 4, 8, 0, 90, 0, "a.c:3")])
 
 
 class Usage(unittest.TestCase):
@@ -60,7 +55,3 @@ class Facts(unittest.TestCase):
         found = facts_of_run(ENDED, {"user_ns": 1000000000, "system_ns": 0, "children_ns": 7}, {}, 4)
         self.assertEqual((found["usage"], found["children_ns"], found["counters"]),
                          ({"user_ns": 1000000000, "system_ns": 0}, 7, None))
-
-    def test_of_a_program(self):
-        self.assertEqual(facts_of_program(PROGRAM)["threads"], {"most": 4})
-        self.assertEqual(facts_of_program(None), {"threads": {"most": None}})

@@ -14,7 +14,7 @@ work 4
 
 def changed(option, word):
     kept = list(statements(TEXT.splitlines(True)))
-    made = changes([Request(option, word)], survey(kept), Costs(0, None, ""))
+    made = changes([Request(option, word)], survey(kept), Costs(0, ""))
     return as_text(applied(kept, made)), made[0].words()
 
 

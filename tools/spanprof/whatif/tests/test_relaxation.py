@@ -6,7 +6,7 @@ from spanprof.command import Fault
 from spanprof.tests.in_folder import InFolder
 from spanprof.tests.proofs import with_a_proved_program
 from spanprof.whatif.changes import Defer, DropDepend, Factor
-from spanprof.whatif.relaxation import PROVED, proof_of
+from spanprof.whatif.output import PROVED, proof_of
 
 setUpModule = with_a_proved_program
 

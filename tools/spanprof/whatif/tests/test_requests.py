@@ -2,12 +2,12 @@ import unittest
 from collections import Counter
 
 from spanprof.command import Fault
-from spanprof.whatif.listing import listing
+from spanprof.whatif.output import listing
 from spanprof.whatif.requests import Costs, Request, changes, find, survey
 from spanprof.whatif.tests.made_up import LOOPS, ROW, SORT, read
 
 SEEN = survey(read(SORT))
-COSTS = Costs(2, None, "")
+COSTS = Costs(2, "")
 
 
 def made(option, word, seen=SEEN, costs=COSTS):
@@ -44,7 +44,7 @@ class Made(unittest.TestCase):
 
     def test_a_part_costs_no_less_than_its_creation(self):
         self.assertEqual(made("split", "task at sort.c:9=4").least, 8)
-        self.assertEqual(made("split", "task at sort.c:9=4", costs=Costs(2, 1, "")).least, 4)
+        self.assertEqual(made("split", "task at sort.c:9=4", costs=Costs(0, "")).least, 4)
         self.assertEqual(made("task", "task at sort.c:9").least, 2)
 
     def test_refusals(self):

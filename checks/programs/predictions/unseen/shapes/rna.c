@@ -21,7 +21,7 @@ static int pair(int i, int j) {
 }
 
 /* Divides the subsequences of these rows at each base between both blocks. */
-static void divide(int first, int last, int top, int right) {
+static __attribute__((noinline)) void divide(int first, int last, int top, int right) {
     for (int i = first; i < last; i++)
         for (int k = (top + 1) * side; k < right * side - 1; k++) {
             int left = pairs[i][k];
