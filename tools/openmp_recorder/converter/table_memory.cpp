@@ -20,7 +20,7 @@ namespace {
 using table_memory::Most;
 constexpr std::size_t grain = 16, most_grains = 1 << 13;  // what is larger has pages of its own
 constexpr std::size_t extent = 16 << 20, huge_page = 2 << 20, copied_at_once = 4 << 20;
-constexpr std::size_t let_go_at_least = 64 << 20;
+constexpr std::size_t let_go_at_least = 32 << 20;
 
 std::size_t page_size() {
   static const auto page = static_cast<std::size_t>(sysconf(_SC_PAGESIZE));
