@@ -12,7 +12,7 @@ from spanprof import client
 from spanprof.answers import greedy_end
 from spanprof.command import Fault, Progress, each
 from spanprof.diagnosis.calls import innermost
-from spanprof.diagnosis.losses import holds_neighbours, kind_of_starved, most_shared
+from spanprof.diagnosis.losses import holds_neighbours, kind_of_starved
 from spanprof.diagnosis.places import LEAST_HOLDERS, OF_THREADS, SERIAL, SHARE, in_text
 from spanprof.program_text import BARRIER
 from spanprof.whatif.requests import Request, applied, best_first, changes, costs_for, survey
@@ -152,7 +152,7 @@ def readers(facts):
     before them have."""
     found = {}
     for place in facts.places.values():
-        shared = most_shared(place)
+        shared = place.most_written
         if shared and place.items[shared] >= LEAST_HOLDERS and not is_only_written(facts, place, shared[1]):
             found[shared[1]] = max(found.get(shared[1], 0), place.items[shared])
     for name in sorted(found, key=lambda name: -found[name])[:MOST]:

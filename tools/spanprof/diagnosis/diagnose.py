@@ -10,7 +10,7 @@ from spanprof.diagnosis.calls import (SHARES, called_code, innermost, interprete
 from spanprof.diagnosis.causes import AT_BEST, BUSY, BY_KIND, EFFICIENT, ESTIMATED, SECOND, WORTH_A_CHANGE
 from spanprof.diagnosis.changes import Change
 from spanprof.diagnosis.losses import (CROWDED, FINE, NO_CAUSE, OF_SHAPE, Loss, code_on_one, in_code_losses,
-                                       is_in_a_row, kind_of_task, least_of, losses, made_by_one, merged, most_shared,
+                                       is_in_a_row, kind_of_task, least_of, losses, made_by_one, merged,
                                        share_of_start, slowed_lines)
 from spanprof.diagnosis.names import is_of_programs, threads_for_sleep
 from spanprof.diagnosis.places import SERIAL, TASK
@@ -238,7 +238,7 @@ def likely(facts, seen, change):
         return ORDERED if free else LIKELY["drop-wait"]
     if change.kind == "in-for-inout":
         place = holder(facts, change.place)
-        return LIKELY[change.kind] if 2 * place.items[most_shared(place)] >= place.tasks else FEW_HOLD
+        return LIKELY[change.kind] if 2 * place.items[place.most_written] >= place.tasks else FEW_HOLD
     if change.kind == "drop-depend" and is_in_a_row(facts.places[facts.key(change.place)]):
         return LIKELY[change.kind] if facts.key(change.place) in facts.rewriting else IN_A_ROW
     if change.kind == "split" and facts.places[facts.key(change.place)].shared_at:

@@ -158,19 +158,13 @@ def kind_of_task(facts, place):
 
 def is_in_a_row(place):
     """Whether most tasks of a place write the same item, or the same one as the task that was made before them."""
-    shared = most_shared(place)
+    shared = place.most_written
     return shared is not None and 2 * max(place.items[shared], place.again) > place.tasks
 
 
 def holds_neighbours(place):
     """Whether tasks of a place write what their neighbours have at another position of the clause."""
     return sum(place.items[item] for item in place.moving) > place.tasks
-
-
-def most_shared(place):
-    """The item that most tasks of a place hold to write, by type and name; None without any."""
-    written = {item: count for item, count in place.items.items() if item[0] != "in"}
-    return max(written, key=lambda item: (written[item], item), default=None)
 
 
 def kind_of_starved(facts, name):

@@ -10,7 +10,7 @@ from operator import itemgetter
 from typing import List, NamedTuple, Tuple
 
 from spanprof.phases import AFTER_REGION, ALONE, OWN, added_up, names_with_regions, phases_in
-from spanprof.program_text import CREATING, OF_A_THREAD, construct, is_share
+from spanprof.program_text import CREATING, DEPEND, OF_A_THREAD, UNDEFERRED, is_share
 from spanprof.segment_table import Code
 from spanprof.source_lines import line_of
 
@@ -55,19 +55,24 @@ class Place:
         self.ends[end] += cost
 
     def add_tasks(self, number, clauses, again):
-        """As many tasks that have these clauses, so many of them right behind another one with them."""
-        task = construct("task", clauses, "")
-        self.undeferred += number * task.is_undeferred
-        self.inoutset += number * any(kind == "inoutset" for kind, _ in task.items)
-        self.again += again * any(kind != "in" for kind, _ in task.items)
-        met = Counter()
-        for item in task.items:
-            self.items[item] += number
-            first = self.positions.setdefault(item, met[item[0]])
-            if first != met[item[0]] and item[0] == "inout":
-                self.moving.add(item)
-                self.moving_at.update((first, met[item[0]]))
-            met[item[0]] += 1
+        """As many tasks that have these clauses, so many of them right behind another one with them. There may be a
+        million such."""
+        found = DEPEND.findall(clauses)
+        kinds = {kind for kind, _ in found}
+        self.undeferred += number * bool(UNDEFERRED.search(clauses))
+        self.inoutset += number * ("inoutset" in kinds)
+        self.again += again * (not kinds <= {"in"})
+        items, positions, met = self.items, self.positions, {}
+        for kind, names in found:
+            at = met.get(kind, 0)
+            for item in zip(itertools.repeat(kind), names.split(",")):
+                items[item] = items.get(item, 0) + number
+                first = positions.setdefault(item, at)
+                if first != at and kind == "inout":
+                    self.moving.add(item)
+                    self.moving_at.update((first, at))
+                at += 1
+            met[kind] = at
 
     @property
     def last_end(self):
@@ -79,7 +84,12 @@ class Place:
         """Positions of what its tasks hold to write, and may only read."""
         return self.moving_at or self.shared_at
 
-    @property
+    @cached_property
+    def most_written(self):
+        """The item that most tasks hold to write, by type and name; None without any."""
+        return max((pair[::-1] for pair in self.items.items() if pair[0][0] != "in"), default=(0, None))[1]
+
+    @cached_property
     def shared_at(self):
         """Of these, where several tasks have the same name, while they have more names at another position; none where
         items are of neighbours."""

@@ -9,7 +9,7 @@ from spanprof.diagnosis.causes import ABOUT, AT_BEST, BY_KIND, NAMES, SECOND
 from spanprof.diagnosis.diagnose import holder
 from spanprof.diagnosis.facts import Region
 from spanprof.diagnosis.losses import (A_TASK, MANY, average_task, holds_neighbours, is_bandwidth, is_in_a_row,
-                                       is_maker, losses, missing_threads, most_shared, useful_time)
+                                       is_maker, losses, missing_threads, useful_time)
 from spanprof.diagnosis.names import DIVIDED, place_of_sleep, sleeper, sooner, words_of_sleep
 from spanprof.diagnosis.places import AFTER_REGION, OWN, SERIAL, SHARE
 from spanprof.head import grouped, lasting
@@ -56,7 +56,7 @@ def words_of_place(facts, names, place):
 
 def words_of_items(names, place):
     """What the tasks of a place hold to write, and how many of them."""
-    shared = most_shared(place)
+    shared = place.most_written
     if holds_neighbours(place) and not is_in_a_row(place):
         return {"item": "inout: " + names.read_only(place)[0], "many": "neighbours"}
     if place.shared_at and not is_in_a_row(place):
