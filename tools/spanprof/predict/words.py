@@ -8,7 +8,7 @@ from spanprof.predict.recorded import GNU, LLVM
 
 MODEL = "predicted: by a model of LLVM's scheduling, not proved; its intervals are as wide as nine of ten cases of " \
     "14 programs need that nothing else was fitted to, on 4 threads"
-OF_GNU = "predicted: by a model of gcc's scheduling, not proved; its intervals held in 132 of 132 cases of 11 " \
+OF_GNU = "predicted: by a model of gcc's scheduling, not proved; its intervals held in 252 of 252 cases of 21 " \
     "programs that nothing was fitted to, on 4 threads as recorded"
 UNMATCHED = 0.05    # of the work, from which on it is reported
 PREEMPTED = 0.01    # likewise
