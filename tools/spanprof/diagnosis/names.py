@@ -16,6 +16,7 @@ from spanprof.source_lines import (COMMENT, DIRECTIVE, LONGEST, STRING, after_di
                                    own_item, statement_below, statement_end)
 
 LONG_ITEM = 20
+OF_A_STATEMENT = 3      # lines
 FUNCTION = re.compile(r"^[A-Za-z_][\w\s:*&<>,~]*\b%s\s*\(")
 CALL = re.compile(r"^(?:[\w.\[\]>-]+\s*[-+*/]?=\s*)?([A-Za-z_]\w*)\s*\(")
 DEPEND = re.compile(r"depend\s*\(\s*(\w+)\s*:\s*((?:[^()]|\([^()]*\))*)\)")
@@ -258,9 +259,15 @@ class Names:
         found = places or [one for one in self.facts.places.values() if one.cost > MUCH_CODE * self.facts.code]
         for place in sorted(found, key=lambda place: -place.cost):
             one = self.contended(place) or self.suspect_in(*self.stretch(place))
-            if one:
+            if one and (not one.is_atomic or self.has_run(place, one)):
                 return one
         return None
+
+    def has_run(self, place, atomic):
+        """Whether samples met its statement, where the place has some: it may stand in code that is not compiled."""
+        at, line = self.facts.calls.at.get(place.name, {}), line_of(atomic.at)
+        lines = [one.number - line.number for one in map(line_of, at) if one and one.file == line.file]
+        return sum(at.values()) < LEAST * A_SAMPLE or any(0 <= below <= OF_A_STATEMENT for below in lines)
 
     def contended(self, place):
         """The same by samples: what the lines have that use memory which threads share, or else the first of them."""

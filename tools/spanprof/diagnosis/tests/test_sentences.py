@@ -195,6 +195,15 @@ class Sentences(unittest.TestCase):
         self.assertIn("whether the atomic at image.c:11 slows it: --full", reported[3])
         self.assertIsNone(Names(run, None).suspect())
 
+    def test_no_atomic_is_suspected_that_no_sample_met(self):
+        run = found()
+        run.places[TASKS].cost = 200 * MS
+        lines = ["    sum.fetch_add(1);" if number == 11 else line for number, line in enumerate(SOURCE, 1)]
+        names = Names(run, SimpleNamespace(lines_of=lambda name: lines))
+        for at, is_suspected in ((11, True), (12, True), (10, False), (40, False)):
+            run.calls = Sampled({}, {}, at={TASKS: {"image.c:%d" % at: 400000}})
+            self.assertEqual(bool(names.suspect()), is_suspected)
+
     def test_the_number_of_chunks_is_no_more_exact_than_it_is_known(self):
         self.assertEqual(list(map(first_digits, (7, 42, 999, 1178648))), [7, 42, 990, 1100000])
 
