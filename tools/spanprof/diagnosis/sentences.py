@@ -2,9 +2,9 @@
 import re
 from collections import Counter
 
-from spanprof.diagnosis.calls import (NO_NAME, OFFSET, ONE_AT_A_TIME, SHARES, allocating, copying_at, has_many_faults,
-                                      innermost, interpreted_share, is_interpreter, maps_memory, parallel_code,
-                                      together, words_of_interpreter)
+from spanprof.diagnosis.calls import (NO_NAME, OF_SYSTEM, OFFSET, ONE_AT_A_TIME, SHARES, allocating, copying_at,
+                                      has_many_faults, innermost, interpreted_share, is_interpreter, maps_memory,
+                                      parallel_code, plain, together, words_of_interpreter)
 from spanprof.diagnosis.causes import ABOUT, AT_BEST, BY_KIND, NAMES, SECOND
 from spanprof.diagnosis.diagnose import holder
 from spanprof.diagnosis.facts import Region
@@ -14,13 +14,15 @@ from spanprof.diagnosis.names import DIVIDED, place_of_sleep, sleeper, sooner, w
 from spanprof.diagnosis.places import AFTER_REGION, OWN, SERIAL, SHARE
 from spanprof.head import grouped, lasting
 from spanprof.program_text import SECTION, where
-from spanprof.source_lines import line_of
+from spanprof.source_lines import LONGEST, after_directive, line_of, statement_end
 
 WIDTH, MOST_LINES = 100, 8
 LABEL = 6
 NO_FASTER = 1.1
 MOST_SHARED = 2
 ALIKE, MOST_REGIONS = 2, 3
+MOST_INSIDE = 0.5      # of the time inside a lock, that a function takes which is named
+LEFT = re.compile(r"\bomp_unset_(nest_)?lock\b|\bunlock\b|_unlock\b")
 A_CHUNK = 50000        # nanoseconds that one lasts which is worth taking
 LEAST_TOLD = 0.005     # of the threads' time, from which on a part of it is reported
 MUCH_STOLEN = 0.02     # of the processors' time, from which on that of the machine's host is reported
@@ -312,6 +314,30 @@ def less_locking(facts, names, lock, less):
     return less + ": compute before it"
 
 
+def code_inside(names, lock):
+    """The source from a lock's line to where it is left; empty where that is not known."""
+    line = names.begin(lock.place, lock.place)
+    lines = names.lines_of(line.file) if line else []
+    if not line or not 0 < line.number < len(lines):
+        return ""
+    begin = after_directive(lines, line.number)
+    last = statement_end(lines, begin) if lock.kind == "critical" else next(
+        (here for here in range(begin, min(begin + LONGEST, len(lines)) + 1) if LEFT.search(lines[here - 1])), 0)
+    return "\n".join(lines[line.number - 1:last])
+
+
+def called_inside(facts, names, lock):
+    """The function that takes most of the time inside a lock, by samples, and that the code there calls by its name."""
+    of, code, found = plain(names.function_at(lock.place)), code_inside(names, lock), Counter()
+    for calls, time in together(facts.calls.ran, facts.calls.ran).items() if of and code else ():
+        for caller, called in zip(calls, calls[1:]):
+            if plain(caller) == of:
+                found[plain(called.partition(OF_SYSTEM)[0].removeprefix("IO_"))] += 1000 * time
+    most = max(found, key=found.get, default="")
+    is_there = most and re.search(r"\b%s\s*\(" % re.escape(most.rpartition("::")[2]), code)
+    return most if is_there and MOST_INSIDE * lock.inside <= found[most] else ""
+
+
 def words_of_lock(facts, names, name):
     """By what it is reported, how often it was entered or in what it is, and what to do."""
     reported = {"lock": names.place(name), "times": "", "less_locking": "do less in %s" % names.place(name)}
@@ -321,8 +347,9 @@ def words_of_lock(facts, names, name):
             return {"lock": "the lock inside {function}".format(**called), "times": "called at {at}".format(**called),
                     "less_locking": ONE_AT_A_TIME[lock.function] + " at {at}".format(**called)}
         if name in (lock.place, lock.kind):
-            reported.update(times=times_of(lock),
-                            less_locking=less_locking(facts, names, lock, reported["less_locking"]))
+            called = called_inside(facts, names, lock)
+            less = reported["less_locking"] + " (%s)" % called * bool(called)
+            reported.update(times=times_of(lock), less_locking=less_locking(facts, names, lock, less))
             break
     return reported
 

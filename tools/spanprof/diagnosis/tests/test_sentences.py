@@ -12,9 +12,9 @@ from spanprof.diagnosis.losses import Loss
 from spanprof.diagnosis.names import Names, Suspect, block_end, items_in
 from spanprof.diagnosis.output import as_json
 from spanprof.diagnosis.places import AFTER_REGION, OF_THREADS, OWN, SERIAL, SHARE, TASK, Place
-from spanprof.diagnosis.sentences import (WIDTH, after_words, change_sentence, first_digits, joined, less_locking,
-                                          lost_sentence, short_lines, shortened, speed_words, sum_lines, times_of,
-                                          waits, who_asked)
+from spanprof.diagnosis.sentences import (WIDTH, after_words, called_inside, change_sentence, first_digits, joined,
+                                          less_locking, lost_sentence, short_lines, shortened, speed_words, sum_lines,
+                                          times_of, waits, who_asked)
 from spanprof.diagnosis.tests.worked import MS, facts, place
 from spanprof.source_lines import Line
 
@@ -119,6 +119,23 @@ class Named(unittest.TestCase):
             self.assertEqual(less_locking(run, names, lock, "do less"), change)
         lock.inside = 90 * MS
         self.assertEqual(less_locking(run, Names(run, None), lock, "do less"), "do less: compute before it")
+
+    def test_the_function_that_is_called_inside_a_lock(self):
+        critical = ["void report() {", "  prepare();", "  #pragma omp critical", "  {", "    fflush(out);", "  }", "}"]
+        lock = ["void report() {", "  prepare();", "  omp_set_lock(&all);", "  fflush(out);", "  omp_unset_lock(&all);",
+                "  fclose(out);", "}"]
+        flush, prepare = ("main", "report()", "IO_fflush@libc.so.6"), ("main", "report()", "prepare()")
+        close = ("main", "report()", "fclose@libc.so.6")
+        for lines, kind, ran, called in (
+                (critical, "critical", {flush: 6000, prepare: 5000}, "fflush"),
+                (critical, "critical", {flush: 4000}, ""), (critical, "critical", {flush: 6000, prepare: 9000}, ""),
+                (lock, "omp_lock", {flush: 6000}, "fflush"), (lock, "omp_lock", {close: 6000}, ""),
+                ([], "critical", {flush: 6000}, "")):
+            held = Held("image.c:3", kind, 64, 10 * MS, 300 * MS)
+            run = facts([place(TASKS)], locks=[held], functions={"image.c:3": "report()"},
+                        calls=Sampled({TASKS: ran}, {}))
+            names = Names(run, SimpleNamespace(lines_of=lambda name, lines=lines: lines))
+            self.assertEqual(called_inside(run, names, held), called)
 
     def test_a_block_ends_where_it_closes(self):
         self.assertEqual(block_end(SOURCE, 13), 14)
