@@ -226,8 +226,9 @@ def breakdown_by_kind(head, work, text, of, names, times):
     """The same of a recording's text, each segment of which has the number of a kind with a name, and all times stand
     in a file: without rows, of which there may be millions."""
     with timed(times):
+        threads, first, last = head_in(times)
         busy, *idle = client.places(text, of, (client.BUSY, *client.IDLE), file_of_times=times)
-        (threads, first, last), parts = head_in(times), [sum(busy), *map(sum, idle)]
+    parts = [sum(busy), *map(sum, idle)]
     found = TimeBreakdown(threads, last - first, *parts, threads * (last - first) - sum(parts))
     found.idle_parts = [by_name(names, one) for one in idle]
     return divide(found, head, work)
